@@ -1,0 +1,18 @@
+//! The Rust original beside the port: its answer to any mesh, in document 01's words.
+//!
+//! `mesh::qto` is the original's own text, unchanged, compiled from where the build script found it. Everything else
+//! here is ours: what document 01 adds to it (refusals, flags in one call, pieces, the exact form of the one
+//! exception), the program's file format, the listing, and the meshes to try.
+
+#[allow(dead_code, clippy::all)]
+pub mod mesh;
+
+pub mod exception;
+pub mod file;
+pub mod kinds;
+pub mod listing;
+pub mod pieces;
+pub mod random;
+pub mod reach;
+pub mod record;
+pub mod solids;

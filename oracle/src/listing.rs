@@ -1,0 +1,55 @@
+//! The listing (01, 'The program `takeoff`'): what the program prints for a file.
+
+use crate::file;
+use crate::pieces::pieces;
+use crate::record::{compute, Answer, Exception, Lent, Record};
+use std::fmt::Write;
+
+/// The text for one file, and how it stands to the one exception.
+pub fn listing(bytes: &[u8]) -> (String, Exception) {
+    let mesh = match file::read(bytes) {
+        Ok(mesh) => mesh,
+        Err(refusal) => return (refused(refusal), Exception::Apart),
+    };
+    match compute(&mesh, Lent::exactly(mesh.vertices.len(), mesh.ids.len())) {
+        Answer::Refused(refusal) => (refused(refusal), Exception::Apart),
+        Answer::Record(record, exception) => (text(&record, pieces(&mesh.ids)), exception),
+    }
+}
+
+fn refused(refusal: u32) -> String {
+    format!("refused {refusal}\n")
+}
+
+/// f32 numbers as their bits, counts in decimal.
+pub fn text(record: &Record, pieces: u32) -> String {
+    let mut out = String::new();
+    let mut line = |name: &str, value: &str| {
+        writeln!(out, "{name} {value}").expect("a String takes all");
+    };
+    line("quality", record.quality);
+    line("reliable", if record.reliable { "1" } else { "0" });
+    line("method", record.method);
+    line("profile", record.profile.unwrap_or("none"));
+    line("volume", &hex(record.volume));
+    line("aabb", &hex(record.aabb));
+    line("surface", &hex(record.surface));
+    line("top", &hex(record.top));
+    line("bottom", &hex(record.bottom));
+    line("side", &hex(record.side));
+    line("inclined", &hex(record.inclined));
+    line("largest", &hex(record.largest));
+    line("smallest", &hex(record.smallest));
+    line("best", &hex(record.best));
+    line("prism", &record.prism.map_or("none".to_string(), hex));
+    line("pieces", &pieces.to_string());
+    line("surfaces", &record.rows.len().to_string());
+    for row in &record.rows {
+        line(&hex(row[0]), &format!("{} {} {}", hex(row[1]), hex(row[2]), hex(row[3])));
+    }
+    out
+}
+
+fn hex(x: f32) -> String {
+    format!("{:08x}", x.to_bits())
+}

@@ -1,0 +1,118 @@
+//! `oracle COMMAND ..`: see `USAGE`.
+
+use mowfrost_oracle::kinds;
+use mowfrost_oracle::listing::listing;
+use mowfrost_oracle::reach::Reach;
+use mowfrost_oracle::record::Exception;
+use std::io::{self, BufWriter, ErrorKind, Read, Write};
+use std::process::ExitCode;
+
+const USAGE: &str = "\
+oracle: the unchanged Rust original, asked in document 01's words
+
+  oracle listing               standard input: meshes, each a u32 length (little-endian) and so many bytes of the
+                               program's format; prints the listing or 'refused N' for each. Meshes near the one
+                               exception are named on standard error
+  oracle meshes SEED COUNT     writes COUNT meshes in that framing, of every kind in turn
+  oracle kinds                 names the kinds, in the order in which 'meshes' takes them
+  oracle reach SEED COUNT      counts what those meshes reach: verdicts, methods, refusals, branches
+";
+
+fn main() -> ExitCode {
+    let args: Vec<String> = std::env::args().skip(1).collect();
+    let words: Vec<&str> = args.iter().map(String::as_str).collect();
+    let done = match words.as_slice() {
+        ["listing"] => print_listings(),
+        ["kinds"] => print_kinds(),
+        [command @ ("meshes" | "reach"), seed, count] => match (seed.parse(), count.parse()) {
+            (Ok(seed), Ok(count)) if *command == "meshes" => write_meshes(seed, count),
+            (Ok(seed), Ok(count)) => print_reach(seed, count),
+            _ => return usage("SEED and COUNT are whole numbers from 0 up"),
+        },
+        ["help" | "--help" | "-h"] => {
+            print!("{USAGE}");
+            return ExitCode::SUCCESS;
+        }
+        _ => return usage("no such command"),
+    };
+    match done {
+        Ok(code) => code,
+        // The reader has seen enough: no fault of ours.
+        Err(e) if e.kind() == ErrorKind::BrokenPipe => ExitCode::SUCCESS,
+        Err(e) => {
+            eprintln!("oracle: {e}");
+            ExitCode::from(2)
+        }
+    }
+}
+
+fn usage(why: &str) -> ExitCode {
+    eprint!("oracle: {why}\n{USAGE}");
+    ExitCode::from(2)
+}
+
+fn print_listings() -> io::Result<ExitCode> {
+    let mut input = Vec::new();
+    io::stdin().lock().read_to_end(&mut input)?;
+    let mut out = BufWriter::new(io::stdout().lock());
+    let (mut rest, mut meshes, mut near, mut outside) = (input.as_slice(), 0u64, 0u64, 0u64);
+    while !rest.is_empty() {
+        let Some((bytes, behind)) = frame(rest) else {
+            out.flush()?;
+            eprintln!("oracle: frame {meshes} is cut: {} bytes are left", rest.len());
+            return Ok(ExitCode::from(2));
+        };
+        let (text, exception) = listing(bytes);
+        out.write_all(text.as_bytes())?;
+        match exception {
+            Exception::Apart => {}
+            Exception::Near { changed } => {
+                near += 1;
+                let word = if changed { "powf answers otherwise" } else { "powf answers the same" };
+                eprintln!("oracle: mesh {meshes} is near the one exception: {word}");
+            }
+            Exception::Outside => {
+                outside += 1;
+                eprintln!("oracle: mesh {meshes}: powf answers otherwise, and it is not near the one exception");
+            }
+        }
+        (rest, meshes) = (behind, meshes + 1);
+    }
+    out.flush()?;
+    eprintln!("oracle: {meshes} meshes, {near} near the one exception, {outside} against document 01");
+    Ok(if outside == 0 { ExitCode::SUCCESS } else { ExitCode::FAILURE })
+}
+
+/// The first frame's bytes and what stands behind it.
+fn frame(input: &[u8]) -> Option<(&[u8], &[u8])> {
+    let (length, rest) = input.split_at_checked(4)?;
+    rest.split_at_checked(u32::from_le_bytes([length[0], length[1], length[2], length[3]]) as usize)
+}
+
+fn write_meshes(seed: u64, count: u64) -> io::Result<ExitCode> {
+    let mut out = BufWriter::new(io::stdout().lock());
+    for i in 0..count {
+        let bytes = kinds::mesh(seed, i);
+        out.write_all(&(bytes.len() as u32).to_le_bytes())?;
+        out.write_all(&bytes)?;
+    }
+    out.flush()?;
+    Ok(ExitCode::SUCCESS)
+}
+
+fn print_kinds() -> io::Result<ExitCode> {
+    let mut out = io::stdout().lock();
+    for kind in kinds::KINDS {
+        writeln!(out, "{}", kind.name)?;
+    }
+    Ok(ExitCode::SUCCESS)
+}
+
+fn print_reach(seed: u64, count: u64) -> io::Result<ExitCode> {
+    let reach = Reach::of((0..count).map(|i| kinds::mesh(seed, i)));
+    let mut out = io::stdout().lock();
+    for (what, times) in reach.counts() {
+        writeln!(out, "{times:>9} {what}")?;
+    }
+    Ok(ExitCode::SUCCESS)
+}

@@ -127,6 +127,13 @@ fn eight_floats_or_two_ids_give_the_zero_record() {
 }
 
 #[test]
+fn pieces_are_counted_beside_a_zero_record() {
+    let text = listing(&write(&plain(f32::NAN, &[1.0; 8], &ids("012 345 3")), false)).0;
+    assert!(text.starts_with("quality degenerate\nreliable 0\nmethod prism_fallback\nprofile none\nvolume 00000000\n"));
+    assert!(text.ends_with("best 00000000\nprism 00000000\npieces 2\nsurfaces 0\n"));
+}
+
+#[test]
 fn the_limits_and_their_neighbours() {
     let far = |x: f32| refusal(&plain(1.0, &[x, 0.0, 0.0, 1.0, 0.0, 0.0, 0.0, 1.0, 0.0], &[0, 1, 2]));
     assert_eq!((far(8_589_934_592.0), far(-8_589_934_592.0)), (0, 0));

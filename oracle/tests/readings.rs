@@ -7,6 +7,7 @@ use mowfrost_oracle::mesh::qto::probe;
 use mowfrost_oracle::pieces::pieces;
 use mowfrost_oracle::record::{compute, original, plain, Answer, Lent, Record, LEAST_UNIT};
 use mowfrost_oracle::solids::Shape;
+use std::hint::black_box;
 
 /// A tetrahedron with three legs along the axes, outward.
 fn legs(x: f32, y: f32, z: f32) -> Shape {
@@ -67,32 +68,34 @@ fn d2_constants_are_f32_and_so_are_products_with_them() {
     assert_eq!((cancels(bound), cancels(bound.next_up())), ("degenerate", "closed"));
 }
 
+/// An open shell in a box of side 2: a floor of depth d and a wall, both through the origin, give a prism of 4d and no
+/// volume; whole ceilings over the floor add a third of that each, and one of depth `part` its share.
+fn shelf(d: f32, part: f32, whole_ceilings: usize) -> Record {
+    let w = 2.0;
+    let floor = [[0.0, 0.0, 0.0], [w, 0.0, 0.0], [w, d, 0.0], [0.0, d, 0.0]];
+    let above = [[0.0, 0.0, w], [w, 0.0, w], [w, d, w], [0.0, d, w], [w, part, w], [0.0, part, w], [w, w, w]];
+    let mut mesh =
+        shape(&[&floor[..], &above].concat(), &[[0, 1, 2], [0, 2, 3], [0, 1, 5], [0, 5, 4], [4, 5, 8], [4, 8, 9]]);
+    (0..whole_ceilings).for_each(|_| mesh.ids.extend([4, 5, 6, 4, 6, 7]));
+    answer(&mesh, 1.0)
+}
+
 #[test]
 fn d2_the_margin_of_1_05_is_f32() {
-    // Floor and wall through the origin give a prism of 7 in a box of 8 and no volume; ceilings over the floor give
-    // 7.35, which is at most 7 times 1.05 and above 7 times the f32.
-    let (w, d, part) = (2.0, 1.75, 0.2625);
-    let mut mesh = shape(
-        &[
-            [0.0; 3],
-            [w, 0.0, 0.0],
-            [w, d, 0.0],
-            [0.0, d, 0.0],
-            [0.0, 0.0, w],
-            [w, 0.0, w],
-            [w, d, w],
-            [0.0, d, w],
-            [w, part, w],
-            [0.0, part, w],
-            [w, w, w],
-        ],
-        &[[0, 1, 2], [0, 2, 3], [0, 1, 5], [0, 5, 4], [4, 5, 8], [4, 8, 9]],
-    );
-    (0..3).for_each(|_| mesh.ids.extend([4, 5, 6, 4, 6, 7]));
-    let record = answer(&mesh, 1.0);
+    // The volume is at most 7 times 1.05 and above 7 times the f32: not trusted.
+    let record = shelf(1.75, 0.2625, 3);
     assert_eq!((record.prism, bits(record.volume)), (Some(7.0), "40eb3333".into()));
     assert!(record.volume as f64 <= 7.0 * 1.05 && record.volume > 7.0 * 1.05f32);
     assert_eq!((record.quality, record.method), ("open_shell", "prism_fallback"));
+}
+
+#[test]
+fn d2_the_share_of_1e_3_is_f32() {
+    // The volume is under 4.125 times 1e-3 and not under 4.125 times the f32: not collapsed.
+    let record = shelf(1.03125, f32::from_bits(0x3b4a_c083), 0);
+    assert_eq!((record.prism, bits(record.volume)), (Some(4.125), "3b872b02".into()));
+    assert!((record.volume as f64) < 4.125 * 1e-3 && record.volume == 4.125 * 1e-3f32);
+    assert_eq!((record.quality, record.method), ("open_shell", "mesh_open"));
 }
 
 #[test]
@@ -238,4 +241,35 @@ fn d15_chain_drops_a_triangle_with_a_repeated_id_whole_and_manifold_only_its_zer
     assert_eq!(probe::edge_chain(&ids), (true, false));
     assert!(!probe::is_closed_manifold(&ids));
     assert!(!probe::winding_coherent(&ids));
+}
+
+#[test]
+fn d16_rust_leaves_the_zero_of_least_and_greatest_open() {
+    // 01 takes the first of two equal values. Rust may hand back either: only the value is the same.
+    for (x, y) in [(0.0f32, -0.0f32), (-0.0, 0.0)] {
+        let (x, y) = (black_box(x), black_box(y));
+        assert_eq!((x.min(y), x.max(y)), (0.0, 0.0));
+    }
+}
+
+#[test]
+fn d17_rust_may_answer_a_signalling_nan_with_a_nan() {
+    // 01 passes over it as over any NaN: 1. IEEE 754-2019 9.6 does too. Rust on Arm answers a NaN.
+    let signalling = black_box(f32::from_bits(0x7f80_0001));
+    for least in [signalling.min(black_box(1.0)), black_box(1.0f32).min(signalling)] {
+        assert!(least.is_nan() || least == 1.0);
+    }
+    assert_eq!(black_box(f32::NAN).min(black_box(1.0)), 1.0, "over a quiet one it passes");
+}
+
+#[test]
+fn d18_a_nan_that_an_operation_made_has_no_fixed_bits() {
+    // 01 fixes 7fc00000 and 7ff8000000000000. Rust fixes neither sign nor digits.
+    assert!((black_box(0.0f32) / black_box(0.0)).is_nan());
+    assert!(black_box(-1.0f64).sqrt().is_nan());
+    let digits = black_box(f64::from_bits(0x7ff8_1234_5678_9abc));
+    assert!((digits as f32).is_nan() && digits.floor().is_nan());
+    // These are fixed in all three: the root of -0 is -0; of a magnitude the sign goes and the digits stay.
+    assert_eq!(black_box(-0.0f64).sqrt().to_bits(), 1 << 63);
+    assert_eq!(black_box(f32::from_bits(0xff80_0001)).abs().to_bits(), 0x7f80_0001);
 }

@@ -1,8 +1,9 @@
 //! No bytes and no mesh break the oracle, and the meshes that it makes reach every branch.
 
-use mowfrost_oracle::file::{read, write};
+use mowfrost_oracle::file::{push_record, read, write};
 use mowfrost_oracle::kinds::{mesh, KINDS};
 use mowfrost_oracle::listing::listing;
+use mowfrost_oracle::pieces::pieces;
 use mowfrost_oracle::random::Random;
 use mowfrost_oracle::reach::{Reach, WANTED};
 use std::io::Write;
@@ -85,6 +86,85 @@ fn every_cut_is_refused_with_5() {
     }
     assert!(read(&whole).is_ok());
     assert_eq!(read(&[whole.as_slice(), &[0]].concat()).err(), Some(5), "one byte behind the end");
+}
+
+/// A file of these records, each a kind and its payload.
+fn file(records: &[(u16, Vec<u8>)]) -> Vec<u8> {
+    let mut bytes = Vec::new();
+    records.iter().for_each(|(kind, payload)| push_record(&mut bytes, *kind, payload));
+    bytes
+}
+
+#[test]
+fn faults_get_the_refusal_that_01_orders() {
+    let words = |n: usize| vec![0u8; 4 * n];
+    let good = [(1u16, words(1)), (2, words(9)), (3, words(3))];
+    let with = |at: usize, record: (u16, Vec<u8>)| {
+        let mut records = good.to_vec();
+        if at < records.len() {
+            records[at] = record;
+        } else {
+            records.push(record);
+        }
+        read(&file(&records)).map(|_| ()).err().unwrap_or(0)
+    };
+    assert_eq!(with(0, (1, words(1))), 0);
+    // kinds, each in its place
+    for at in 0..3 {
+        for kind in [0, 1, 2, 3, 4, 0x0101, u16::MAX] {
+            let expected = if kind == at as u16 + 1 { 0 } else { 5 };
+            assert_eq!(with(at, (kind, words(1))), expected, "kind {kind} at {at}");
+        }
+    }
+    // lengths as the kind has them
+    assert_eq!((with(0, (1, vec![])), with(0, (1, words(2))), with(0, (1, vec![0; 3]))), (5, 5, 5));
+    for at in 1..3 {
+        let kind = at as u16 + 1;
+        assert_eq!((with(at, (kind, vec![0; 5])), with(at, (kind, vec![]))), (5, 0));
+        assert_eq!((with(at, (kind, words(1536))), with(at, (kind, words(1537)))), (0, 6));
+        assert_eq!(with(at, (kind, vec![0; 4 * 1537 + 1])), 5, "the length is met before too many");
+    }
+    // flags
+    for (clip, defect, expected) in [(0, 0, 0), (1, 4, 0), (2, 0, 5), (0, 5, 5), (255, 255, 5)] {
+        assert_eq!(with(3, (4, vec![clip, defect])), expected, "flags {clip} {defect}");
+    }
+    assert_eq!((with(3, (4, vec![0])), with(3, (4, vec![0, 0, 0])), with(3, (3, vec![0, 0]))), (5, 5, 5));
+    // a wrong kind is met before a length, and a later fault not at all
+    assert_eq!(with(1, (3, words(1537))), 5);
+    let two = [(1, words(1)), (2, words(1537)), (9, vec![])];
+    assert_eq!(read(&file(&two)).err(), Some(6));
+    let behind = [good.to_vec(), vec![(4, vec![0, 0]), (4, vec![0, 0])]].concat();
+    assert_eq!(read(&file(&behind)).err(), Some(5));
+}
+
+/// Groups by joining until nothing changes: slow and plain.
+fn pieces_by_joining(ids: &[u32]) -> u32 {
+    let triangles: Vec<&[u32]> = ids.chunks_exact(3).filter(|t| t[0] != t[1] && t[1] != t[2] && t[0] != t[2]).collect();
+    let mut group: Vec<usize> = (0..triangles.len()).collect();
+    let mut changed = true;
+    while changed {
+        changed = false;
+        for a in 0..triangles.len() {
+            for b in 0..triangles.len() {
+                if group[a] < group[b] && triangles[a].iter().any(|id| triangles[b].contains(id)) {
+                    (group[b], changed) = (group[a], true);
+                }
+            }
+        }
+    }
+    group.sort_unstable();
+    group.dedup();
+    group.len() as u32
+}
+
+#[test]
+fn pieces_are_the_groups_of_shared_ids() {
+    let mut random = Random::new(SEED);
+    for _ in 0..3_000 {
+        let (length, reached) = (random.below(40), random.within(1, 40) as usize);
+        let ids: Vec<u32> = (0..length).map(|_| (random.below(reached) as u32).wrapping_sub(3)).collect();
+        assert_eq!(pieces(&ids), pieces_by_joining(&ids), "{ids:?}");
+    }
 }
 
 fn run(words: &[&str], input: &[u8]) -> (Option<i32>, String, String) {

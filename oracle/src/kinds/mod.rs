@@ -19,7 +19,8 @@ pub struct Kind {
     pub make: fn(&mut Random) -> Vec<u8>,
 }
 
-/// The i-th mesh of a seed: the kinds in turn, each mesh by its own chance, whatever came before it.
+/// The i-th mesh of a seed: the kinds in turn, each mesh by its own chance, whatever came before it. (Sines come from
+/// the machine's library: the last digit of a round shape may differ between machines.)
 pub fn mesh(seed: u64, i: u64) -> Vec<u8> {
     let kind = &KINDS[(i % KINDS.len() as u64) as usize];
     (kind.make)(&mut Random::new(seed.wrapping_mul(0x1_0000_0001).wrapping_add(i)))

@@ -1,7 +1,7 @@
 -- Of two floats that are no NaN one comparison decides the other (IEEE 754-2019 5.11): y < x exactly where x <= y fails. Assumes nothing.
 use mathlib.Core.Path.{_≡_, refl, sym, _∙_}
 use mathlib.Core.Bool.{Bool, true, false, not, _||_, false≢true}
-use Prim.Native.Nat.{ℕ, zero, suc, _+_, _*_, _<_, _≤_}
+use Prim.Native.Nat.{ℕ, zero, suc, _+_, _*_, _<_}
 use native.Mathlib.Decide.{decLt}
 use native.Mathlib.Omega.{arith}
 use borrow.Author.Tests.{lt-ltb, le-ltb, eq-eqb, ne-eqb, not-false}
@@ -63,15 +63,25 @@ lt-of-not-le x y p q h = rw (lt-not-le x y p q, h) tt
 pub le-of-not-lt : (x y : Float) → T (not (isNan x)) → T (not (isNan y)) → lt y x ≡ false → T (le x y)
 le-of-not-lt x y p q h = rw (not-false (le x y) (sym (lt-not-le x y p q) ∙ h)) tt
 
--- no float is below a NaN
+-- ---- where `<` holds there is no NaN, and it holds one way only
 lt-nan : (x : Float) → lt x nan ≡ false
 unfolding lt
 lt-nan nan = refl
 lt-nan (inf s) = refl
 lt-nan (fin s m e) = refl
 
-pub lt-no-nan : (x y : Float) → lt x y ≡ true → T (not (isNan y))
+pub lt-left : (x y : Float) → lt x y ≡ true → T (not (isNan x))
+unfolding isNan lt
+lt-left nan y h = absurd (false≢true h)
+lt-left (inf s) y h = tt
+lt-left (fin s m e) y h = tt
+
+pub lt-right : (x y : Float) → lt x y ≡ true → T (not (isNan y))
 unfolding isNan
-lt-no-nan x nan h = absurd (false≢true (sym (lt-nan x) ∙ h))
-lt-no-nan x (inf t) h = tt
-lt-no-nan x (fin t n d) h = tt
+lt-right x nan h = absurd (false≢true (sym (lt-nan x) ∙ h))
+lt-right x (inf t) h = tt
+lt-right x (fin t n d) h = tt
+
+pub lt-asym : (x y : Float) → lt x y ≡ true → lt y x ≡ false
+unfolding le
+lt-asym x y h = lt-not-le x y (lt-left x y h) (lt-right x y h) ∙ rw h

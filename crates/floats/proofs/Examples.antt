@@ -1,13 +1,16 @@
 -- The table of worked examples, proved by computing. Assumes nothing.
 use mathlib.Core.Path.{refl}
-use lib.Ieee.{binary32, isNan, lt, ofBits, toBits, toSigned, toUnsigned}
+use lib.Ieee.{binary32, isNan, lt, ofBits, round, size, toBits, toSigned, toUnsigned, units}
 use Rattle.floats.specs.Examples.{Examples}
+use Rattle.floats.specs.Integral.{integral}
 use Rattle.floats.specs.Magnitude.{magnitude}
 use Rattle.floats.specs.Order.{least, greatest}
-use Rattle.floats.proofs.Signs.{unsigned}
+use Rattle.floats.specs.Root.{closestRoot, digits, floorRoot, root, rootRound}
+use Rattle.floats.specs.Rounded.{rounded}
+use Rattle.floats.proofs.Signs.{sign-cleared}
 
 pub examples : Examples
-unfolding isNan lt ofBits toBits toSigned toUnsigned magnitude least greatest
+unfolding isNan lt ofBits round toBits toSigned toUnsigned integral rounded size units digits floorRoot closestRoot rootRound root magnitude least greatest
 examples =
     record {
       nan-32 = refl;
@@ -16,7 +19,7 @@ examples =
       then-infinity = refl;
       then-nan = refl;
       no-minus-zero = refl;
-      digits-stay = unsigned binary32 0xffc00001;
+      digits-stay = sign-cleared binary32 0xffc00001;
       least-first = refl;
       greatest-first = refl;
       least-past-nan = refl;
@@ -28,4 +31,17 @@ examples =
       highest-u64 = refl;
       lowest-u64 = refl;
       nan-to-0 = refl;
+      half-up = refl;
+      half-down = refl;
+      below-half = refl;
+      floor-below = refl;
+      ceiling-to-zero = refl;
+      narrow-even = refl;
+      narrow-infinite = refl;
+      narrow-to-zero = refl;
+      root-0 = refl;
+      root-4 = refl;
+      root-quarter = refl;
+      root-minus-zero = refl;
+      root-below-zero = refl;
     }

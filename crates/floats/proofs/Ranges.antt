@@ -1,20 +1,19 @@
 -- A conversion to an integer at the ends of its range, and one to a narrow range by one to a wider. Assumes nothing.
 use mathlib.Core.Path.{_≡_, refl, sym, ap, _∙_}
-use mathlib.Core.Bool.{Bool, true, false, _||_, _&&_, cond, true≢false, false≢true}
-use Prim.Native.Nat.{ℕ, suc, _+_, _-_, _*_, _/_, _^_, _≤_, _<_, min}
-use native.Mathlib.Decide.{decLt}
+use mathlib.Core.Bool.{Bool, true, false, not, cond, true≢false, false≢true}
+use Prim.Native.Nat.{ℕ, _+_, _-_, _*_, _/_, _^_, _≤_, _<_, min}
 use native.Mathlib.Nat.{le-of-lt, mul-pos, div-le-of-le-mul, div-lt-iff-lt-mul, le-div-iff-mul-le}
 use native.Mathlib.Omega.{arith}
-use borrow.Author.Tests.{lt-ltb, le-ltb, eq-eqb, ne-eqb, ltb-true, ltb-false}
+use borrow.Author.Tests.{lt-ltb, ltb-true, ltb-false}
 use lib.IntN.{ℤ, pos, negℤ}
-use lib.Dec.{ltb, eqb}
 use lib.Pow.{pow-pos, pow-mono}
-use lib.Ieee.{Float, nan, inf, fin, up, down, lt, le, eq, ne, toSigned, toUnsigned}
+use lib.Ieee.{Float, nan, inf, fin, up, down, lt, le, eq, ne, isNan, toSigned, toUnsigned}
 use lib.Ieee.Fits.{down-pos}
 use lib.Ieee.Casts.{toSigned-in}
 use mir.Syntax.{Width}
 use mir.Val.{SFits, hbits, ofZ, toZ}
 use mir.ValLaws.{toZ-ofZ}
+use Rattle.floats.proofs.Comparison.{lt-not-le}
 use Rattle.floats.proofs.Nan.{is-nan, ne-self}
 
 -- ---- sizes against 2 ^ k, from the products that `lt` and `le` compare
@@ -31,29 +30,16 @@ module _ (k m : ℕ) (e : ℤ) where
   one-pos : 0 < 1 * 2 ^ k * down e
   one-pos = mul-pos (mul-pos (pow-pos 0) (pow-pos k)) (down-pos e)
 
-le-yes : (a b : ℕ) (c : Bool) → (ltb a b || (eqb a b && c)) ≡ true → a ≤ b
-le-yes a b c h =
-    elim (decLt b a) [
-      | yes l ↦ absurd (false≢true (sym (rw (le-ltb a b (omega arith), ne-eqb a b (λ e. omega arith))) ∙ h))
-      | no l ↦ omega arith
-    ]
-
-le-no : (a b : ℕ) → (ltb a b || (eqb a b && true)) ≡ false → b < a
-le-no a b h =
-    elim (decLt b a) [
-      | yes l ↦ l
-      | no l ↦ elim (decLt a b) [ yes k ↦ absurd (true≢false (sym (rw (lt-ltb a b k)) ∙ h)) | no k ↦ absurd (true≢false (sym (rw (eq-eqb a b (omega arith), le-ltb a b (omega arith))) ∙ h)) ]
-    ]
-
 min-end : (a c d : ℕ) → c ≤ a → d ≤ c → min a d ≡ d
 min-end a c d h k = omega arith
 
 min-either : (a c d : ℕ) → a ≤ c → c ≤ d → min a d ≡ min a c
 min-either a c d h k = omega arith
 
-and-false : (b : Bool) → (b && false) ≡ false
-and-false true = refl
-and-false false = refl
+-- `lt` for `le`, whose comparison of products is one
+lt-for-le : (k : ℕ) (s : Bool) (m : ℕ) (e : ℤ) → lt (fin s m e) (fin false 1 (pos k)) ≡ not (le (fin false 1 (pos k)) (fin s m e))
+unfolding isNan
+lt-for-le k s m e = lt-not-le (fin false 1 (pos k)) (fin s m e) tt tt
 
 -- ---- the ends
 -- x has the sign s and the size n at least
@@ -67,8 +53,10 @@ unfolding lt le eq
 reaches-above k nan h = absurd (false≢true h)
 reaches-above k (inf true) h = absurd (false≢true h)
 reaches-above k (inf false) h = refl
-reaches-above k (fin true m e) h = absurd (false≢true (sym (rw (ne-eqb (1 * 2 ^ k * down e) 0 (λ z. omega (arith, one-pos k m e))) (and-false (eqb (1 * 2 ^ k * down e) (m * up e * 1)))) ∙ h))
-reaches-above k (fin false m e) h = (refl, size-ge k m e (le-yes _ _ _ h))
+reaches-above k (fin true m e) h =
+    let none = ltb-false 0 (m * up e * 1 + 1 * 2 ^ k * down e) (lt-for-le k true m e ∙ ap not h) in
+    absurd (omega (arith, one-pos k m e))
+reaches-above k (fin false m e) h = (refl, size-ge k m e (ltb-false _ _ (lt-for-le k false m e ∙ ap not h)))
 
 pub reaches-below : (k : ℕ) (x : Float) → lt x (fin true 1 (pos k)) ≡ true → Reaches (2 ^ k) true x
 unfolding lt
@@ -112,7 +100,7 @@ within h g (inf true) k a b = absurd (true≢false b)
 within h g (inf false) k a b = absurd (true≢false a)
 within h g (fin true m e) k a b = rw (min-either (m * up e / down e) (2 ^ h) (2 ^ g) (size-le h m e (ltb-false _ _ b)) (pow-mono k))
 within h g (fin false m e) k a b =
-    let l = size-lt h m e (le-no _ _ a) in
+    let l = size-lt h m e (ltb-true _ _ (lt-for-le h false m e ∙ ap not a)) in
     let p : 2 ^ h ≤ 2 ^ g = pow-mono k in
     rw (min-either (m * up e / down e) (2 ^ h - 1) (2 ^ g - 1) (omega arith) (omega arith))
 

@@ -12,6 +12,6 @@ magnitude (fin s m e) = fin false m e
 
 -- r is the pattern b without the highest bit, the sign, and so it is the magnitude's. 5.5.1 lets abs touch nothing but that bit:
 -- a NaN keeps its digits, which a `Float` does not have.
-pub record Unsigned (f : Format) (b r : ℕ) : Type 0 where
+pub record SignCleared (f : Format) (b r : ℕ) : Type 0 where
   pub digits : r ≡ b % top f
   pub value : ofBits f r ≡ magnitude (ofBits f b)

@@ -2,8 +2,8 @@
 use mathlib.Core.Bool.{_||_, cond}
 use lib.Ieee.{Float, isNan, lt}
 
--- IEEE 754-2019 9.6, minimumNumber and maximumNumber: of a NaN and a number the number is taken. Two rules differ:
--- of two equal values, as 0 and -0 are, the first is taken, where 9.6 puts -0 below 0; and a signalling NaN counts as any other NaN.
+-- IEEE 754-2019 9.6, minimumNumber and maximumNumber: of a NaN and a number the number is taken. One rule differs:
+-- of two equal values, as 0 and -0 are, the first is taken, where 9.6 puts -0 below 0.
 unfoldable pub least : Float → Float → Float
 least x y = cond (isNan x || lt y x) y x
 

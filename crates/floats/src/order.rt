@@ -1,8 +1,9 @@
 // Magnitude, and the lesser and the greater of two floats.
 ghost use lib.Ieee.{binary32, binary64, ofBits, toBits};
 ghost use mathlib.Core.Path.{_≡_};
-ghost use Rattle.floats.specs.Magnitude.{magnitude, Unsigned};
+ghost use Rattle.floats.specs.Magnitude.{magnitude, SignCleared};
 ghost use Rattle.floats.specs.Order.{greatest, least};
+use crate::patterns::SIGN;
 use crate::patterns::bits32;
 use crate::patterns::bits64;
 use crate::patterns::f32_of;
@@ -10,13 +11,13 @@ use crate::patterns::f64_of;
 
 // A pattern without its highest bit, the sign. A NaN keeps its digits.
 pub fn magnitude64_bits(b: u64) -> u64
-    ensures { λ r. ⌜ Unsigned binary64 b r ⌝ }
+    ensures { λ r. ⌜ SignCleared binary64 b r ⌝ }
 {
-    b % 0x8000_0000_0000_0000
+    b % SIGN
 }
 
 pub fn magnitude32_bits(b: u32) -> u32
-    ensures { λ r. ⌜ Unsigned binary32 b r ⌝ }
+    ensures { λ r. ⌜ SignCleared binary32 b r ⌝ }
 {
     b % 0x8000_0000
 }

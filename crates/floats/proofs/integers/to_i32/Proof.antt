@@ -15,7 +15,8 @@ answer : (c : tie.After-to-i64) → toZ w64 (ofZ w64 (c .to-i64 .result)) ≡ to
 unfolding neg ofBits
 answer c =
     let x = c .before .before .before .before .args .x in
-    rw (c .to-i64 .ensures, c .before .f32-to-f64-with-nan .ensures) (signed-kept w64 x ∙ within 31 63 x (lit≤ tt) (c .before .before .before .if1 .left) (c .before .before .if2 .left))
+    rw (c .to-i64 .ensures, c .before .f32-to-f64-with-nan .ensures)
+    (signed-kept w64 x ∙ within 31 63 x (lit≤ tt) (c .before .before .before .if1 .left) (c .before .before .if2 .left))
 
 f32-to-f64-with-nan-requires : tie.Need-f32-to-f64-with-nan-requires
 f32-to-f64-with-nan-requires c κs = search needs

@@ -5,7 +5,7 @@ use mathlib.Core.Path.{sym}
 use lib.IntN.{pos}
 use lib.Ieee.{fin, isNan, neg, ofBits}
 use denote.Floats.{passes}
-use Rattle.floats.proofs.Comparison.{lt-no-nan, lt-of-not-le}
+use Rattle.floats.proofs.Comparison.{lt-right, lt-of-not-le}
 use Rattle.floats.proofs.Ranges.{reaches-above, unsigned-end, unsigned-low}
 use Rattle.floats.proofs.integers.to_u64.Statement.{statement}
 use Rattle.floats.proofs.integers.to_u64.Tie as tie
@@ -14,7 +14,7 @@ truncating-f32-to-u64-requires : tie.Need-truncating-f32-to-u64-requires
 unfolding isNan neg ofBits
 truncating-f32-to-u64-requires c κs =
     let x = c .before .before .args .x in
-    (passes _ (c .if2 .taken), lt-of-not-le (fin false 1 (pos 64)) x tt (lt-no-nan (fin true 1 (pos 0)) x (c .if2 .taken)) (c .before .if1 .left))
+    (passes _ (c .if2 .taken), lt-of-not-le (fin false 1 (pos 64)) x tt (lt-right (fin true 1 (pos 0)) x (c .if2 .taken)) (c .before .if1 .left))
 
 returns : tie.Need-returns
 unfolding ofBits

@@ -1,0 +1,23 @@
+-- What only the contracts of private functions speak of: the fields of a finite float's pattern as a number (IEEE 754-2019 3.4), and the code's ways.
+use Prim.Native.Nat.{ℕ, zero, suc, _+_, _*_, _^_}
+use lib.Ieee.{Format, hid}
+use Rattle.floats.specs.Integral.{Way, cut, away, half}
+use Rattle.floats.specs.declared.whole.Way as code
+use Rattle.floats.specs.declared.whole.Way.the-variants.{Cut, Away, Half}
+
+-- The float with the field e for the exponent and the field t for the digits is `sized f e t` of the format's smallest values.
+abbrev pub sig : Format → ℕ → ℕ → ℕ
+sig f zero t = t
+sig f (suc x) t = hid f + t
+
+abbrev pub exp : ℕ → ℕ
+exp zero = zero
+exp (suc x) = x
+
+abbrev pub sized : Format → ℕ → ℕ → ℕ
+sized f e t = sig f e t * 2 ^ exp e
+
+abbrev pub wayOf : code.Way → Way
+wayOf Cut = cut
+wayOf Away = away
+wayOf Half = half

@@ -1,4 +1,4 @@
--- `floats::order::least32_bits` meets its contract. Assumes nothing.
+-- `floats::order::least32_bits` meets its contract, call by call: so a swapped operand shows as one. Assumes nothing.
 use borrow.Author.Needs.{needs}
 use Rattle.floats.proofs.order.least32_bits.Statement.{statement}
 use Rattle.floats.proofs.order.least32_bits.Tie as tie
@@ -16,7 +16,9 @@ bits32-requires : tie.Need-bits32-requires
 bits32-requires c κs = search needs
 
 returns : tie.Need-returns
-returns c = cc
+returns c =
+    let called = c .before in
+    rw (c .bits32 .ensures, called .least32 .ensures, called .before .f32-of2 .ensures, called .before .before .f32-of .ensures)
 
 pub least32-bits-spec : {M : Type 1} → statement M
 least32-bits-spec = tie.close (tie.spec f32-of-requires f32-of-requires-2 least32-requires bits32-requires returns)

@@ -48,8 +48,3 @@ pub fn is_near(s: f32, p: f32) -> bool {
         _ => false,
     }
 }
-
-/// The original's own test, in its own words.
-pub fn powf_exceeds(s: f32, p: f32) -> bool {
-    s > 0.5 * p.max(0.0).powf(2.0 / 3.0)
-}

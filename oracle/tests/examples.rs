@@ -1,4 +1,5 @@
-//! Document 01's checked examples that speak of meshes or ids, on the Rust, and its cube to the letter.
+//! Document 01's checked examples that speak of meshes or ids, and its cube to the letter: on the Rust, but for refusals
+//! and pieces, which 000 does not have; there the oracle's own form of document 01's words is run.
 
 use mowfrost_oracle::exception::{cube_exceeds, is_near};
 use mowfrost_oracle::file::{write, Flags, MeshFile, DEFECTS};

@@ -1,0 +1,19 @@
+-- The laws behind the functions' proofs. Those marked `pub mod` say something of floats that other crates may cite.
+pub mod Nan
+pub mod Back
+pub mod Fields
+pub mod Signs
+pub mod Values
+pub mod Comparison
+pub mod Ranges
+pub mod Integrals
+pub mod Narrowed
+pub mod Rounding
+pub mod Roots
+pub mod Numbers
+pub mod Wholes
+pub mod Shifts
+pub mod Packing
+pub mod Squares
+pub mod RootPatterns
+pub mod Examples

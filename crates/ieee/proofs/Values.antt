@@ -1,0 +1,83 @@
+-- A float that its format holds is known by its sign and its size, whatever fraction the size is written as: so `round` leaves it. Assumes nothing.
+use mathlib.Core.Path.{_≡_, refl, sym, ap, _∙_, subst}
+use mathlib.Core.Bool.{Bool, _&&_, cond}
+use Prim.Native.Nat.{ℕ, zero, suc, _+_, _-_, _*_, _/_, _%_, _^_, _≤_, _<_}
+use native.Mathlib.Nat.{add-comm, le-of-eq, le-trans, lt-of-mul-lt-mul-right, mul-assoc, mul-lt-mul-of-pos-right, mul-one, mul-pos, mul-right-comm, one-mul, zero-mul}
+use lib.IntN.{ℤ, pos, negsuc}
+use lib.Dec.{T, leb, ltb, eqb, leb→le, ltb→lt, eqb→eq}
+use lib.Pow.{pow-add, pow-pos}
+use lib.Ieee.{Float, nan, inf, fin, Format, prec, emax, low, up, down, hid, top, size, round, fits, toBits}
+use lib.Ieee.Bits.{ofBits-toBits}
+use lib.Ieee.Digits.{back}
+use lib.Ieee.Exact.{HasValue, round-exact}
+use lib.Ieee.Fits.{and-l, and-r, down-pos, round-fits}
+use lib.Ieee.Nearest.{div-same}
+use Rattle.ieee.proofs.Numbers.{pow-le-back}
+
+-- ---- the pattern by the value
+abbrev pattern : Format → Bool → ℕ → ℕ
+pattern f s n = cond s (top f) 0 + (size n - prec f) * hid f + n / 2 ^ (size n - prec f)
+
+pub bits-at : (f : Format) (x : Float) (s : Bool) (a c : ℕ) → 0 < c → HasValue x s a c → toBits f x ≡ pattern f s (a * 2 ^ low f / c)
+unfolding toBits
+bits-at f nan s a c C h = absurd h
+bits-at f (inf t) s a c C h = absurd h
+bits-at f (fin t m e) s a c C h = rw (h .0, units) refl
+  where
+    units : m * up e * 2 ^ low f / down e ≡ a * 2 ^ low f / c
+    units =
+        div-same (m * up e * 2 ^ low f) (down e) (a * 2 ^ low f) c (down-pos e) C
+        (mul-right-comm (m * up e) (2 ^ low f) c ∙ rw (h .1) (mul-right-comm a (down e) (2 ^ low f)))
+
+pub value-unique : (f : Format) (x y : Float) (s : Bool) (a c : ℕ) → 0 < c → T (fits f x) → T (fits f y) → HasValue x s a c → HasValue y s a c → x ≡ y
+value-unique f x y s a c C p q h k = sym (ofBits-toBits f x p) ∙ rw (bits-at f x s a c C h, ← bits-at f y s a c C k) (ofBits-toBits f y q)
+
+-- ---- what it takes to fit
+Shape : Format → ℕ → ℤ → Type 0
+Shape f m e = (m < 2 ^ prec f) × (down e ≤ 2 ^ low f) × (m * up e < 2 ^ suc (emax f) * down e)
+
+shape : (f : Format) (s : Bool) (m : ℕ) (e : ℤ) → T (fits f (fin s m e)) → Shape f m e
+unfolding Shape fits
+shape f s zero e t = (pow-pos (prec f), flat e (eqb→eq (up e * down e) 1 t), rw (zero-mul (up e)) (mul-pos (pow-pos (suc (emax f))) (down-pos e)))
+  where
+    flat : (e : ℤ) → up e * down e ≡ 1 → down e ≤ 2 ^ low f
+    flat (pos k) h = pow-pos (low f)
+    flat (negsuc k) h = le-trans (le-of-eq (sym (one-mul (2 ^ suc k)) ∙ h)) (pow-pos (low f))
+shape f s (suc m) e t =
+    let A = eqb (suc m % 2) 1 in
+    let B = ltb (suc m) (2 ^ prec f) in
+    let C = leb (down e) (2 ^ low f) in
+    let D = ltb (suc m * up e) (2 ^ suc (emax f) * down e) in
+    let abc = and-l (A && B && C) D t in (
+      ltb→lt (suc m) (2 ^ prec f) (and-r A B (and-l (A && B) C abc)),
+      leb→le (down e) (2 ^ low f) (and-r (A && B) C abc),
+      ltb→lt (suc m * up e)
+          (2 ^ suc (emax f) * down e) (and-r (A && B && C) D t),
+    )
+
+-- ---- what fits is left as it is
+-- the exponent counted from the smallest value's
+placed : (l : ℕ) (e : ℤ) → down e ≤ 2 ^ l → (j : ℕ) × ((m : ℕ) → m * up e * 2 ^ l ≡ m * 2 ^ j * down e)
+placed l (pos k) h = (k + l, λ m. rw (pow-add 2 k l, mul-one) (mul-assoc m (2 ^ k) (2 ^ l)))
+placed l (negsuc k) h =
+    let split : 2 ^ l ≡ 2 ^ (l - suc k) * 2 ^ suc k =
+    sym (ap (λ (z : ℕ). 2 ^ z) (back l (suc k) (pow-le-back (suc k) l h))) ∙ pow-add 2 (l - suc k) (suc k) in
+    (l - suc k, λ m. rw (mul-one, split) (sym (mul-assoc m (2 ^ (l - suc k)) (2 ^ suc k))))
+
+pub round-own : (f : Format) (s : Bool) (m : ℕ) (e : ℤ) → T (fits f (fin s m e)) → round f s (m * up e) (down e) ≡ fin s m e
+unfolding Shape
+round-own f s m e t =
+    let k = shape f s m e t in
+    let p = placed (low f) e (k .1) in
+    let all = 2 ^ (low f + suc (emax f)) in
+    let scaled : 2 ^ suc (emax f) * down e * 2 ^ low f ≡ all * down e =
+    mul-right-comm (2 ^ suc (emax f)) (down e) (2 ^ low f) ∙ rw (← pow-add 2 (suc (emax f)) (low f), add-comm (suc (emax f)) (low f)) in
+    let room : m * 2 ^ (p .0) < all =
+    lt-of-mul-lt-mul-right (down e) (subst (λ (z : ℕ). z < all * down e) (p .1 m)
+    (subst (λ (z : ℕ). m * up e * 2 ^ low f < z) scaled (mul-lt-mul-of-pos-right (k .2) (pow-pos (low f))))) in
+    value-unique f (round f s (m * up e) (down e)) (fin s m e) s (m * up e) (down e) (down-pos e) (round-fits f s (m * up e) (down e)) t
+    (round-exact f s (m * up e) (down e) m (p .0) (down-pos e) (k .0) room (p .1 m)) (refl, refl)
+
+pub short : (f : Format) (s : Bool) (m : ℕ) (e : ℤ) → T (fits f (fin s m e)) → m < 2 ^ prec f
+unfolding Shape
+short f s m e t = shape f s m e t .0

@@ -1,0 +1,19 @@
+-- `patterns::bits::f32_of` meets its contract. Assumes nothing.
+use borrow.Author.Needs.{needs}
+use mathlib.Core.Path.{sym}
+use lib.Ieee.{binary32, div, ofBits}
+use Rattle.ieee.proofs.Nan.{above-inf, up-to-inf}
+use Rattle.patterns.proofs.bits.f32_of.Statement.{statement}
+use Rattle.patterns.proofs.bits.f32_of.Tie as tie
+
+float-from-bits-result : tie.Need-float-from-bits-result
+float-from-bits-result c = up-to-inf binary32 (c .before .args .b) (c .if1 .left)
+
+returns : tie.Need-returns
+returns c = unfold div ofBits in sym (above-inf binary32 (c .before .args .b) (c .if1 .taken))
+
+returns-2 : tie.Need-returns-2
+returns-2 c = search needs
+
+pub f32-of-spec : {M : Type 1} → statement M
+f32-of-spec = tie.close (tie.spec float-from-bits-result returns returns-2)

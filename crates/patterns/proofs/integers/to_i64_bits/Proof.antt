@@ -1,0 +1,19 @@
+-- `patterns::integers::to_i64_bits` meets its contract. Assumes nothing.
+use borrow.Author.Needs.{needs}
+use lib.Ieee.{binary64, ofBits}
+use mir.Syntax.{w64}
+use Rattle.ieee.proofs.Ranges.{signed-kept}
+use Rattle.patterns.proofs.integers.to_i64_bits.Statement.{statement}
+use Rattle.patterns.proofs.integers.to_i64_bits.Tie as tie
+
+f64-of-requires : tie.Need-f64-of-requires
+f64-of-requires c κs = search needs
+
+to-i64-requires : tie.Need-to-i64-requires
+to-i64-requires c κs = search needs
+
+returns : tie.Need-returns
+returns c = cc (signed-kept w64 (ofBits binary64 (c .before .before .args .b)))
+
+pub to-i64-bits-spec : {M : Type 1} → statement M
+to-i64-bits-spec = tie.close (tie.spec f64-of-requires to-i64-requires returns)

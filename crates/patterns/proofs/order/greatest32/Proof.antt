@@ -1,0 +1,16 @@
+-- `patterns::order::greatest32` meets its contract. Assumes nothing.
+use Rattle.ieee.proofs.Nan.{ne-self}
+use Rattle.ieee.specs.Order.{greatest}
+use Rattle.patterns.proofs.order.greatest32.Statement.{statement}
+use Rattle.patterns.proofs.order.greatest32.Tie as tie
+
+returns : tie.Need-returns
+unfolding greatest
+returns c = rw (← ne-self, c .if1 .taken)
+
+returns-2 : tie.Need-returns-2
+unfolding greatest
+returns-2 c = rw (← ne-self, c .if1 .left)
+
+pub greatest32-spec : {M : Type 1} → statement M
+greatest32-spec = tie.close (tie.spec returns returns-2)

@@ -1,0 +1,40 @@
+-- `root::root_scaled` meets its contract. Assumes nothing.
+use borrow.Author.Needs.{needs}
+use Prim.Native.Nat.{ℕ, _+_, _*_, _%_, _^_, _≤_, _<_}
+use native.Mathlib.Nat.{div-one, mul-le-mul-left}
+use native.Mathlib.Omega.{arith}
+use lib.Dec.{lit<}
+use Rattle.ieee.proofs.Squares.{closestRoot-le}
+use Rattle.root.proofs.root_scaled.Statement.{statement}
+use Rattle.root.proofs.root_scaled.Tie as tie
+
+-- d once or twice
+doubled : (d r : ℕ) → r < 2 → (d ≤ d * (1 + r)) × (d * (1 + r) ≤ 2 * d)
+doubled d r h =
+    let x : d * 1 ≤ d * (1 + r) = mul-le-mul-left d (omega arith) in
+    let y : d * (1 + r) ≤ d * 2 = mul-le-mul-left d (omega arith) in (omega arith, omega arith)
+
+mul-result : tie.Need-mul-result
+mul-result c = search needs
+
+add-nearest-root : tie.Need-add-nearest-root
+add-nearest-root c = search needs
+
+mul-nearest-root : tie.Need-mul-nearest-root
+mul-nearest-root c = omega (arith, doubled (c .args .d) (c .args .w % 2) (omega arith))
+
+nearest-root-requires : tie.Need-nearest-root-requires
+nearest-root-requires c κs = let b = doubled (c .args .d) (c .args .w % 2) (omega arith) in (omega arith, omega arith)
+
+add-result : tie.Need-add-result
+add-result c =
+    let start = c .before in
+    let m = start .args .d * (1 + start .args .w % 2) in
+    let b = doubled (start .args .d) (start .args .w % 2) (omega arith) in
+    omega (arith, c .nearest-root .ensures, closestRoot-le (m * 2 ^ 52) 1 (2 ^ 53) (lit< tt) (rw (div-one (m * 2 ^ 52)) (omega arith)))
+
+returns : tie.Need-returns
+returns c = search needs
+
+pub root-scaled-spec : {M : Type 1} → statement M
+root-scaled-spec = tie.close (tie.spec mul-result add-nearest-root mul-nearest-root nearest-root-requires add-result returns)

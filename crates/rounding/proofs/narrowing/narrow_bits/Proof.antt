@@ -1,0 +1,48 @@
+-- `rounding::narrowing::narrow_bits` meets its contract. Assumes nothing.
+use borrow.Author.Needs.{needs}
+use Prim.Native.Nat.{_/_, _%_, _^_, _<_}
+use native.Mathlib.Omega.{arith}
+use lib.Ieee.{binary32, binary64}
+use Rattle.ieee.specs.Fields.{sized}
+use Rattle.ieee.proofs.Narrowed.{narrow-finite, narrow-inf, narrow-nan}
+use Rattle.ieee.proofs.Signs.{bits-lt}
+use Rattle.rounding.proofs.narrowing.narrow_bits.Statement.{statement}
+use Rattle.rounding.proofs.narrowing.narrow_bits.Tie as tie
+
+size-below : (c : tie.After-narrow-size) → c .narrow-size .result < 2 ^ 31
+size-below c =
+    let b = c .before .before .args .b in
+    let e = b % 2 ^ 63 / 2 ^ 52 in
+    rw (c .narrow-size .ensures) (bits-lt binary32 (sized binary64 e (b % 2 ^ 52)) (2 ^ 1074))
+
+mul-s : tie.Need-mul-s
+mul-s c = search needs
+
+narrow-size-requires : tie.Need-narrow-size-requires
+narrow-size-requires c κs = search needs
+
+add-result : tie.Need-add-result
+add-result c = omega (arith, size-below c)
+
+cast-result : tie.Need-cast-result
+cast-result c = omega (arith, size-below c)
+
+add-result-2 : tie.Need-add-result-2
+add-result-2 c = search needs
+
+cast-result-2 : tie.Need-cast-result-2
+cast-result-2 c = search needs
+
+returns : tie.Need-returns
+returns c =
+    let start = c .before .before in
+    narrow-finite (start .args .b) (c .narrow-size .result) (start .fits .b .fits) (c .before .if1 .taken) (c .narrow-size .ensures)
+
+returns-2 : tie.Need-returns-2
+returns-2 c = let start = c .before .before in narrow-inf (start .args .b) (start .fits .b .fits) (omega arith) (c .if2 .taken)
+
+returns-3 : tie.Need-returns-3
+returns-3 c = let start = c .before .before in narrow-nan (start .args .b) (omega arith) (omega arith)
+
+pub narrow-bits-spec : {M : Type 1} → statement M
+narrow-bits-spec = tie.close (tie.spec mul-s narrow-size-requires add-result cast-result add-result-2 cast-result-2 returns returns-2 returns-3)

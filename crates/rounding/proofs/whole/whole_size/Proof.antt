@@ -1,0 +1,34 @@
+-- `rounding::whole::whole_size` meets its contract. Assumes nothing.
+use borrow.Author.Needs.{needs}
+use Rattle.rounding.specs.Ways.{wayOf}
+use Rattle.ieee.proofs.Shifts.{cut-size, tiny-size}
+use Rattle.rounding.proofs.whole.whole_size.Statement.{statement}
+use Rattle.rounding.proofs.whole.whole_size.Tie as tie
+
+add-shifted : tie.Need-add-shifted
+add-shifted c = search needs
+
+shifted-requires : tie.Need-shifted-requires
+shifted-requires c κs = search needs
+
+add-shifted-2 : tie.Need-add-shifted-2
+add-shifted-2 c = search needs
+
+sub-shifted : tie.Need-sub-shifted
+sub-shifted c = search needs
+
+shifted-requires-2 : tie.Need-shifted-requires-2
+shifted-requires-2 c κs = search needs
+
+returns : tie.Need-returns
+returns c =
+    let start = c .before .before in
+    rw (c .shifted .ensures) (tiny-size (wayOf (start .args .way)) (start .args .e) (start .args .t) (c .before .if1 .taken) (start .pre .1))
+
+returns-2 : tie.Need-returns-2
+returns-2 c =
+    let start = c .before .before in
+    rw (c .shifted2 .ensures) (cut-size (wayOf (start .args .way)) (start .args .e) (start .args .t) (c .before .if1 .left) (start .pre .0))
+
+pub whole-size-spec : {M : Type 1} → statement M
+whole-size-spec = tie.close (tie.spec add-shifted shifted-requires add-shifted-2 sub-shifted shifted-requires-2 returns returns-2)

@@ -1,0 +1,2 @@
+-- What only the contracts of private functions speak of.
+pub mod Ways

@@ -1,0 +1,18 @@
+// Roundings: to a whole number of the format, and f64 to f32. Internal: `floats` passes it on.
+mod narrowing; // f64 to f32
+mod whole; // floor, ceiling, and rounding half away from zero
+
+pub use narrowing::narrow;
+pub use narrowing::narrow_bits;
+pub use whole::ceiling32;
+pub use whole::ceiling32_bits;
+pub use whole::ceiling64;
+pub use whole::ceiling64_bits;
+pub use whole::floor32;
+pub use whole::floor32_bits;
+pub use whole::floor64;
+pub use whole::floor64_bits;
+pub use whole::round32;
+pub use whole::round32_bits;
+pub use whole::round64;
+pub use whole::round64_bits;

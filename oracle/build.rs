@@ -1,6 +1,7 @@
 //! Lays the unchanged text of the Rust original, with our probe behind it, where the crate can compile it.
 //! The original is read from the folder in MOWFROST_RUST (absolute, or relative to oracle/), by default from
 //! ../shared/docs/src beside the repository. Its text goes to cargo's output folder and nowhere else.
+//! Links the port's static library where it was built (`rt staticlib capi`) and this machine can run it.
 
 use std::path::{Path, PathBuf};
 use std::{env, fs, process};
@@ -35,6 +36,22 @@ fn main() {
         &out.join("original.rs"),
         &format!("pub mod profile_check {{\n{defect}\n}}\n#[path = {qto_out:?}]\npub mod qto;\n"),
     );
+    link_port(&here);
+}
+
+/// Sets `port` where the static library is there. It is x86-64 code, so on another machine the runs against the port
+/// are left out; so they are before the library is built.
+fn link_port(here: &Path) {
+    println!("cargo:rustc-check-cfg=cfg(port)");
+    let folder = here.join("../target/staticlib");
+    let library = folder.join("libcapi.a");
+    println!("cargo:rerun-if-changed={}", library.display());
+    let fits = env::var("CARGO_CFG_TARGET_ARCH").is_ok_and(|arch| arch == "x86_64");
+    if fits && library.exists() {
+        println!("cargo:rustc-cfg=port");
+        println!("cargo:rustc-link-search=native={}", folder.display());
+        println!("cargo:rustc-link-lib=static=capi");
+    }
 }
 
 /// `enum ProfileDefect` and its `impl`: all that document 01 takes from profile_check.rs.

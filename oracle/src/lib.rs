@@ -9,6 +9,8 @@ pub mod mesh;
 
 pub mod exception;
 pub mod file;
+#[cfg(port)]
+pub mod floats;
 pub mod kinds;
 pub mod listing;
 pub mod pieces;

@@ -16,6 +16,13 @@ oracle: the unchanged Rust original, asked in document 01's words
   oracle meshes SEED COUNT     writes COUNT meshes in that framing, of every kind in turn
   oracle kinds                 names the kinds, in the order in which 'meshes' takes them
   oracle reach SEED COUNT      counts what those meshes reach: verdicts, methods, refusals, branches
+
+Against the port (x86-64; first, at the root of the repository: rt staticlib capi):
+
+  oracle floats N              every float helper on edge patterns and N by chance each, against Rust's operation;
+                               last line 'A agree, D differ'
+  oracle floats all            the helpers of one f32 on all of its patterns
+  oracle speed floats          nanoseconds a call, the port's helper and Rust's operation
 ";
 
 fn main() -> ExitCode {
@@ -29,6 +36,12 @@ fn main() -> ExitCode {
             (Ok(seed), Ok(count)) => print_reach(seed, count),
             _ => return usage("SEED and COUNT are whole numbers from 0 up"),
         },
+        ["floats", "all"] => port::floats_all(),
+        ["floats", n] => match n.parse() {
+            Ok(n) => port::floats(n),
+            Err(_) => return usage("N is a whole number from 0 up, or 'all'"),
+        },
+        ["speed", "floats"] => port::speed_floats(),
         ["help" | "--help" | "-h"] => {
             print!("{USAGE}");
             return ExitCode::SUCCESS;
@@ -49,6 +62,82 @@ fn main() -> ExitCode {
 fn usage(why: &str) -> ExitCode {
     eprint!("oracle: {why}\n{USAGE}");
     ExitCode::from(2)
+}
+
+/// The runs that need the port's static library.
+#[cfg(port)]
+mod port {
+    use mowfrost_oracle::floats::compare::{on_all_32, on_chance, on_edges, Count};
+    use mowfrost_oracle::floats::helpers::{Width, HELPERS};
+    use mowfrost_oracle::floats::speed;
+    use std::io::{self, Write};
+    use std::process::ExitCode;
+
+    pub fn floats(n: u64) -> io::Result<ExitCode> {
+        let counts = HELPERS.iter().enumerate().map(|(i, helper)| {
+            let (edges, chance) = (on_edges(helper), on_chance(helper, i as u64, n));
+            (helper.name, vec![("edges", edges), ("by chance", chance)])
+        });
+        tell(counts)
+    }
+
+    pub fn floats_all() -> io::Result<ExitCode> {
+        let helpers = HELPERS.iter().filter(|helper| helper.width == Width::F32 && !helper.two);
+        tell(helpers.map(|helper| (helper.name, vec![("all patterns", on_all_32(helper))])))
+    }
+
+    fn tell(counts: impl Iterator<Item = (&'static str, Vec<(&'static str, Count)>)>) -> io::Result<ExitCode> {
+        let mut out = io::stdout().lock();
+        let (mut agree, mut differ) = (0, 0);
+        for (name, parts) in counts {
+            for (on, count) in parts {
+                let Count { agree: a, differ: d, open, shown } = count;
+                writeln!(out, "{name:<12} {on:<12} {a:>11} agree, {d} differ ({open} that Rust leaves open)")?;
+                for line in shown {
+                    writeln!(out, "  {line}")?;
+                }
+                (agree, differ) = (agree + a, differ + d);
+            }
+        }
+        writeln!(out, "{agree} agree, {differ} differ")?;
+        Ok(if differ == 0 { ExitCode::SUCCESS } else { ExitCode::FAILURE })
+    }
+
+    pub fn speed_floats() -> io::Result<ExitCode> {
+        let mut out = io::stdout().lock();
+        writeln!(out, "| helper | on | port, ns | Rust, ns | ratio |\n|---|---|---|---|---|")?;
+        for row in speed::rows() {
+            let ratio = row.port / row.rust;
+            writeln!(out, "| `{}` | {} | {:.1} | {:.1} | {ratio:.1} |", row.name, row.on, row.port, row.rust)?;
+        }
+        Ok(ExitCode::SUCCESS)
+    }
+}
+
+#[cfg(not(port))]
+mod port {
+    use std::io;
+    use std::process::ExitCode;
+
+    fn missing() -> io::Result<ExitCode> {
+        eprintln!(
+            "oracle: built without the port's static library. On x86-64, at the root of the repository: rt staticlib capi; \
+             then build anew"
+        );
+        Ok(ExitCode::from(2))
+    }
+
+    pub fn floats(_: u64) -> io::Result<ExitCode> {
+        missing()
+    }
+
+    pub fn floats_all() -> io::Result<ExitCode> {
+        missing()
+    }
+
+    pub fn speed_floats() -> io::Result<ExitCode> {
+        missing()
+    }
 }
 
 fn print_listings() -> io::Result<ExitCode> {

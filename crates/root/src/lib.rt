@@ -11,7 +11,7 @@ use patterns::f64_of;
 
 // The whole part of √m, a digit a turn: q is the whole part of the root of the digits of m taken so far, and rest what
 // they have more than q * q. The digits that are left stand at the upper end of a.
-fn whole_root(m: u64) -> u64
+fn digit_root(m: u64) -> u64
     requires { ⌜ m < 2 ^ 54 ⌝ }
     ensures { λ r. ⌜ r ≡ floorRoot m ⌝ }
 {
@@ -33,6 +33,36 @@ fn whole_root(m: u64) -> u64
         i += 1;
     }
     q
+}
+
+// A guess at √m by floats: one at 1 / √m from the pattern, brought nearer by two steps of Newton's method, then one at √m
+// by a third. Nothing is proved of it but its size, since `whole_root` holds it against m. It is drawn up by a hair, so
+// that the root of a square is met and not missed.
+fn guess(m: u64) -> u64
+    requires { ⌜ m < 2 ^ 54 ⌝ }
+    ensures { λ r. ⌜ r < 2 ^ 27 ⌝ }
+{
+    let x = (m / 2) as f64 * 2.0;
+    let h = 0.5 * x;
+    let y = f64_of(0x5fe6_eb50_c7b5_37a9 - bits64(x) % SIGN / 2);
+    let z = y * (1.5 - h * y * y);
+    let w = z * (1.5 - h * z * z);
+    let s = x * w;
+    let r = (s + 0.5 * w * (x - s * s)) * 1.00000000005;
+    (FIELD + bits64(r) % FIELD) / 0x400_0000
+}
+
+// The whole part of √m. Where the guess is not it, digit by digit.
+fn whole_root(m: u64) -> u64
+    requires { ⌜ m < 2 ^ 54 ⌝ }
+    ensures { λ r. ⌜ r ≡ floorRoot m ⌝ }
+{
+    let q = guess(m);
+    if (q * q <= m) & (m < (q + 1) * (q + 1)) {
+        q
+    } else {
+        digit_root(m)
+    }
 }
 
 // √(m * 2^52) to the nearest whole number, from the whole part q of √m. One step of long division, of the rest of m

@@ -1,0 +1,2 @@
+// The static library for C: thin functions on numbers and slices, each with the contract of the routine that it calls.
+mod floats_c; // the float helpers

@@ -82,7 +82,7 @@ mod port {
     }
 
     pub fn floats_all() -> io::Result<ExitCode> {
-        let helpers = HELPERS.iter().filter(|helper| helper.width == Width::F32 && !helper.two);
+        let helpers = HELPERS.iter().filter(|helper| helper.width == Width::F32 && helper.second.is_none());
         tell(helpers.map(|helper| (helper.name, vec![("all patterns", on_all_32(helper))])))
     }
 

@@ -1,2 +1,3 @@
 // The static library for C: thin functions on numbers and slices, each with the contract of the routine that it calls.
 mod floats_c; // the float helpers
+mod probe; // what only the differential runs ask for

@@ -1,6 +1,7 @@
 -- The table of worked examples, proved by computing. Assumes nothing.
 use mathlib.Core.Path.{refl}
 use lib.Ieee.{binary32, isNan, lt, ofBits, round, size, toBits, toSigned, toUnsigned, units}
+use Rattle.ieee.specs.Cube.{cubeAbove}
 use Rattle.ieee.specs.Examples.{Examples}
 use Rattle.ieee.specs.Integral.{integral}
 use Rattle.ieee.specs.Magnitude.{magnitude}
@@ -10,7 +11,7 @@ use Rattle.ieee.specs.Rounded.{rounded}
 use Rattle.ieee.proofs.Signs.{sign-cleared}
 
 pub examples : Examples
-unfolding isNan lt ofBits round toBits toSigned toUnsigned integral rounded size units digits floorRoot closestRoot rootRound root magnitude least greatest
+unfolding isNan lt ofBits round toBits toSigned toUnsigned integral rounded size units digits floorRoot closestRoot rootRound root magnitude least greatest cubeAbove
 examples =
     record {
       nan-32 = refl;
@@ -44,4 +45,12 @@ examples =
       root-quarter = refl;
       root-minus-zero = refl;
       root-below-zero = refl;
+      cube-more = refl;
+      cube-equal = refl;
+      cube-no-sign = refl;
+      cube-just-more = refl;
+      cube-below-zero = refl;
+      cube-infinite = refl;
+      cube-of-nan = refl;
+      cube-to-nan = refl;
     }

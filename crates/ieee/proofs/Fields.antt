@@ -1,7 +1,7 @@
 -- The value that is read from a pattern, by its fields: a number, an infinity or a NaN. Assumes nothing.
-use mathlib.Core.Path.{_≡_}
+use mathlib.Core.Path.{_≡_, refl}
 use mathlib.Core.Bool.{Bool}
-use Prim.Native.Nat.{ℕ, zero, suc, _+_, _/_, _%_, _^_, _≤_, _<_}
+use Prim.Native.Nat.{ℕ, zero, suc, _+_, _-_, _/_, _%_, _^_, _≤_, _<_}
 use native.Mathlib.Omega.{arith}
 use borrow.Author.Tests.{eq-eqb, ne-eqb}
 use lib.Dec.{leb}
@@ -37,6 +37,19 @@ module _ (f : Format) (b : ℕ) where
   pub read-nan : b % top f / hid f ≡ ones f → 0 < b % hid f → ofBits f b ≡ nan
   unfolding ofBits
   read-nan h z = fields-nan f (leb (top f) b) (b % top f / hid f) (b % hid f) h z
+
+-- ---- the two cases of the exponent's field
+pub sig-zero : (f : Format) (e t : ℕ) → e ≡ 0 → t ≡ sig f e t
+sig-zero f zero t h = refl
+sig-zero f (suc y) t h = absurd (omega arith)
+
+pub sig-above : (f : Format) (e t : ℕ) → (e ≡ 0 → ⊥) → hid f + t ≡ sig f e t
+sig-above f zero t h = absurd (h refl)
+sig-above f (suc y) t h = refl
+
+pub exp-is : (e : ℕ) → exp e ≡ e - 1
+exp-is zero = omega arith
+exp-is (suc y) = omega arith
 
 -- ---- how large the fields' number is
 pub sig-lt : (e t : ℕ) → t < 2 ^ 52 → sig binary64 e t < 2 ^ 53

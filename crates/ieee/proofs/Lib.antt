@@ -14,6 +14,10 @@ pub mod Numbers
 pub mod Wholes
 pub mod Shifts
 pub mod Packing
+pub mod Scales
+pub mod Cubes
+pub mod CubeSizes
 pub mod Squares
 pub mod RootPatterns
+pub mod CubePatterns
 pub mod Examples

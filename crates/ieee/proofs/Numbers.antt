@@ -2,11 +2,11 @@
 use mathlib.Core.Path.{_≡_, refl, sym, ap, _∙_, subst}
 use Prim.Native.Nat.{ℕ, zero, suc, _+_, _-_, _*_, _/_, _%_, _^_, _≤_, _<_, compare, Ordering, Ordering·lt, Ordering·eq, Ordering·gt}
 use native.Mathlib.Decide.{decLt}
-use native.Mathlib.Nat.{div-add-mod', div-eq-of-lt-le, le-antisymm, le-of-suc-le-suc, lt-of-lt-of-le, lt-of-not-le, mod-lt, not-le-of-lt, one-mul, pow-succ'}
+use native.Mathlib.Nat.{div-add-mod', div-eq-of-lt-le, le-antisymm, le-of-lt, le-of-suc-le-suc, lt-of-le-of-lt, lt-of-lt-of-le, lt-of-not-le, mod-lt, mul-le-mul-left, mul-lt-mul-of-pos-right, not-le-of-lt, one-mul, pow-succ'}
 use native.Mathlib.Omega.{arith}
 use mathlib.Core.Bool.{not}
 use lib.Dec.{T, isLe, isEq, leb→le, nleb→lt, eqb, eqb→eq, eqb-refl, lit<}
-use lib.Pow.{pow-lt, pow-mono, pow-pos, shl-exact}
+use lib.Pow.{pow-add, pow-lt, pow-mono, pow-pos, shl-exact}
 use lib.Ieee.{nearest, size}
 use lib.Ieee.Digits.{size-le, size-lt}
 use lib.Ieee.Fits.{nearest-le}
@@ -52,6 +52,9 @@ one-shl j h = shl-exact {a = 1} 1 j 64 (lit< tt) (omega arith) ∙ one-mul (2 ^ 
 
 pub below-pow : (d i j : ℕ) → d < 2 ^ i → i ≤ j → d < 2 ^ j
 below-pow d i j h k = lt-of-lt-of-le h (pow-mono k)
+
+pub square-below : (n k : ℕ) → n < 2 ^ k → n * n < 2 ^ (k + k)
+square-below n k h = rw (pow-add 2 k k) (lt-of-le-of-lt (mul-le-mul-left n (le-of-lt h)) (mul-lt-mul-of-pos-right h (pow-pos k)))
 
 pub size-gt : (n j : ℕ) → 2 ^ j ≤ n → j < size n
 size-gt n j h = lt-of-not-le (λ (g : size n ≤ j). not-le-of-lt (lt-of-lt-of-le (size-lt n) (pow-mono g)) h)

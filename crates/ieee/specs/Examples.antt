@@ -4,6 +4,7 @@ use mathlib.Core.Path.{_≡_}
 use mathlib.Core.Bool.{true, false}
 use lib.IntN.{pos, negsuc}
 use lib.Ieee.{nan, inf, fin, binary32, binary64, ofBits, toBits, toSigned, toUnsigned}
+use Rattle.ieee.specs.Cube.{cubeAbove}
 use Rattle.ieee.specs.Integral.{ceiling, floor, halfAway}
 use Rattle.ieee.specs.Magnitude.{SignCleared, magnitude}
 use Rattle.ieee.specs.Order.{least, greatest}
@@ -51,3 +52,13 @@ pub record Examples : Type 0 where
   pub root-quarter : root binary64 (fin false 1 (negsuc 1)) ≡ fin false 1 (negsuc 0)
   pub root-minus-zero : root binary64 (fin true 0 (pos 0)) ≡ fin true 0 (pos 0)
   pub root-below-zero : root binary64 (fin true 1 (pos 0)) ≡ nan
+  -- 8 * s ^ 3 > p ^ 2: of 1 and 2; not of 2 and 8 nor of 2 and -8, where both sides are 64; of the `f32` after 2 and 8; not of -1 and 0
+  pub cube-more : cubeAbove (fin false 1 (pos 0)) (fin false 1 (pos 1)) ≡ true
+  pub cube-equal : cubeAbove (fin false 1 (pos 1)) (fin false 1 (pos 3)) ≡ false
+  pub cube-no-sign : cubeAbove (fin false 1 (pos 1)) (fin true 1 (pos 3)) ≡ false
+  pub cube-just-more : cubeAbove (ofBits binary32 0x40000001) (fin false 1 (pos 3)) ≡ true
+  pub cube-below-zero : cubeAbove (fin true 1 (pos 0)) (fin false 0 (pos 0)) ≡ false
+  -- infinity is above the largest `f32`; a NaN is above nothing, nor is anything above it
+  pub cube-infinite : cubeAbove (inf false) (ofBits binary32 0x7f7fffff) ≡ true
+  pub cube-of-nan : cubeAbove nan (fin false 0 (pos 0)) ≡ false
+  pub cube-to-nan : cubeAbove (inf false) nan ≡ false

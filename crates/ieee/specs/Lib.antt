@@ -5,5 +5,6 @@ pub mod Order
 pub mod Integral
 pub mod Rounded
 pub mod Root
+pub mod Cube
 pub mod Fields
 pub mod Examples

@@ -42,7 +42,8 @@ fn guess(m: u64) -> u64
     requires { ⌜ m < 2 ^ 54 ⌝ }
     ensures { λ r. ⌜ r < 2 ^ 27 ⌝ }
 {
-    let x = (m / 2) as f64 * 2.0;
+    let o = m / 0x20_0000_0000_0000;
+    let x = f64_of((1074 + o) * FIELD + (m >> o));
     let h = 0.5 * x;
     let y = f64_of(0x5fe6_eb50_c7b5_37a9 - bits64(x) % SIGN / 2);
     let z = y * (1.5 - h * y * y);

@@ -1,7 +1,7 @@
 //! `oracle floats N`: every exported helper on the edges and on N patterns by chance, against Rust.
 
-use super::helpers::{Answer, Helper, Width};
-use super::patterns::{by_chance, edges, partners};
+use super::helpers::{Answer, Helper};
+use super::patterns::{by_chance, edges};
 use crate::random::Random;
 
 #[derive(Default)]
@@ -36,7 +36,7 @@ impl Count {
 pub fn on_edges(helper: &Helper) -> Count {
     let mut count = Count::default();
     for x in edges(helper.width) {
-        if helper.two {
+        if let Some(partners) = helper.second {
             for y in partners(helper.width, x) {
                 count.add(helper, x, y);
                 count.add(helper, y, x);
@@ -53,18 +53,18 @@ pub fn on_chance(helper: &Helper, seed: u64, n: u64) -> Count {
     let mut random = Random::new(seed);
     for turn in 0..n {
         let x = by_chance(helper.width, &mut random, turn);
-        let y = if helper.two { second(helper.width, &mut random, turn, x) } else { 0 };
+        let y = second(helper, &mut random, turn, x);
         count.add(helper, x, y);
     }
     count
 }
 
-/// A second value: one of its own, or one that stands close to the first.
-fn second(width: Width, random: &mut Random, turn: u64, x: u64) -> u64 {
-    if random.once_in(3) {
-        random.pick(&partners(width, x))
-    } else {
-        by_chance(width, random, turn / 5)
+/// A second value: one of its own, or one that the answer may turn at.
+fn second(helper: &Helper, random: &mut Random, turn: u64, x: u64) -> u64 {
+    match helper.second {
+        None => 0,
+        Some(partners) if random.once_in(3) => random.pick(&partners(helper.width, x)),
+        Some(_) => by_chance(helper.width, random, turn / 5),
     }
 }
 

@@ -1,9 +1,12 @@
 //! Each float helper of the C interface beside Rust's own operation, both on bit patterns.
 //!
 //! A pattern stands in a u64, an f32's in its lower half; so does an answer. Where Rust leaves the answer open, document
-//! 01 has the rule, and `rust` is held to it: `Answer::Open`.
+//! 01 has the rule, and `rust` is held to it: `Answer::Open`. The last helper is 8s³ > p², which the C interface does not
+//! have; beside it stands our own exact form, and for the clock the original's, with `powf`.
 
 use super::capi;
+use super::patterns::{partners, partners_of_cube};
+use crate::exception::cube_exceeds;
 
 /// How wide the patterns are that a helper takes.
 #[derive(Clone, Copy, PartialEq, Eq, Debug)]
@@ -31,8 +34,8 @@ impl Answer {
 pub struct Helper {
     pub name: &'static str,
     pub width: Width,
-    /// Of two values; a helper of one leaves the second aside.
-    pub two: bool,
+    /// For a helper of two values, what to pair the first with; a helper of one leaves the second aside.
+    pub second: Option<fn(Width, u64) -> Vec<u64>>,
     pub port: fn(u64, u64) -> u64,
     pub rust: fn(u64, u64) -> Answer,
     /// Rust's operation alone, as a program would call it: for the clock.
@@ -72,7 +75,7 @@ macro_rules! one {
         Helper {
             name: $name,
             width: Width::$width,
-            two: false,
+            second: None,
             port: |x, _| capi::$port(x as _) as _,
             rust: |x, _| {
                 let $x = one!(@read $width, x);
@@ -95,7 +98,7 @@ macro_rules! two {
         Helper {
             name: $name,
             width: Width::$width,
-            two: true,
+            second: Some(partners),
             port: |x, y| capi::$port(x as _, y as _) as _,
             rust: |x, y| {
                 let (a, b) = ($read(x), $read(y));
@@ -113,8 +116,8 @@ macro_rules! two {
     };
 }
 
-/// In the order of the C interface.
-pub const HELPERS: [Helper; 17] = [
+/// In the order of the C interface, and 8s³ > p² behind them.
+pub const HELPERS: [Helper; 18] = [
     one!("root64", F64, mf_root64, |x| x.sqrt(), wide, f64::to_bits),
     // The sign goes and the digits stay, a NaN's too: Rust fixes every bit.
     one!("magnitude64", F64, mf_magnitude64, |x| x.abs(), |r: f64| Answer::Fixed(r.to_bits()), f64::to_bits),
@@ -133,7 +136,20 @@ pub const HELPERS: [Helper; 17] = [
     one!("to_i32", F32, mf_to_i32, |x| x as i32, |r: i32| Answer::Fixed(r as u64), |r: i32| r as u64),
     one!("to_i64", F64, mf_to_i64, |x| x as i64, |r: i64| Answer::Fixed(r as u64), |r: i64| r as u64),
     one!("to_u64", F32, mf_to_u64, |x| x as u64, Answer::Fixed, |r: u64| r),
+    Helper {
+        name: "cube_above",
+        width: Width::F32,
+        second: Some(partners_of_cube),
+        port: |s, p| capi::probe_cube_above(s as u32, p as u32) as u64,
+        rust: |s, p| Answer::Fixed(cube_above(f32_at(s), f32_at(p)) as u64),
+        plain: |s, p| (f32_at(s) > f32_at(p).powf(2.0 / 3.0) * 0.5) as u64,
+    },
 ];
+
+/// 8s³ > p² on the numbers that s and p stand for, infinities as limits; a NaN makes it false.
+fn cube_above(s: f32, p: f32) -> bool {
+    s > 0.0 && p.abs() < f32::INFINITY && (s == f32::INFINITY || cube_exceeds(s, p.abs()))
+}
 
 fn bits32(x: f32) -> u64 {
     x.to_bits() as u64

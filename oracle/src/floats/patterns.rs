@@ -70,6 +70,13 @@ pub fn partners(width: Width, x: u64) -> Vec<u64> {
     own.iter().chain(&fixed).flat_map(|&p| [p, p | sign]).collect()
 }
 
+/// For 8s³ > p²: the p's about √(8s³), of either sign, where the answer turns, and the others.
+pub fn partners_of_cube(width: Width, s: u64) -> Vec<u64> {
+    let p = (8.0 * (f32::from_bits(s as u32) as f64).abs().powi(3)).sqrt() as f32;
+    let about = [-1, 0, 1].map(|step| p.to_bits().saturating_add_signed(step) as u64 & (width.sign() - 1));
+    about.iter().flat_map(|&p| [p, p | width.sign()]).chain(partners(width, s)).collect()
+}
+
 /// By chance, in five ways that take turns: any bits; a number with and without a fraction; a half or a whole number;
 /// a number about the ends of f32's range, where narrowing turns; a value about 1 with few digits.
 pub fn by_chance(width: Width, random: &mut Random, turn: u64) -> u64 {

@@ -1,26 +1,21 @@
 -- `root::whole_root` meets its contract: a number is the root's whole part if its square is not above m and the next one's is (`floorRoot-at`).
 -- Assumes nothing.
 use borrow.Author.Needs.{needs}
-use mathlib.Core.Path.{_≡_, sym, subst}
-use mathlib.Core.Bool.{true}
-use Prim.Native.Nat.{ℕ, _+_, _*_, _^_, _≤_, _<_}
-use native.Mathlib.Nat.{mul-le-mul}
+use mathlib.Core.Path.{sym, subst}
+use Prim.Native.Nat.{_+_, _*_}
 use native.Mathlib.Omega.{arith}
 use lib.Dec.{T, leb, ltb, leb→le, ltb→lt}
 use lib.Ieee.Fits.{and-l, and-r}
+use Rattle.ieee.proofs.Numbers.{square-below}
 use Rattle.ieee.proofs.Squares.{floorRoot-at}
 use Rattle.root.proofs.whole_root.Statement.{statement}
 use Rattle.root.proofs.whole_root.Tie as tie
-
--- the guess has so few digits that its square can be formed
-square-fits : (n : ℕ) → n ≤ 2 ^ 27 → n * n < 2 ^ 64
-square-fits n h = omega (arith, mul-le-mul h h)
 
 guess-requires : tie.Need-guess-requires
 guess-requires c κs = search needs
 
 mul-if1 : tie.Need-mul-if1
-mul-if1 c = omega (arith, square-fits (c .guess .result) (let h = c .guess .ensures in omega arith))
+mul-if1 c = omega (arith, square-below (c .guess .result) 27 (c .guess .ensures))
 
 add-if1 : tie.Need-add-if1
 add-if1 c = search needs
@@ -29,7 +24,7 @@ add-if1-2 : tie.Need-add-if1-2
 add-if1-2 c = search needs
 
 mul-if1-2 : tie.Need-mul-if1-2
-mul-if1-2 c = omega (arith, square-fits (c .guess .result + 1) (let h = c .guess .ensures in omega arith))
+mul-if1-2 c = omega (arith, square-below (c .guess .result + 1) 28 (let h = c .guess .ensures in omega arith))
 
 digit-root-requires : tie.Need-digit-root-requires
 digit-root-requires c κs = search needs

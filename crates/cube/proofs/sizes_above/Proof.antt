@@ -1,0 +1,72 @@
+-- `cube::sizes_above` meets its contract. Assumes nothing.
+use borrow.Author.Needs.{needs}
+use mathlib.Core.Path.{_∙_}
+use Prim.Native.Nat.{_*_}
+use native.Mathlib.Nat.{div-le-self, le-of-lt, lt-of-le-of-lt, mul-one}
+use native.Mathlib.Omega.{arith}
+use Rattle.ieee.proofs.CubeSizes.{power-at-cube, power-at-square}
+use Rattle.ieee.proofs.Numbers.{square-below}
+use Rattle.cube.proofs.sizes_above.Statement.{statement}
+use Rattle.cube.proofs.sizes_above.Tie as tie
+
+mul-left : tie.Need-mul-left
+mul-left c = search needs
+
+add-left : tie.Need-add-left
+add-left c = search needs
+
+mul-right : tie.Need-mul-right
+mul-right c = search needs
+
+add-right : tie.Need-add-right
+add-right c = search needs
+
+mul-below-cube : tie.Need-mul-below-cube
+mul-below-cube c = let start = c .before in omega (arith, square-below (start .args .b) 24 (start .pre .2))
+
+below-cube-requires : tie.Need-below-cube-requires
+below-cube-requires c κs = let start = c .before in (start .pre .0, square-below (start .args .b) 24 (start .pre .2))
+
+mul-shifted-down : tie.Need-mul-shifted-down
+mul-shifted-down c = let start = c .before in omega (arith, square-below (start .args .b) 24 (start .pre .2))
+
+sub-shifted-down : tie.Need-sub-shifted-down
+sub-shifted-down c = search needs
+
+shifted-down-requires : tie.Need-shifted-down-requires
+shifted-down-requires c κs = search needs
+
+below-cube-requires-2 : tie.Need-below-cube-requires-2
+below-cube-requires-2 c κs =
+    let start = c .before .before in
+    let less = div-le-self (start .args .b * start .args .b) _ in
+    (start .pre .0, rw (c .shifted-down .ensures) (lt-of-le-of-lt less (square-below (start .args .b) 24 (start .pre .2))))
+
+returns : tie.Need-returns
+returns c =
+    let start = c .before .before in
+    c .below-cube .ensures ∙ power-at-square (start .args .a) (start .args .x) (start .args .b) (start .args .y) 149 (c .before .if1 .taken)
+
+returns-2 : tie.Need-returns-2
+returns-2 c =
+    let start = c .before .before .before in
+    c .below-cube2 .ensures
+    ∙ rw (mul-one (c .before .shifted-down .result), c .before .shifted-down .ensures)
+    (power-at-cube (start .args .a) (start .args .x) (start .args .b) (start .args .y) 149 (le-of-lt (c .before .before .if1 .left)))
+
+pub sizes-above-spec : {M : Type 1} → statement M
+sizes-above-spec =
+    tie.close
+    (tie.spec
+    mul-left
+    add-left
+    mul-right
+    add-right
+    mul-below-cube
+    below-cube-requires
+    mul-shifted-down
+    sub-shifted-down
+    shifted-down-requires
+    below-cube-requires-2
+    returns
+    returns-2)

@@ -5,6 +5,7 @@ pub mod Fields
 pub mod Signs
 pub mod Values
 pub mod Comparison
+pub mod SignedOrder
 pub mod Ranges
 pub mod Integrals
 pub mod Narrowed
@@ -20,4 +21,9 @@ pub mod CubeSizes
 pub mod Squares
 pub mod RootPatterns
 pub mod CubePatterns
+pub mod Neighbours
+pub mod Nearest
+pub mod FiniteRange
+pub mod RootNearest
+pub mod WholeValues
 pub mod Examples

@@ -2,7 +2,7 @@
 use mathlib.Core.Path.{_≡_, refl, sym, ap, _∙_, subst}
 use Prim.Native.Nat.{ℕ, zero, suc, _+_, _-_, _*_, _/_, _%_, _^_, _≤_, _<_, compare, Ordering, Ordering·lt, Ordering·eq, Ordering·gt}
 use native.Mathlib.Decide.{decLt}
-use native.Mathlib.Nat.{div-add-mod', div-eq-of-lt-le, le-antisymm, le-of-lt, le-of-suc-le-suc, lt-of-le-of-lt, lt-of-lt-of-le, lt-of-not-le, mod-lt, mul-le-mul-left, mul-lt-mul-of-pos-right, not-le-of-lt, one-mul, pow-succ'}
+use native.Mathlib.Nat.{div-add-mod', div-eq-of-lt-le, eq-of-mul-eq-mul-right, le-antisymm, le-of-lt, le-of-mul-le-mul-right, le-of-suc-le-suc, lt-of-le-of-lt, lt-of-lt-of-le, lt-of-mul-lt-mul-right, lt-of-not-le, mod-lt, mul-le-mul-left, mul-le-mul-right, mul-lt-mul-of-pos-right, not-le-of-lt, one-mul, pow-succ'}
 use native.Mathlib.Omega.{arith}
 use mathlib.Core.Bool.{not}
 use lib.Dec.{T, isLe, isEq, leb→le, nleb→lt, eqb, eqb→eq, eqb-refl, lit<}
@@ -62,7 +62,23 @@ size-gt n j h = lt-of-not-le (λ (g : size n ≤ j). not-le-of-lt (lt-of-lt-of-l
 pub size-is : (n j : ℕ) → 2 ^ j ≤ n → n < 2 ^ suc j → size n ≡ suc j
 size-is n j h k = le-antisymm (size-le n (suc j) k) (size-gt n j h)
 
--- ---- the nearest quotient
+-- ---- two numbers that are in one proportion, d to l, to two others
+module _ (l d x X y Y : ℕ) (at-x : x * l ≡ X * d) (at-y : y * l ≡ Y * d) where
+  pub as-le : 0 < l → X ≤ Y → x ≤ y
+  as-le L h = le-of-mul-le-mul-right (rw (at-x, at-y) (mul-le-mul-right d h)) L
+
+  pub as-lt : 0 < d → X < Y → x < y
+  as-lt D h = lt-of-mul-lt-mul-right l (rw (at-x, at-y) (mul-lt-mul-of-pos-right h D))
+
+  pub as-eq : 0 < l → X ≡ Y → x ≡ y
+  as-eq L h = eq-of-mul-eq-mul-right l L x y (at-x ∙ rw h (sym at-y))
+
+-- ---- quotients
+-- a quotient lies below the next whole number
+pub lt-next : (a b : ℕ) → 0 < b → a < (a / b + 1) * b
+lt-next a b B = omega (arith, div-add-mod' a b, mod-lt a B)
+
+-- the nearest
 pub closest-ge : (a b : ℕ) → a / b ≤ closest a b
 closest-ge a b = nearest-ge (a / b) (compare (a % b * 2) b)
 

@@ -19,13 +19,17 @@ use Rattle.ieee.proofs.Packing.{pack}
 use Rattle.ieee.proofs.Squares.{IsRoot, closestRoot-ge, closestRoot-le, closestRoot-same, floorRoot-is, square-lt}
 
 -- ---- `rootRound`: the value alone counts
-abbrev squared : Format → ℕ → ℕ
+abbrev pub squared : Format → ℕ → ℕ
 squared f num = num * (2 ^ low f * 2 ^ low f)
 
-abbrev at : Format → ℕ → ℕ → ℕ → Float
-at f n den k = units f false (closestRoot n (den * (2 ^ k * 2 ^ k))) k
+-- the digits that are dropped, and the number that is kept
+abbrev pub dropped : Format → ℕ → ℕ → ℕ
+dropped f num den = size (floorRoot (squared f num / den)) - prec f
 
-rootRound-is : (f : Format) (num den : ℕ) → rootRound f num den ≡ at f (squared f num) den (size (floorRoot (squared f num / den)) - prec f)
+abbrev pub keeps : Format → ℕ → ℕ → ℕ
+keeps f num den = let k = dropped f num den in closestRoot (squared f num) (den * (2 ^ k * 2 ^ k))
+
+pub rootRound-is : (f : Format) (num den : ℕ) → rootRound f num den ≡ units f false (keeps f num den) (dropped f num den)
 unfolding rootRound
 rootRound-is f num den = refl
 
@@ -33,7 +37,7 @@ rootRound-same : (f : Format) (a b c d : ℕ) → 0 < b → 0 < d → a * d ≡ 
 rootRound-same f a b c d B D e =
     let L = 2 ^ low f * 2 ^ low f in
     let even : squared f a * d ≡ squared f c * b = mul-right-comm a L d ∙ rw e (mul-right-comm c b L) in
-    let k = size (floorRoot (squared f c / d)) - prec f in
+    let k = dropped f c d in
     let K = 2 ^ k * 2 ^ k in
     let P : 0 < K = mul-pos (pow-pos k) (pow-pos k) in
     let finer : squared f a * (d * K) ≡ squared f c * (b * K) = sym (mul-assoc (squared f a) d K) ∙ rw even (mul-assoc (squared f c) b K) in
@@ -44,7 +48,7 @@ rootRound-same f a b c d B D e =
           (mul-pos D P) finer,
     ) (sym (rootRound-is f c d))
 
-square : (d k : ℕ) → 2 ^ d * 2 ^ d * (2 ^ k * 2 ^ k) ≡ 2 ^ (d + k) * 2 ^ (d + k)
+pub square : (d k : ℕ) → 2 ^ d * 2 ^ d * (2 ^ k * 2 ^ k) ≡ 2 ^ (d + k) * 2 ^ (d + k)
 square d k = mul-mul-mul-comm (2 ^ d) (2 ^ d) (2 ^ k) (2 ^ k) ∙ rw (pow-add 2 d k)
 
 -- ---- the pattern, where the square of the root, in units, is N * 4 ^ k, and N's root has all the digits that the format keeps
@@ -52,7 +56,7 @@ module _ (f : Format) (a N k : ℕ) (value : a * 2 ^ low f ≡ N * (2 ^ k * 2 ^ 
   whole-is : squared f a / 2 ^ low f ≡ N * (2 ^ k * 2 ^ k)
   whole-is = rw (← mul-assoc a (2 ^ low f) (2 ^ low f), mul-div-cancel (a * 2 ^ low f) (pow-pos (low f))) value
 
-  drop-is : size (floorRoot (squared f a / 2 ^ low f)) - prec f ≡ k
+  drop-is : dropped f a (2 ^ low f) ≡ k
   drop-is =
       let r = floorRoot (squared f a / 2 ^ low f) in
       let K = 2 ^ k * 2 ^ k in
@@ -135,8 +139,8 @@ units-fits f q k a = go (ltb (q * 2 ^ k) (overflow f)) (ltb→lt (q * 2 ^ k) (ov
     go true h = odd-fits f (suc (prec f)) false q k (lt-of-le-of-lt a (pow-lt (le-refl (suc (prec f))))) a (h tt)
     go false h = inf-fits f false
 
-rootRound-fits : (f : Format) (num den : ℕ) → 0 < den → T (fits f (rootRound f num den))
-rootRound-fits f num den D =
+pub keeps-le : (f : Format) (num den : ℕ) → 0 < den → keeps f num den ≤ 2 ^ prec f
+keeps-le f num den D =
     let n = squared f num in
     let r = floorRoot (n / den) in
     let k = size r - prec f in
@@ -148,7 +152,10 @@ rootRound-fits f num den D =
     subst (λ (z : ℕ). n / den < z) (sym (square (prec f) k)) (lt-of-lt-of-le (floorRoot-is (n / den) .1) (mul-le-mul next next)) in
     let some : n / (den * K) < 2 ^ prec f * 2 ^ prec f =
     subst (λ (z : ℕ). z < 2 ^ prec f * 2 ^ prec f) (div-div-eq-div-mul n den K) (div-lt-iff-lt-mul P .1 all) in
-    rw (rootRound-is f num den) (units-fits f (closestRoot n (den * K)) k (closestRoot-le n (den * K) (2 ^ prec f) (mul-pos D P) some))
+    closestRoot-le n (den * K) (2 ^ prec f) (mul-pos D P) some
+
+rootRound-fits : (f : Format) (num den : ℕ) → 0 < den → T (fits f (rootRound f num den))
+rootRound-fits f num den D = rw (rootRound-is f num den) (units-fits f (keeps f num den) (dropped f num den) (keeps-le f num den D))
 
 pub root-fits : (f : Format) (x : Float) → T (fits f x) → T (fits f (root f x))
 unfolding root

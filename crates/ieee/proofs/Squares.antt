@@ -50,10 +50,10 @@ floorRoot-at n q p =
     omega arith
 
 -- ---- the nearest whole number
-abbrev past : ℕ → ℕ
+abbrev pub past : ℕ → ℕ
 past q = (2 * q + 1) * (2 * q + 1)
 
-closestRoot-is : (a b : ℕ) → closestRoot a b ≡ nearest (floorRoot (a / b)) (compare (4 * a) (past (floorRoot (a / b)) * b))
+pub closestRoot-is : (a b : ℕ) → closestRoot a b ≡ nearest (floorRoot (a / b)) (compare (4 * a) (past (floorRoot (a / b)) * b))
 unfolding closestRoot
 closestRoot-is a b = refl
 

@@ -1,13 +1,10 @@
 -- A fraction as a whole number, by each way: it goes by the fraction's value alone, and leaves what is whole. Assumes nothing.
-use mathlib.Core.Path.{_≡_, refl, sym, _∙_}
+use mathlib.Core.Path.{_≡_, refl, sym, _∙_, subst}
 use Prim.Native.Nat.{ℕ, zero, suc, _+_, _-_, _*_, _/_, _<_, _≤_, min}
-use native.Mathlib.Nat.{div-add-mod', div-eq-of-lt, div-eq-of-lt-le, div-lt-iff-lt-mul, div-mul-le-self, mod-lt, mul-comm, mul-div-mul-right, mul-le-mul-right}
+use native.Mathlib.Nat.{div-eq-of-lt, div-eq-of-lt-le, div-lt-iff-lt-mul, div-mul-le-self, le-div-iff-mul-le, mul-comm, mul-div-mul-right, mul-le-mul-left, mul-le-mul-right}
 use native.Mathlib.Omega.{arith}
-use Rattle.ieee.specs.Integral.{Way, cut, away, half, toWhole}
-
--- ---- a quotient lies below the next whole number
-lt-next : (a b : ℕ) → 0 < b → a < (a / b + 1) * b
-lt-next a b B = omega (arith, div-add-mod' a b, mod-lt a B)
+use Rattle.ieee.specs.Integral.{HalfAway, Way, cut, away, half, toWhole}
+use Rattle.ieee.proofs.Numbers.{lt-next}
 
 -- ---- the value alone counts
 -- q is the quotient of a + p by p + 1
@@ -69,3 +66,32 @@ pub whole-one : (w : Way) (a : ℕ) → toWhole w a 1 ≡ a
 whole-one cut a = omega arith
 whole-one away a = omega arith
 whole-one half a = omega arith
+
+-- ---- what each way is worth
+-- the fraction dropped: the greatest that is not above
+pub cut-iff : (a b p : ℕ) → 0 < b → ((p * b ≤ a) → p ≤ toWhole cut a b) × (p ≤ toWhole cut a b → p * b ≤ a)
+cut-iff a b p B = (le-div-iff-mul-le B .1, le-div-iff-mul-le B .0)
+
+-- counted as one more: the least that is not below
+pub away-iff : (a b p : ℕ) → 0 < b → ((a ≤ p * b) → toWhole away a b ≤ p) × (toWhole away a b ≤ p → a ≤ p * b)
+away-iff a b p B = (
+  λ h. div-le (a + (b - 1)) b p B (omega arith),
+  λ h. omega (arith, lt-next (a + (b - 1)) b B, mul-le-mul-right b h),
+)
+
+-- where that is 0 there was nothing
+pub none-iff : (a b p : ℕ) → 0 < b → ((p * b + a ≡ 0) → p + toWhole away a b ≡ 0) × (p + toWhole away a b ≡ 0 → p * b + a ≡ 0)
+none-iff a b p B = (
+  λ h. omega (arith, mul-le-mul-left p B, away-iff a b 0 B .0 (omega arith)),
+  λ h. let z : p ≡ 0 = omega arith in rw z (omega (arith, away-iff a b 0 B .1 (omega arith))),
+)
+
+pub half-away : (a b : ℕ) → 0 < b → HalfAway a b (toWhole half a b)
+half-away a b B =
+    let D : 0 < 2 * b = omega arith in
+    record {
+      at-most = omega (arith, lt-next (2 * a + b) (2 * b) D);
+      at-least = λ p e.
+          let l : (p + 1) * (2 * b) ≤ 2 * a + b = subst (λ (z : ℕ). z * (2 * b) ≤ 2 * a + b) e (div-mul-le-self (2 * a + b) (2 * b)) in
+          omega arith;
+    }

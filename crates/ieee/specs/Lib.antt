@@ -5,6 +5,7 @@ pub mod Order
 pub mod Integral
 pub mod Rounded
 pub mod Root
+pub mod Nearest
 pub mod Cube
 pub mod Fields
 pub mod Examples

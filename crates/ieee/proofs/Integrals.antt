@@ -29,7 +29,7 @@ no-fraction : (m a c h n : ℕ) → 0 < c → m * 1 * c ≡ a * n → h * c ≤ 
 no-fraction m a c h n C e l p q = omega (arith, mul-le-mul-right n l, mul-le-mul-left (h * c) p, mul-lt-mul-of-pos-right q C)
 
 module _ (f : Format) (above below : Way) where
-  integral-at : (x : Float) (s : Bool) (a c : ℕ) → 0 < c → HasValue x s a c
+  pub integral-at : (x : Float) (s : Bool) (a c : ℕ) → 0 < c → HasValue x s a c
       → integral f above below x ≡ round f s (toWhole (cond s below above) a c) 1
   unfolding integral
   integral-at nan s a c C h = absurd h

@@ -50,7 +50,7 @@ unfolding neg odd
 neg-odd d s zero k l = refl
 neg-odd d s (suc q) k l = refl
 
-neg-cond : (b : Bool) (x y : Float) → neg (cond b x y) ≡ cond b (neg x) (neg y)
+pub neg-cond : (b : Bool) (x y : Float) → neg (cond b x y) ≡ cond b (neg x) (neg y)
 neg-cond true x y = refl
 neg-cond false x y = refl
 

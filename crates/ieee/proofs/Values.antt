@@ -6,7 +6,7 @@ use native.Mathlib.Nat.{add-comm, le-of-eq, le-trans, lt-of-mul-lt-mul-right, mu
 use lib.IntN.{ℤ, pos, negsuc}
 use lib.Dec.{T, leb, ltb, eqb, leb→le, ltb→lt, eqb→eq}
 use lib.Pow.{pow-add, pow-pos}
-use lib.Ieee.{Float, nan, inf, fin, Format, prec, emax, low, up, down, hid, top, size, odd, units, round, fits, toBits}
+use lib.Ieee.{Float, nan, inf, fin, Format, binary64, binary32, prec, emax, low, up, down, hid, top, size, odd, units, round, fits, toBits}
 use lib.Ieee.Bits.{ofBits-toBits}
 use lib.Ieee.Digits.{back}
 use lib.Ieee.Exact.{HasValue, round-exact}
@@ -14,7 +14,7 @@ use lib.Ieee.Fits.{and-l, and-r, down-pos, round-fits, round-is}
 use lib.Ieee.Nearest.{div-same}
 use lib.Ieee.Order.{drop, kept}
 use lib.Ieee.Positive.{num, den}
-use lib.Ieee.Scale.{finite, grid, overflow}
+use lib.Ieee.Scale.{finite, grid, overflow, round-same}
 use Rattle.ieee.proofs.Numbers.{pow-le-back}
 
 -- ---- the pattern by the value
@@ -124,3 +124,11 @@ finite-units f s q k = go (ltb (q * 2 ^ k) (overflow f))
 pub finite-is : (f : Format) (s : Bool) (a b : ℕ) → finite (round f s a b) ≡ ltb (grid f a b) (overflow f)
 finite-is f s a b =
     let n = a * 2 ^ low f in ap finite (round-is f s a b) ∙ finite-units f s (kept (prec f) n b) (drop (prec f) n b)
+
+-- nothing is a zero of the sign
+pub round-zero : (f : Format) (s : Bool) (c : ℕ) → 0 < c → round f s 0 c ≡ fin s 0 (pos 0)
+round-zero f s c C = round-same f s 0 c 0 1 C (pow-pos 0) (zero-mul 1 ∙ sym (zero-mul c)) ∙ at f
+  where
+    at : (f : Format) → round f s 0 1 ≡ fin s 0 (pos 0)
+    at binary32 = unfold round in refl
+    at binary64 = unfold round in refl

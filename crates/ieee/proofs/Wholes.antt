@@ -14,7 +14,7 @@ away-lo a p c q C h = omega (arith, mul-le-mul-right c h)
 away-hi : (a p c q : ℕ) → 0 < c → a + p < (q + 1) * suc p → a * c + (suc p * c - 1) < (q + 1) * (suc p * c)
 away-hi a p c q C h = omega (arith, mul-le-mul-right c h)
 
-scaled : (w : Way) (a b c : ℕ) → 0 < b → 0 < c → toWhole w (a * c) (b * c) ≡ toWhole w a b
+pub scaled : (w : Way) (a b c : ℕ) → 0 < b → 0 < c → toWhole w (a * c) (b * c) ≡ toWhole w a b
 scaled cut a b c B C = mul-div-mul-right a b C
 scaled away a zero c B C = absurd (omega arith)
 scaled away a (suc p) c B C =

@@ -1,10 +1,11 @@
 -- What the contracts of `floats` cite, one idea a file, over both formats; `Examples` tries each on a few values.
--- A conversion to an integer is the model's own `toSigned` or `toUnsigned`, a pattern its `toBits` and `ofBits`.
+-- `WholeNumber` says what the laws on whole numbers suppose. A conversion to an integer is the model's own `toSigned` or `toUnsigned`, a pattern its `toBits` and `ofBits`.
 pub mod Magnitude
 pub mod Order
 pub mod Integral
 pub mod Rounded
 pub mod Root
+pub mod WholeNumber
 pub mod Nearest
 pub mod Cube
 pub mod Fields

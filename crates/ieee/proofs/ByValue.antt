@@ -1,11 +1,10 @@
 -- An operation on finite floats goes by their values alone, whatever fractions these are written as. Assumes nothing.
 use mathlib.Core.Path.{_≡_, refl, sym, _∙_, ap}
 use mathlib.Core.Bool.{Bool, true, false, not, _&&_, _||_}
-use Prim.Native.Nat.{ℕ, _+_, _-_, _*_, _≤_, _<_}
-use native.Mathlib.Nat.{add-mul, eq-of-mul-eq-mul-right, mul-assoc, mul-comm, mul-le-mul-right, mul-lt-mul-of-pos-right, mul-mul-mul-comm, mul-pos, mul-right-comm, mul-sub, zero-mul}
-use native.Mathlib.Decide.{decLt, ℕ-discrete}
+use Prim.Native.Nat.{ℕ, _+_, _-_, _*_, _<_}
+use native.Mathlib.Nat.{add-mul, mul-assoc, mul-comm, mul-mul-mul-comm, mul-pos, mul-right-comm, zero-mul}
 use native.Mathlib.Omega.{arith}
-use borrow.Author.Tests.{lt-ltb, le-ltb, eq-eqb, ne-eqb}
+use borrow.Author.Tests.{ne-eqb}
 use lib.Dec.{T, ltb, eqb}
 use lib.IntN.{ℤ}
 use lib.Ieee.{Float, nan, inf, fin, Format, up, down, unlike, round, sum, add, sub, mul, div, neg, below, level, lt, eq, le, isNan}
@@ -15,25 +14,9 @@ use lib.Ieee.Positive.{first-pos}
 use lib.Ieee.Scale.{round-same}
 use Rattle.ieee.specs.Magnitude.{magnitude}
 use Rattle.ieee.specs.Rounded.{rounded}
+use Rattle.ieee.proofs.Scales.{eqb-scaled, ltb-scaled, sub-scaled}
 
 -- ---- a common factor goes away
-pub ltb-scaled : (a b k : ℕ) → 0 < k → ltb (a * k) (b * k) ≡ ltb a b
-ltb-scaled a b k K =
-    elim (decLt a b) [
-      | yes h ↦ lt-ltb (a * k) (b * k) (mul-lt-mul-of-pos-right h K) ∙ sym (lt-ltb a b h)
-      | no g ↦ let h : b ≤ a = omega arith in le-ltb (a * k) (b * k) (mul-le-mul-right k h) ∙ sym (le-ltb a b h)
-    ]
-
-pub eqb-scaled : (a b k : ℕ) → 0 < k → eqb (a * k) (b * k) ≡ eqb a b
-eqb-scaled a b k K =
-    elim (ℕ-discrete a b) [
-      | yes h ↦ eq-eqb (a * k) (b * k) (rw h) ∙ sym (eq-eqb a b h)
-      | no g ↦ ne-eqb (a * k) (b * k) (λ e. g (eq-of-mul-eq-mul-right k K a b e)) ∙ sym (ne-eqb a b g)
-    ]
-
-sub-scaled : (a b k : ℕ) → a * k - b * k ≡ (a - b) * k
-sub-scaled a b k = rw (mul-comm a k, mul-comm b k, mul-comm (a - b) k) (sym (mul-sub k a b))
-
 -- F of a / c and b / c stands such a factor, so it goes by the fractions' values
 module _ {X : Type 0} (F : ℕ → ℕ → ℕ → X) (scaled : (a b c k : ℕ) → 0 < c → 0 < k → F (a * k) (b * k) (c * k) ≡ F a b c) where
   same : (a b c a′ b′ c′ : ℕ) → 0 < c → 0 < c′ → a * c′ ≡ a′ * c → b * c′ ≡ b′ * c → F a b c ≡ F a′ b′ c′

@@ -11,7 +11,8 @@ use lib.Ieee.{Float, nan, inf, fin, up, down, le, toSigned, toUnsigned}
 use lib.Ieee.Fits.{down-pos}
 use lib.Ieee.Nearest.{div-mono}
 use Rattle.ieee.specs.WholeNumber.{signed}
-use Rattle.ieee.proofs.Monotone.{AtMost, at-most, no-factor}
+use Rattle.ieee.proofs.Monotone.{no-factor}
+use Rattle.ieee.proofs.SignedOrder.{AtMost, at-most}
 
 -- ---- the whole part of a size, up to an end n of the range
 upTo : ℕ → ℕ → ℤ → ℕ

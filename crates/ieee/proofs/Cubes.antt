@@ -9,7 +9,7 @@ use lib.Ieee.{Float, nan, inf, fin, up, down}
 use lib.Ieee.Exact.{HasValue}
 use lib.Ieee.Fits.{down-pos}
 use Rattle.ieee.specs.Cube.{cubeAbove}
-use Rattle.ieee.proofs.Scales.{lt-scaled}
+use Rattle.ieee.proofs.Scales.{ltb-scaled}
 
 -- ---- two finite values m / d and n / e, which are a / c and b / c
 module _ (m d n e a b c : ℕ) (first : m * c ≡ a * d) (second : n * c ≡ b * e) where
@@ -33,9 +33,9 @@ module _ (m d n e a b c : ℕ) (first : m * c ≡ a * d) (second : n * c ≡ b *
 
   over-common : 0 < d → 0 < e → 0 < c → ltb (n * n * (d * d * d)) (8 * (m * m * m) * (e * e)) ≡ ltb (b * b * c) (8 * (a * a * a))
   over-common D E C =
-      lt-scaled (n * n * (d * d * d)) (8 * (m * m * m) * (e * e)) (c * c * c) (mul-pos (mul-pos C C) C)
+      sym (ltb-scaled (n * n * (d * d * d)) (8 * (m * m * m) * (e * e)) (c * c * c) (mul-pos (mul-pos C C) C))
       ∙ rw (square-scaled, cube-scaled)
-      (sym (lt-scaled (b * b * c) (8 * (a * a * a)) (d * d * d * (e * e)) (mul-pos (mul-pos (mul-pos D D) D) (mul-pos E E))))
+      (ltb-scaled (b * b * c) (8 * (a * a * a)) (d * d * d * (e * e)) (mul-pos (mul-pos (mul-pos D D) D) (mul-pos E E)))
 
 pub cube-sizes : (s p : Float) (t : Bool) (a b c : ℕ) → 0 < c → HasValue s false a c → HasValue p t b c
     → ltb (b * b * c) (8 * (a * a * a)) ≡ cubeAbove s p

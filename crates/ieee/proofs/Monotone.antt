@@ -4,7 +4,7 @@ use mathlib.Core.Bool.{Bool, true, false, not, cond, _||_}
 use Prim.Native.Nat.{ℕ, zero, suc, _+_, _-_, _*_, _≤_, _<_, zero-le}
 use native.Mathlib.Nat.{mul-comm, mul-le-mul-right, mul-pos, zero-lt-suc, zero-mul}
 use native.Mathlib.Omega.{arith}
-use lib.Dec.{T, leb→le, lit<}
+use lib.Dec.{T, lit<}
 use lib.IntN.{ℤ, pos}
 use lib.Ieee.{Float, nan, inf, fin, Format, up, down, round, neg, below, level, le, isNan}
 use lib.Ieee.Fits.{down-pos}
@@ -14,7 +14,7 @@ use Rattle.ieee.specs.Integral.{Way, cut, away, half, toWhole, integral}
 use Rattle.ieee.specs.Rounded.{rounded}
 use Rattle.ieee.proofs.Comparison.{le-left, le-right, le-trans}
 use Rattle.ieee.proofs.Negation.{le-neg}
-use Rattle.ieee.proofs.Ranks.{le-rank, rank}
+use Rattle.ieee.proofs.SignedOrder.{AtMost, at-most}
 use Rattle.ieee.proofs.Signs.{round-neg}
 use Rattle.ieee.proofs.Values.{round-zero}
 use Rattle.ieee.proofs.Wholes.{scaled, whole-one, whole-same}
@@ -42,26 +42,6 @@ round-number f true a c C = le-left (round f true a c) (fin true 0 (pos 0)) (min
 pub no-factor : (a d : ℕ) → 0 < d → a * d ≡ 0 → a ≡ 0
 no-factor zero d D h = refl
 no-factor (suc a) d D h = absurd (omega (arith, mul-pos (zero-lt-suc a) D))
-
--- what ±A <= ±B says of the sizes
-unfoldable pub AtMost : Bool → ℕ → Bool → ℕ → Type 0
-AtMost false a false b = a ≤ b
-AtMost false a true b = (a ≡ 0) × (b ≡ 0)
-AtMost true a false b = 0 ≤ a
-AtMost true a true b = b ≤ a
-
-pub at-most-ranks : (n : ℕ) (s : Bool) (a : ℕ) (t : Bool) (b : ℕ) → a ≤ n → b ≤ n → rank n s a ≤ rank n t b → AtMost s a t b
-unfolding AtMost
-at-most-ranks n false a false b A B l = omega arith
-at-most-ranks n false a true b A B l = (omega arith, omega arith)
-at-most-ranks n true a false b A B l = omega arith
-at-most-ranks n true a true b A B l = omega arith
-
-pub at-most : (s : Bool) (a : ℕ) (t : Bool) (b : ℕ) → T (below s a t b || level s a t b) → AtMost s a t b
-at-most s a t b h =
-    let A : a ≤ a + b = omega arith in
-    let B : b ≤ a + b = omega arith in
-    at-most-ranks (a + b) s a t b A B (leb→le (rank (a + b) s a) (rank (a + b) t b) (rw (le-rank (a + b) a b A B s t) at h))
 
 pub rises : (f : Format) (s : Bool) (a c : ℕ) (t : Bool) (b d : ℕ) → 0 < c → 0 < d → AtMost s (a * d) t (b * c) → T (le (round f s a c) (round f t b d))
 unfolding AtMost

@@ -1,8 +1,8 @@
 -- A sum rises with each term, a product or a quotient by a value above zero with the other operand, whatever the signs. Assumes nothing.
 use mathlib.Core.Path.{_≡_, refl}
 use mathlib.Core.Bool.{Bool, true, false, not}
-use Prim.Native.Nat.{ℕ, _+_, _*_, _≤_, _<_, zero-le}
-use native.Mathlib.Nat.{mul-le-mul-right, mul-mul-mul-comm, mul-pos, zero-mul}
+use Prim.Native.Nat.{ℕ, _+_, _*_, _≤_, _<_}
+use native.Mathlib.Nat.{mul-mul-mul-comm, mul-pos}
 use native.Mathlib.Omega.{arith}
 use borrow.Author.Tests.{ne-eqb}
 use lib.Dec.{T, leb→le, ltb→lt}
@@ -13,20 +13,14 @@ use lib.Ieee.Fits.{down-pos, up-pos}
 use lib.Ieee.Positive.{positive}
 use lib.Ieee.Scale.{finite}
 use Rattle.ieee.proofs.ByValue.{add-values, le-values}
-use Rattle.ieee.proofs.Monotone.{AtMost, at-most-ranks, mono-finite, mono-round, rises, round-number}
+use Rattle.ieee.proofs.Monotone.{mono-finite, mono-round, rises, round-number}
 use Rattle.ieee.proofs.NegatedSum.{add-commutes}
 use Rattle.ieee.proofs.Negation.{le-neg}
 use Rattle.ieee.proofs.Ranks.{le-rank, rank}
+use Rattle.ieee.proofs.SignedOrder.{at-most-ranks, at-most-scaled}
 use Rattle.ieee.proofs.Totals.{total-of}
 
 -- ---- by a factor above zero
-at-most-scaled : (k : ℕ) (s : Bool) (a : ℕ) (t : Bool) (b : ℕ) → AtMost s a t b → AtMost s (a * k) t (b * k)
-unfolding AtMost
-at-most-scaled k false a false b h = mul-le-mul-right k h
-at-most-scaled k false a true b h = (rw (h .0) (zero-mul k), rw (h .1) (zero-mul k))
-at-most-scaled k true a false b h = zero-le
-at-most-scaled k true a true b h = mul-le-mul-right k h
-
 unlike-plus : (s : Bool) → unlike s false ≡ s
 unlike-plus true = refl
 unlike-plus false = refl

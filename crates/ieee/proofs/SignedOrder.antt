@@ -1,85 +1,75 @@
--- `<=` of two finite floats by their signs and any fractions that their sizes equal. Assumes nothing.
-use mathlib.Core.Path.{_≡_, refl, sym, ap, _∙_}
-use mathlib.Core.Bool.{Bool, true, false, not}
-use Prim.Native.Nat.{ℕ, _+_, _*_, _≤_, _<_}
-use native.Mathlib.Nat.{mul-pos}
+-- What `<=` of two finite floats says of their signs and sizes, by any fractions that the sizes equal. Assumes nothing.
+use mathlib.Core.Path.{_≡_, subst}
+use mathlib.Core.Bool.{Bool, true, false, _||_}
+use Prim.Native.Nat.{ℕ, _+_, _*_, _≤_, _<_, zero-le}
+use native.Mathlib.Nat.{mul-comm, mul-le-mul-right, mul-pos, zero-mul}
 use native.Mathlib.Omega.{arith}
-use borrow.Author.Tests.{le-ltb, ltb-false}
-use lib.Dec.{T}
-use lib.Ieee.{Float, nan, inf, fin, up, down, below, lt, le, isNan}
+use lib.Dec.{T, leb→le, le→leb}
+use lib.Ieee.{Float, below, level, le}
 use lib.Ieee.Exact.{HasValue}
-use lib.Ieee.Fits.{down-pos}
-use Rattle.ieee.proofs.Comparison.{le-of-not-lt, lt-not-le}
-use Rattle.ieee.proofs.Numbers.{as-eq, as-le}
+use Rattle.ieee.proofs.ByValue.{le-values, scale-value}
+use Rattle.ieee.proofs.Ranks.{le-rank, rank}
 
 -- ±a is at most ±b; a zero has either sign
-abbrev pub Ordered : Bool → ℕ → Bool → ℕ → Type 0
-Ordered false a false b = a ≤ b
-Ordered false a true b = a + b ≡ 0
-Ordered true a false b = Unit {0}
-Ordered true a true b = b ≤ a
+unfoldable pub AtMost : Bool → ℕ → Bool → ℕ → Type 0
+AtMost false a false b = a ≤ b
+AtMost false a true b = (a ≡ 0) × (b ≡ 0)
+AtMost true a false b = 0 ≤ a
+AtMost true a true b = b ≤ a
 
-pub ordered-self : (s : Bool) (a : ℕ) → Ordered s a s a
-ordered-self false a = omega arith
-ordered-self true a = omega arith
+pub at-most-self : (s : Bool) (a : ℕ) → AtMost s a s a
+unfolding AtMost
+at-most-self false a = omega arith
+at-most-self true a = omega arith
 
--- `below` says the opposite
-not-below : (s : Bool) (a : ℕ) (t : Bool) (b : ℕ) → below t b s a ≡ false → Ordered s a t b
-not-below false a false b h = ltb-false b a h
-not-below false a true b h = omega (arith, ltb-false 0 (b + a) h)
-not-below true a false b h = tt
-not-below true a true b h = ltb-false a b h
+pub at-most-scaled : (k : ℕ) (s : Bool) (a : ℕ) (t : Bool) (b : ℕ) → AtMost s a t b → AtMost s (a * k) t (b * k)
+unfolding AtMost
+at-most-scaled k false a false b h = mul-le-mul-right k h
+at-most-scaled k false a true b h = (rw (h .0) (zero-mul k), rw (h .1) (zero-mul k))
+at-most-scaled k true a false b h = zero-le
+at-most-scaled k true a true b h = mul-le-mul-right k h
 
-below-not : (s : Bool) (a : ℕ) (t : Bool) (b : ℕ) → Ordered s a t b → below t b s a ≡ false
-below-not false a false b h = le-ltb b a h
-below-not false a true b h = le-ltb 0 (b + a) (omega arith)
-below-not true a false b h = refl
-below-not true a true b h = le-ltb a b h
+-- ---- as ranks
+pub at-most-ranks : (n : ℕ) (s : Bool) (a : ℕ) (t : Bool) (b : ℕ) → a ≤ n → b ≤ n → rank n s a ≤ rank n t b → AtMost s a t b
+unfolding AtMost
+at-most-ranks n false a false b A B l = omega arith
+at-most-ranks n false a true b A B l = (omega arith, omega arith)
+at-most-ranks n true a false b A B l = omega arith
+at-most-ranks n true a true b A B l = omega arith
 
-in-proportion : (s t : Bool) (l d x X y Y : ℕ) → 0 < l → x * l ≡ X * d → y * l ≡ Y * d → Ordered s X t Y → Ordered s x t y
-in-proportion false false l d x X y Y L p q h = as-le l d x X y Y p q L h
-in-proportion false true l d x X y Y L p q h = as-eq l d (x + y) (X + Y) 0 0 (omega arith) (omega arith) L h
-in-proportion true false l d x X y Y L p q h = tt
-in-proportion true true l d x X y Y L p q h = as-le l d y Y x X q p L h
+ranks-at-most : (n : ℕ) (s : Bool) (a : ℕ) (t : Bool) (b : ℕ) → a ≤ n → b ≤ n → AtMost s a t b → rank n s a ≤ rank n t b
+unfolding AtMost
+ranks-at-most n false a false b A B h = omega arith
+ranks-at-most n false a true b A B h = let x = h .0 in let y = h .1 in omega arith
+ranks-at-most n true a false b A B h = omega arith
+ranks-at-most n true a true b A B h = omega arith
 
-not-true : (b : Bool) → T b → not b ≡ false
-not-true true t = refl
-not-true false t = absurd t
+-- ---- as the model's test
+module _ (s : Bool) (a : ℕ) (t : Bool) (b : ℕ) where
+  abbrev Test : Bool
+  Test = below s a t b || level s a t b
 
--- ---- a / c and b / d
--- m / e is a / c and n / g is b / d, so both are in one proportion over common denominators
-crossed : (m e a c g d : ℕ) → m * c ≡ a * e → m * g * (c * d) ≡ a * d * (e * g)
-crossed m e a c g d h = omega (arith, ap (λ (z : ℕ). z * (g * d)) h)
+  A : a ≤ a + b
+  A = omega arith
 
-crossed-too : (n g b d e c : ℕ) → n * d ≡ b * g → n * e * (c * d) ≡ b * c * (e * g)
-crossed-too n g b d e c h = omega (arith, ap (λ (z : ℕ). z * (e * c)) h)
+  B : b ≤ a + b
+  B = omega arith
 
-module _ (s t : Bool) (a c b d : ℕ) (C : 0 < c) (D : 0 < d) where
-  pub ordered-of-le : (x y : Float) → HasValue x s a c → HasValue y t b d → T (le x y) → Ordered s (a * d) t (b * c)
-  unfolding lt isNan
-  ordered-of-le nan y p q h = absurd p
-  ordered-of-le (inf z) y p q h = absurd p
-  ordered-of-le (fin z m e) nan p q h = absurd q
-  ordered-of-le (fin z m e) (inf w) p q h = absurd q
-  ordered-of-le (fin z m e) (fin w n g) p q h =
-      let M = m * up e * down g in
-      let N = n * up g * down e in
-      let two : Ordered s M t N =
-      rw (← p .0, ← q .0) (not-below z M w N (lt-not-le (fin z m e) (fin w n g) tt tt ∙ not-true (le (fin z m e) (fin w n g)) h)) in
-      in-proportion s t (down e * down g) (c * d) (a * d) M (b * c) N (mul-pos (down-pos e) (down-pos g))
-      (sym (crossed (m * up e) (down e) a c (down g) d (p .1))) (sym (crossed-too (n * up g) (down g) b d (down e) c (q .1))) two
+  pub at-most : T Test → AtMost s a t b
+  at-most h = at-most-ranks (a + b) s a t b A B (leb→le (rank (a + b) s a) (rank (a + b) t b) (rw (le-rank (a + b) a b A B s t) at h))
 
-  pub le-of-ordered : (x y : Float) → HasValue x s a c → HasValue y t b d → Ordered s (a * d) t (b * c) → T (le x y)
-  unfolding lt isNan
-  le-of-ordered nan y p q h = absurd p
-  le-of-ordered (inf z) y p q h = absurd p
-  le-of-ordered (fin z m e) nan p q h = absurd q
-  le-of-ordered (fin z m e) (inf w) p q h = absurd q
-  le-of-ordered (fin z m e) (fin w n g) p q h =
-      let M = m * up e * down g in
-      let N = n * up g * down e in
-      let two : Ordered z M w N =
-      rw (p .0, q .0)
-      (in-proportion s t (c * d) (down e * down g) M (a * d) N (b * c) (mul-pos C D) (crossed (m * up e) (down e) a c (down g) d (p .1))
-      (crossed-too (n * up g) (down g) b d (down e) c (q .1)) h) in
-      le-of-not-lt (fin z m e) (fin w n g) tt tt (below-not z M w N two)
+  at-most-test : AtMost s a t b → T Test
+  at-most-test h = rw (le-rank (a + b) a b A B s t) (le→leb (rank (a + b) s a) (rank (a + b) t b) (ranks-at-most (a + b) s a t b A B h))
+
+-- ---- of x = ±a / c and y = ±b / d
+module _ (s t : Bool) (a c b d : ℕ) (C : 0 < c) (D : 0 < d) (x y : Float) (h : HasValue x s a c) (k : HasValue y t b d) where
+  le-is : le x y ≡ Test s (a * d) t (b * c)
+  le-is =
+      le-values x y s (a * d) t (b * c) (c * d) (mul-pos C D) (scale-value x s a c d h)
+      (subst (λ (z : ℕ). HasValue y t (b * c) z) (mul-comm d c) (scale-value y t b d c k))
+
+  pub at-most-of-le : T (le x y) → AtMost s (a * d) t (b * c)
+  at-most-of-le l = at-most s (a * d) t (b * c) (rw le-is at l)
+
+  pub le-of-at-most : AtMost s (a * d) t (b * c) → T (le x y)
+  le-of-at-most l = rw le-is (at-most-test s (a * d) t (b * c) l)

@@ -1,31 +1,26 @@
 -- `integral` is exact: so floor, ceiling and half-away rounding are the whole numbers that they are meant to be. Assumes nothing.
 -- The whole number next to a value of a format is a value of the format too.
-use mathlib.Core.Path.{_≡_, refl, sym, ap, _∙_, subst}
+use mathlib.Core.Path.{_≡_, refl, sym, ap, _∙_}
 use mathlib.Core.Bool.{Bool, true, false, cond}
-use Prim.Native.Nat.{ℕ, suc, _-_, _*_, _/_, _%_, _^_, _≤_, _<_}
-use native.Mathlib.Nat.{add-comm, div-add-mod', div-lt-iff-lt-mul, lt-of-lt-of-le, mul-le-mul-left, mul-mod-left, mul-one}
+use Prim.Native.Nat.{ℕ, suc, _-_, _*_, _/_, _%_, _^_, _≤_, _<_, zero-le}
+use native.Mathlib.Nat.{div-lt-iff-lt-mul, mul-le-mul-left, mul-mod-left, mul-one}
 use native.Mathlib.Omega.{arith}
 use lib.IntN.{ℤ, pos, negsuc}
 use lib.Dec.{T}
-use lib.Pow.{pow-mono, pow-pos, shl-lt}
-use lib.Ieee.{Float, nan, inf, fin, Format, prec, emax, low, up, down, hid, round, fits}
+use lib.Pow.{pow-mono, pow-pos}
+use lib.Ieee.{Float, nan, inf, fin, Format, prec, up, down, hid, fits}
+use lib.Ieee.Back.{round-whole}
 use lib.Ieee.Exact.{HasValue, round-exact}
-use lib.Ieee.Fits.{down-pos, reach, two}
-use lib.Ieee.Scale.{finite, overflow}
+use lib.Ieee.Fits.{down-pos, two}
+use lib.Ieee.Scale.{finite}
 use Rattle.ieee.specs.Integral.{GreatestBelow, HalfAway, NoFraction, LeastAbove, Way, cut, away, half, toWhole, integral, floor, ceiling, halfAway}
 use Rattle.ieee.proofs.Numbers.{pow-half}
-use Rattle.ieee.proofs.SignedOrder.{Ordered, le-of-ordered, ordered-of-le, ordered-self}
+use Rattle.ieee.proofs.SignedOrder.{AtMost, at-most-of-le, at-most-self, le-of-at-most}
 use Rattle.ieee.proofs.Values.{in-units, short}
+use Rattle.ieee.proofs.WholeFloats.{no-rest}
 use Rattle.ieee.proofs.Wholes.{away-iff, cut-iff, half-away, none-iff, whole-le, whole-one}
 
 -- ---- nothing is rounded
--- a whole number of no more digits than the format keeps
-few-exact : (f : Format) (s : Bool) (w : ℕ) → w < 2 ^ prec f → HasValue (round f s w 1) s w 1
-few-exact f s w h =
-    let room : w * 2 ^ low f < overflow f =
-    subst (λ (z : ℕ). w * 2 ^ low f < 2 ^ z) (add-comm (suc (emax f)) (low f)) (shl-lt (suc (emax f)) (low f) (lt-of-lt-of-le h (pow-mono (reach f)))) in
-    round-exact f s w 1 w (low f) (pow-pos 0) h room (sym (mul-one (w * 2 ^ low f)))
-
 -- m / n for m of p digits and n from 2 on is less than half of 2 ^ p
 half-less : (m h n : ℕ) → m < 2 * h → 2 ≤ n → m < h * n
 half-less m h n l g = omega (arith, mul-le-mul-left h g)
@@ -42,13 +37,13 @@ integral-exact f above below s m (negsuc k) t =
     let l : m * 1 / c < hid f =
     div-lt-iff-lt-mul (pow-pos (suc k)) .1 (half-less (m * 1) (hid f) c (omega (arith, short f s m (negsuc k) t)) (pow-mono {i =
     1} (omega arith))) in
-    few-exact f s (toWhole (cond s below above) (m * 1) c) (omega (arith, whole-le (cond s below above) (m * 1) c (pow-pos (suc k)), pow-pos (prec f - 1)))
+    round-whole f s (toWhole (cond s below above) (m * 1) c) (omega (arith, whole-le (cond s below above) (m * 1) c (pow-pos (suc k)), pow-pos (prec f - 1)))
 
 -- ---- whole numbers
 whole-value : (z : Float) → NoFraction z → (t : Bool) × (p : ℕ) × HasValue z t p 1
 whole-value nan w = absurd (w .0)
 whole-value (inf s) w = absurd (w .0)
-whole-value (fin s m e) w = (s, m * up e / down e, (refl, omega (arith, div-add-mod' (m * up e) (down e), w .1)))
+whole-value (fin s m e) w = (s, m * up e / down e, no-rest s m e (w .1))
 
 no-fraction : (r : Float) (s : Bool) (w : ℕ) → HasValue r s w 1 → NoFraction r
 no-fraction nan s w h = absurd h
@@ -56,18 +51,23 @@ no-fraction (inf t) s w h = absurd h
 no-fraction (fin t m e) s w h = (tt, ap (λ (z : ℕ). z % down e) (sym (mul-one (m * up e)) ∙ h .1) ∙ mul-mod-left w (down e))
 
 -- ---- ±p against ±a / b is ±p against the whole number that a / b becomes
+flip : {A B : Type 0} → A × B → B × A
+flip h = (h .1, h .0)
+
 floor-iff : (t s : Bool) (p a b : ℕ) → 0 < b
-    → (Ordered t (p * b) s a → Ordered t p s (toWhole (cond s away cut) a b)) × (Ordered t p s (toWhole (cond s away cut) a b) → Ordered t (p * b) s a)
+    → (AtMost t (p * b) s a → AtMost t p s (toWhole (cond s away cut) a b)) × (AtMost t p s (toWhole (cond s away cut) a b) → AtMost t (p * b) s a)
+unfolding AtMost
 floor-iff false false p a b B = cut-iff a b p B
 floor-iff false true p a b B = none-iff a b p B
-floor-iff true false p a b B = (λ h. tt, λ h. tt)
+floor-iff true false p a b B = (λ h. zero-le, λ h. zero-le)
 floor-iff true true p a b B = away-iff a b p B
 
 ceiling-iff : (t s : Bool) (p a b : ℕ) → 0 < b
-    → (Ordered s a t (p * b) → Ordered s (toWhole (cond s cut away) a b) t p) × (Ordered s (toWhole (cond s cut away) a b) t p → Ordered s a t (p * b))
+    → (AtMost s a t (p * b) → AtMost s (toWhole (cond s cut away) a b) t p) × (AtMost s (toWhole (cond s cut away) a b) t p → AtMost s a t (p * b))
+unfolding AtMost
 ceiling-iff false false p a b B = away-iff a b p B
-ceiling-iff true false p a b B = (λ h. omega (arith, none-iff a b p B .0 (omega arith)), λ h. omega (arith, none-iff a b p B .1 (omega arith)))
-ceiling-iff false true p a b B = (λ h. tt, λ h. tt)
+ceiling-iff true false p a b B = (λ h. flip (none-iff a b p B .0 (h .1, h .0)), λ h. flip (none-iff a b p B .1 (h .1, h .0)))
+ceiling-iff false true p a b B = (λ h. zero-le, λ h. zero-le)
 ceiling-iff true true p a b B = cut-iff a b p B
 
 -- ---- floor and ceiling
@@ -88,11 +88,11 @@ module _ (f : Format) (s : Bool) (m : ℕ) (e : ℤ) (t : T (fits f (fin s m e))
       let B = down-pos e in
       record {
         whole = no-fraction (floor f x) s w is;
-        at-most = le-of-ordered s s w 1 a b (pow-pos 0) B (floor f x) x is (refl, refl) (rw (mul-one a) (floor-iff s s w a b B .1 (ordered-self s w)));
+        at-most = le-of-at-most s s w 1 a b (pow-pos 0) B (floor f x) x is (refl, refl) (rw (mul-one a) (floor-iff s s w a b B .1 (at-most-self s w)));
         greatest = λ z i h.
             let v = whole-value z i in
-            let o = ordered-of-le (v .0) s (v .1) 1 a b (pow-pos 0) B z x (v .2) (refl, refl) h in
-            le-of-ordered (v .0) s (v .1) 1 w 1 (pow-pos 0) (pow-pos 0) z (floor f x) (v .2) is
+            let o = at-most-of-le (v .0) s (v .1) 1 a b (pow-pos 0) B z x (v .2) (refl, refl) h in
+            le-of-at-most (v .0) s (v .1) 1 w 1 (pow-pos 0) (pow-pos 0) z (floor f x) (v .2) is
             (rw (mul-one (v .1), mul-one w) (floor-iff (v .0) s (v .1) a b B .0 (rw (mul-one a) at o)));
       }
 
@@ -103,11 +103,11 @@ module _ (f : Format) (s : Bool) (m : ℕ) (e : ℤ) (t : T (fits f (fin s m e))
       let B = down-pos e in
       record {
         whole = no-fraction (ceiling f x) s w is;
-        at-least = le-of-ordered s s a b w 1 B (pow-pos 0) x (ceiling f x) (refl, refl) is (rw (mul-one a) (ceiling-iff s s w a b B .1 (ordered-self s w)));
+        at-least = le-of-at-most s s a b w 1 B (pow-pos 0) x (ceiling f x) (refl, refl) is (rw (mul-one a) (ceiling-iff s s w a b B .1 (at-most-self s w)));
         least = λ z i h.
             let v = whole-value z i in
-            let o = ordered-of-le s (v .0) a b (v .1) 1 B (pow-pos 0) x z (refl, refl) (v .2) h in
-            le-of-ordered s (v .0) w 1 (v .1) 1 (pow-pos 0) (pow-pos 0) (ceiling f x) z is (v .2)
+            let o = at-most-of-le s (v .0) a b (v .1) 1 B (pow-pos 0) x z (refl, refl) (v .2) h in
+            le-of-at-most s (v .0) w 1 (v .1) 1 (pow-pos 0) (pow-pos 0) (ceiling f x) z is (v .2)
             (rw (mul-one (v .1), mul-one w) (ceiling-iff (v .0) s (v .1) a b B .0 (rw (mul-one a) at o)));
       }
 

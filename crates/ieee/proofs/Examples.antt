@@ -8,7 +8,7 @@ use Rattle.ieee.specs.Magnitude.{magnitude}
 use Rattle.ieee.specs.Order.{least, greatest}
 use Rattle.ieee.specs.Root.{closestRoot, digits, floorRoot, root, rootRound}
 use Rattle.ieee.specs.Rounded.{rounded}
-use Rattle.ieee.proofs.Signs.{sign-cleared}
+use Rattle.ieee.proofs.Patterns.Signs.{sign-cleared}
 
 pub examples : Examples
 unfolding isNan lt ofBits round toBits toSigned toUnsigned integral rounded size units digits floorRoot closestRoot rootRound root magnitude least greatest cubeAbove

@@ -1,5 +1,6 @@
--- What the contracts of `floats` cite, one idea a file, over both formats; `Examples` tries each on a few values.
--- `WholeNumber` says what the laws on whole numbers suppose. A conversion to an integer is the model's own `toSigned` or `toUnsigned`, a pattern its `toBits` and `ofBits`.
+-- What the contracts of `floats` cite, one idea a file, over both formats; `Nearest` and the records of `Integral` say what that is worth to a
+-- reader, `Answers` that it leaves no choice, and `Examples` tries each on a few values. `WholeNumber` says what the laws on whole numbers suppose.
+-- A conversion to an integer is the model's own `toSigned` or `toUnsigned`, a pattern its `toBits` and `ofBits`.
 pub mod Magnitude
 pub mod Order
 pub mod Integral
@@ -8,5 +9,6 @@ pub mod Root
 pub mod WholeNumber
 pub mod Nearest
 pub mod Cube
+pub mod Answers
 pub mod Fields
 pub mod Examples

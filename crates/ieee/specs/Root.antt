@@ -33,7 +33,7 @@ rootRound f num den =
     let k = size (floorRoot (n / den)) - prec f in
     units f false (closestRoot n (den * (2 ^ k * 2 ^ k))) k
 
--- IEEE 754-2019 5.4.1, squareRoot: of -0 it is -0, and of any other number below zero a NaN.
+-- IEEE 754-2019 5.4.1, squareRoot: of -0 it is -0, and of any other number below zero a NaN. (`root-nearest`: no value of the format is nearer.)
 unfoldable pub root : Format → Float → Float
 root f nan = nan
 root f (inf s) = cond s nan (inf false)

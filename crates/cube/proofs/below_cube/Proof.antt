@@ -7,8 +7,8 @@ use native.Mathlib.Omega.{arith}
 use borrow.Author.Tests.{le-ltb}
 use lib.Dec.{ltb}
 use lib.Pow.{pow-add, pow-pos, shl-exact}
-use Rattle.ieee.proofs.Numbers.{square-below}
-use Rattle.ieee.proofs.Scales.{lt-multiple}
+use Rattle.ieee.proofs.Numbers.Basic.{square-below}
+use Rattle.ieee.proofs.Numbers.Scales.{lt-multiple}
 use Rattle.cube.proofs.below_cube.Statement.{statement}
 use Rattle.cube.proofs.below_cube.Tie as tie
 

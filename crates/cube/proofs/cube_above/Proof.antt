@@ -1,7 +1,7 @@
 -- `cube::cube_above` meets its contract. Assumes nothing.
 use borrow.Author.Needs.{needs}
 use lib.Ieee.{binary32}
-use Rattle.ieee.proofs.Back.{read-back}
+use Rattle.ieee.proofs.Patterns.Back.{read-back}
 use Rattle.cube.proofs.cube_above.Statement.{statement}
 use Rattle.cube.proofs.cube_above.Tie as tie
 

@@ -2,8 +2,8 @@
 use borrow.Author.Needs.{needs}
 use Prim.Native.Nat.{_/_, _%_, _^_}
 use native.Mathlib.Omega.{arith}
-use Rattle.ieee.proofs.CubePatterns.{both-finite, infinite-cube, no-cube, no-square}
-use Rattle.ieee.proofs.Fields.{exp-is}
+use Rattle.ieee.proofs.Patterns.Cube.{both-finite, infinite-cube, no-cube, no-square}
+use Rattle.ieee.proofs.Patterns.Fields.{exp-is}
 use Rattle.cube.proofs.cube_above_bits.Statement.{statement}
 use Rattle.cube.proofs.cube_above_bits.Tie as tie
 

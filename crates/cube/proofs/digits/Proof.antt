@@ -2,7 +2,7 @@
 use borrow.Author.Needs.{needs}
 use native.Mathlib.Omega.{arith}
 use lib.Ieee.{binary32}
-use Rattle.ieee.proofs.Fields.{sig-above, sig-zero}
+use Rattle.ieee.proofs.Patterns.Fields.{sig-above, sig-zero}
 use Rattle.cube.proofs.digits.Statement.{statement}
 use Rattle.cube.proofs.digits.Tie as tie
 

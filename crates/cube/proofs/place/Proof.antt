@@ -2,7 +2,7 @@
 use borrow.Author.Needs.{needs}
 use Prim.Native.Nat.{_/_, _%_, _^_}
 use native.Mathlib.Omega.{arith}
-use Rattle.ieee.proofs.Fields.{exp-is}
+use Rattle.ieee.proofs.Patterns.Fields.{exp-is}
 use Rattle.cube.proofs.place.Statement.{statement}
 use Rattle.cube.proofs.place.Tie as tie
 

@@ -2,7 +2,7 @@
 use borrow.Author.Needs.{needs}
 use mathlib.Core.Path.{sym}
 use native.Mathlib.Nat.{div-eq-of-lt}
-use Rattle.ieee.proofs.Numbers.{below-pow}
+use Rattle.ieee.proofs.Numbers.Basic.{below-pow}
 use Rattle.cube.proofs.shifted_down.Statement.{statement}
 use Rattle.cube.proofs.shifted_down.Tie as tie
 

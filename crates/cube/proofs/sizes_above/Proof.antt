@@ -4,8 +4,8 @@ use mathlib.Core.Path.{_∙_}
 use Prim.Native.Nat.{_*_}
 use native.Mathlib.Nat.{div-le-self, le-of-lt, lt-of-le-of-lt, mul-one}
 use native.Mathlib.Omega.{arith}
-use Rattle.ieee.proofs.CubeSizes.{power-at-cube, power-at-square}
-use Rattle.ieee.proofs.Numbers.{square-below}
+use Rattle.ieee.proofs.Numbers.CubeSizes.{power-at-cube, power-at-square}
+use Rattle.ieee.proofs.Numbers.Basic.{square-below}
 use Rattle.cube.proofs.sizes_above.Statement.{statement}
 use Rattle.cube.proofs.sizes_above.Tie as tie
 

@@ -6,8 +6,8 @@ use Prim.Native.Nat.{ℕ, _+_, _-_, _*_, _/_, _%_, _^_, _≤_, _<_}
 use native.Mathlib.Nat.{pow-succ'}
 use native.Mathlib.Numerals.{add-one}
 use native.Mathlib.Omega.{arith}
-use Rattle.ieee.proofs.Numbers.{below-pow}
-use Rattle.ieee.proofs.Squares.{floorRoot-at}
+use Rattle.ieee.proofs.Numbers.Basic.{below-pow}
+use Rattle.ieee.proofs.Numbers.Squares.{floorRoot-at}
 use Rattle.root.proofs.digit_root.Statement.{statement}
 use Rattle.root.proofs.digit_root.Tie as tie
 

@@ -5,7 +5,7 @@ use native.Mathlib.Nat.{div-add-mod', div-le-of-le-mul, mod-lt, mul-le-mul-left}
 use native.Mathlib.Omega.{arith}
 use borrow.Author.Needs.{needs}
 use Rattle.ieee.specs.Root.{closestRoot}
-use Rattle.ieee.proofs.Squares.{IsRoot, closestRoot-at, floorRoot-is, square-lt}
+use Rattle.ieee.proofs.Numbers.Squares.{IsRoot, closestRoot-at, floorRoot-is, square-lt}
 use Rattle.root.proofs.nearest_root.Statement.{statement}
 use Rattle.root.proofs.nearest_root.Tie as tie
 

@@ -4,8 +4,8 @@ use lib.Ieee.{binary64}
 use lib.Ieee.Bits.{ofBits-toBits}
 use denote.Floats.{passes}
 use Rattle.ieee.specs.Root.{root}
-use Rattle.ieee.proofs.Back.{read-back}
-use Rattle.ieee.proofs.Roots.{root-fits}
+use Rattle.ieee.proofs.Patterns.Back.{read-back}
+use Rattle.ieee.proofs.Values.Root.{root-fits}
 use Rattle.root.proofs.root64.Statement.{statement}
 use Rattle.root.proofs.root64.Tie as tie
 

@@ -1,7 +1,7 @@
 -- `root::root64_bits` meets its contract. Assumes nothing.
 use borrow.Author.Needs.{needs}
 use native.Mathlib.Omega.{arith}
-use Rattle.ieee.proofs.RootPatterns.{above-bits, infinity-bits, nan-bits, zero-bits}
+use Rattle.ieee.proofs.Patterns.Root.{above-bits, infinity-bits, nan-bits, zero-bits}
 use Rattle.root.proofs.root64_bits.Statement.{statement}
 use Rattle.root.proofs.root64_bits.Tie as tie
 

@@ -4,7 +4,7 @@ use Prim.Native.Nat.{ℕ, _+_, _*_, _%_, _^_, _≤_, _<_}
 use native.Mathlib.Nat.{div-one, mul-le-mul-left}
 use native.Mathlib.Omega.{arith}
 use lib.Dec.{lit<}
-use Rattle.ieee.proofs.Squares.{closestRoot-le}
+use Rattle.ieee.proofs.Numbers.Squares.{closestRoot-le}
 use Rattle.root.proofs.root_scaled.Statement.{statement}
 use Rattle.root.proofs.root_scaled.Tie as tie
 

@@ -2,7 +2,7 @@
 use borrow.Author.Needs.{needs}
 use native.Mathlib.Omega.{arith}
 use lib.Count.{leadingZeros}
-use Rattle.ieee.proofs.RootPatterns.{Shifted, normal-root, shifted-out, subnormal-root, uncut}
+use Rattle.ieee.proofs.Patterns.Root.{Shifted, normal-root, shifted-out, subnormal-root, uncut}
 use Rattle.root.proofs.root_size.Statement.{statement}
 use Rattle.root.proofs.root_size.Tie as tie
 

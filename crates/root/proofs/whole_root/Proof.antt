@@ -6,8 +6,8 @@ use Prim.Native.Nat.{_+_, _*_}
 use native.Mathlib.Omega.{arith}
 use lib.Dec.{T, leb, ltb, leb→le, ltb→lt}
 use lib.Ieee.Fits.{and-l, and-r}
-use Rattle.ieee.proofs.Numbers.{square-below}
-use Rattle.ieee.proofs.Squares.{floorRoot-at}
+use Rattle.ieee.proofs.Numbers.Basic.{square-below}
+use Rattle.ieee.proofs.Numbers.Squares.{floorRoot-at}
 use Rattle.root.proofs.whole_root.Statement.{statement}
 use Rattle.root.proofs.whole_root.Tie as tie
 

@@ -1,7 +1,7 @@
 -- `patterns::bits::bits64` meets its contract. Assumes nothing.
 use borrow.Author.Needs.{needs}
 use lib.Ieee.{binary64}
-use Rattle.ieee.proofs.Nan.{differs-bits, same-no-nan}
+use Rattle.ieee.proofs.Patterns.Nan.{differs-bits, same-no-nan}
 use Rattle.patterns.proofs.bits.bits64.Statement.{statement}
 use Rattle.patterns.proofs.bits.bits64.Tie as tie
 

@@ -2,7 +2,7 @@
 use borrow.Author.Needs.{needs}
 use mathlib.Core.Path.{sym}
 use lib.Ieee.{binary32, div, ofBits}
-use Rattle.ieee.proofs.Nan.{above-inf, up-to-inf}
+use Rattle.ieee.proofs.Patterns.Nan.{above-inf, up-to-inf}
 use Rattle.patterns.proofs.bits.f32_of.Statement.{statement}
 use Rattle.patterns.proofs.bits.f32_of.Tie as tie
 

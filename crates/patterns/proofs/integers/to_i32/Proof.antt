@@ -6,7 +6,7 @@ use lib.Dec.{lit≤}
 use lib.Ieee.{neg, ofBits, toSigned}
 use mir.Syntax.{w32, w64}
 use mir.Val.{ofZ, toZ}
-use Rattle.ieee.proofs.Ranges.{reaches-above, reaches-below, signed-end, signed-fits, signed-kept, within}
+use Rattle.ieee.proofs.Order.Ranges.{reaches-above, reaches-below, signed-end, signed-fits, signed-kept, within}
 use Rattle.patterns.proofs.integers.to_i32.Statement.{statement}
 use Rattle.patterns.proofs.integers.to_i32.Tie as tie
 

@@ -2,7 +2,7 @@
 use borrow.Author.Needs.{needs}
 use lib.Ieee.{binary32, ofBits}
 use mir.Syntax.{w32}
-use Rattle.ieee.proofs.Ranges.{signed-kept}
+use Rattle.ieee.proofs.Order.Ranges.{signed-kept}
 use Rattle.patterns.proofs.integers.to_i32_bits.Statement.{statement}
 use Rattle.patterns.proofs.integers.to_i32_bits.Tie as tie
 

@@ -4,9 +4,9 @@ use mathlib.Core.Bool.{true, false}
 use mathlib.Core.Path.{sym}
 use lib.IntN.{pos}
 use lib.Ieee.{fin, isNan, neg, ofBits}
-use Rattle.ieee.proofs.Comparison.{le-of-not-lt, lt-of-not-le}
-use Rattle.ieee.proofs.Nan.{same-no-nan}
-use Rattle.ieee.proofs.Ranges.{reaches-above, reaches-below, signed-end, signed-nan}
+use Rattle.ieee.proofs.Order.Comparison.{le-of-not-lt, lt-of-not-le}
+use Rattle.ieee.proofs.Patterns.Nan.{same-no-nan}
+use Rattle.ieee.proofs.Order.Ranges.{reaches-above, reaches-below, signed-end, signed-nan}
 use Rattle.patterns.proofs.integers.to_i64.Statement.{statement}
 use Rattle.patterns.proofs.integers.to_i64.Tie as tie
 

@@ -2,7 +2,7 @@
 use borrow.Author.Needs.{needs}
 use lib.Ieee.{binary64, ofBits}
 use mir.Syntax.{w64}
-use Rattle.ieee.proofs.Ranges.{signed-kept}
+use Rattle.ieee.proofs.Order.Ranges.{signed-kept}
 use Rattle.patterns.proofs.integers.to_i64_bits.Statement.{statement}
 use Rattle.patterns.proofs.integers.to_i64_bits.Tie as tie
 

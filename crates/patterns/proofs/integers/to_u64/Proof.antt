@@ -5,8 +5,8 @@ use mathlib.Core.Path.{sym}
 use lib.IntN.{pos}
 use lib.Ieee.{fin, isNan, neg, ofBits}
 use denote.Floats.{passes}
-use Rattle.ieee.proofs.Comparison.{lt-right, lt-of-not-le}
-use Rattle.ieee.proofs.Ranges.{reaches-above, unsigned-end, unsigned-low}
+use Rattle.ieee.proofs.Order.Comparison.{lt-right, lt-of-not-le}
+use Rattle.ieee.proofs.Order.Ranges.{reaches-above, unsigned-end, unsigned-low}
 use Rattle.patterns.proofs.integers.to_u64.Statement.{statement}
 use Rattle.patterns.proofs.integers.to_u64.Tie as tie
 

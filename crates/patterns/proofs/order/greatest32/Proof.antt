@@ -1,5 +1,5 @@
 -- `patterns::order::greatest32` meets its contract. Assumes nothing.
-use Rattle.ieee.proofs.Nan.{ne-self}
+use Rattle.ieee.proofs.Patterns.Nan.{ne-self}
 use Rattle.ieee.specs.Order.{greatest}
 use Rattle.patterns.proofs.order.greatest32.Statement.{statement}
 use Rattle.patterns.proofs.order.greatest32.Tie as tie

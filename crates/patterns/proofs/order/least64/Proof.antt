@@ -1,5 +1,5 @@
 -- `patterns::order::least64` meets its contract. Assumes nothing.
-use Rattle.ieee.proofs.Nan.{ne-self}
+use Rattle.ieee.proofs.Patterns.Nan.{ne-self}
 use Rattle.ieee.specs.Order.{least}
 use Rattle.patterns.proofs.order.least64.Statement.{statement}
 use Rattle.patterns.proofs.order.least64.Tie as tie

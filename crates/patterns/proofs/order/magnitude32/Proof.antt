@@ -1,7 +1,7 @@
 -- `patterns::order::magnitude32` meets its contract. Assumes nothing.
 use borrow.Author.Needs.{needs}
 use lib.Ieee.{binary32}
-use Rattle.ieee.proofs.Back.{read-back}
+use Rattle.ieee.proofs.Patterns.Back.{read-back}
 use Rattle.patterns.proofs.order.magnitude32.Statement.{statement}
 use Rattle.patterns.proofs.order.magnitude32.Tie as tie
 

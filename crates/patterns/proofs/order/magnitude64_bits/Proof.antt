@@ -1,6 +1,6 @@
 -- `patterns::order::magnitude64_bits` meets its contract. Assumes nothing.
 use lib.Ieee.{binary64}
-use Rattle.ieee.proofs.Signs.{sign-cleared}
+use Rattle.ieee.proofs.Patterns.Signs.{sign-cleared}
 use Rattle.patterns.proofs.order.magnitude64_bits.Statement.{statement}
 use Rattle.patterns.proofs.order.magnitude64_bits.Tie as tie
 

@@ -3,8 +3,8 @@ use borrow.Author.Needs.{needs}
 use lib.Ieee.{binary32, binary64}
 use lib.Ieee.Bits.{ofBits-toBits}
 use Rattle.ieee.specs.Rounded.{rounded}
-use Rattle.ieee.proofs.Back.{read-back}
-use Rattle.ieee.proofs.Narrowed.{rounded-fits}
+use Rattle.ieee.proofs.Patterns.Back.{read-back}
+use Rattle.ieee.proofs.Patterns.Narrowed.{rounded-fits}
 use Rattle.rounding.proofs.narrowing.narrow.Statement.{statement}
 use Rattle.rounding.proofs.narrowing.narrow.Tie as tie
 

@@ -2,8 +2,8 @@
 use borrow.Author.Needs.{needs}
 use Prim.Native.Nat.{_+_, _^_}
 use native.Mathlib.Omega.{arith}
-use Rattle.ieee.proofs.Narrowed.{narrow-large, narrow-normal, narrow-small, narrow-tiny}
-use Rattle.ieee.proofs.Numbers.{closest-le}
+use Rattle.ieee.proofs.Patterns.Narrowed.{narrow-large, narrow-normal, narrow-small, narrow-tiny}
+use Rattle.ieee.proofs.Numbers.Basic.{closest-le}
 use Rattle.rounding.proofs.narrowing.narrow_size.Statement.{statement}
 use Rattle.rounding.proofs.narrowing.narrow_size.Tie as tie
 

@@ -3,7 +3,7 @@ use borrow.Author.Needs.{needs}
 use Prim.Native.Nat.{_-_}
 use native.Mathlib.Omega.{arith}
 use lib.Pow.{pow-mono, pow-pos}
-use Rattle.ieee.proofs.Numbers.{nearest-shift, one-shl}
+use Rattle.ieee.proofs.Numbers.Basic.{nearest-shift, one-shl}
 use Rattle.rounding.proofs.narrowing.nearest_shift.Statement.{statement}
 use Rattle.rounding.proofs.narrowing.nearest_shift.Tie as tie
 

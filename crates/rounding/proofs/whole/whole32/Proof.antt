@@ -7,7 +7,7 @@ use denote.Floats.{passes}
 use lib.Ieee.Bits.{ofBits-toBits}
 use lib.Ieee.Fits.{fits-widens}
 use Rattle.rounding.specs.Ways.{wayOf}
-use Rattle.ieee.proofs.Integrals.{below-zero, from-zero-up, in-format, whole-already}
+use Rattle.ieee.proofs.Patterns.Integral.{below-zero, from-zero-up, in-format, whole-already}
 use Rattle.rounding.proofs.whole.whole32.Statement.{statement}
 use Rattle.rounding.proofs.whole.whole32.Tie as tie
 

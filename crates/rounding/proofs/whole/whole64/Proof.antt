@@ -5,8 +5,8 @@ use native.Mathlib.Omega.{arith}
 use lib.Ieee.{binary64, ofBits}
 use denote.Floats.{passes}
 use Rattle.rounding.specs.Ways.{wayOf}
-use Rattle.ieee.proofs.Back.{read-back}
-use Rattle.ieee.proofs.Integrals.{below-zero, from-zero-up, in-format, whole-already}
+use Rattle.ieee.proofs.Patterns.Back.{read-back}
+use Rattle.ieee.proofs.Patterns.Integral.{below-zero, from-zero-up, in-format, whole-already}
 use Rattle.rounding.proofs.whole.whole64.Statement.{statement}
 use Rattle.rounding.proofs.whole.whole64.Tie as tie
 

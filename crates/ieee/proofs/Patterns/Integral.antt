@@ -1,0 +1,119 @@
+-- `integral` of a float by its pattern: below hid f its size becomes a whole number, and from there on it is whole already. Assumes nothing.
+use mathlib.Core.Path.{_≡_, refl, sym, _∙_, subst}
+use mathlib.Core.Logic.{inl, inr}
+use mathlib.Core.Bool.{Bool, true, false, cond}
+use Prim.Native.Nat.{ℕ, zero, suc, _+_, _-_, _*_, _/_, _%_, _^_, _≤_, _<_}
+use native.Mathlib.Nat.{div-lt-iff-lt-mul, eq-zero-or-pos, le-add-right, le-of-eq, le-trans, lt-of-lt-of-le, mul-le-mul-left, mul-le-mul-right, mul-lt-mul-of-pos-right}
+use native.Mathlib.Decide.{decLt}
+use native.Mathlib.Omega.{arith}
+use borrow.Author.Tests.{le-leb, lt-leb}
+use lib.IntN.{pos, negsuc}
+use lib.Dec.{T, leb, le→leb}
+use lib.Pow.{pow-add, pow-mono, pow-pos, shl-lt}
+use lib.Ieee.{Float, nan, inf, fin, Format, binary32, binary64, prec, up, down, hid, round, neg, ofInt, inFloat, fits, ofBits}
+use lib.Ieee.Exact.{HasValue}
+use lib.Ieee.Fits.{down-pos, two}
+use Rattle.ieee.specs.Fields.{exp, sized}
+use Rattle.ieee.specs.Integral.{Way, toWhole, integral}
+use Rattle.ieee.proofs.Patterns.Fields.{sig-lt, read-inf, read-nan, read-value}
+use Rattle.ieee.proofs.Patterns.Signs.{round-neg}
+use Rattle.ieee.proofs.Values.OneFloat.{round-own, short}
+use Rattle.ieee.proofs.Numbers.Wholes.{whole-le, whole-one, whole-same}
+
+twice-hid : (f : Format) → 2 ^ prec f ≡ 2 * hid f
+twice-hid binary32 = refl
+twice-hid binary64 = refl
+
+-- m / n for m below 2 * h and n from 2 on is below h
+no-fraction : (m a c h n : ℕ) → 0 < c → m * 1 * c ≡ a * n → h * c ≤ a → 2 ≤ n → m < 2 * h → ⊥
+no-fraction m a c h n C e l p q = omega (arith, mul-le-mul-right n l, mul-le-mul-left (h * c) p, mul-lt-mul-of-pos-right q C)
+
+module _ (f : Format) (above below : Way) where
+  pub integral-at : (x : Float) (s : Bool) (a c : ℕ) → 0 < c → HasValue x s a c
+      → integral f above below x ≡ round f s (toWhole (cond s below above) a c) 1
+  unfolding integral
+  integral-at nan s a c C h = absurd h
+  integral-at (inf t) s a c C h = absurd h
+  integral-at (fin t m e) s a c C h = rw (h .0, whole-same (cond s below above) (m * up e) (down e) a c (down-pos e) C (h .1)) refl
+
+  integral-inf : (s : Bool) → inf s ≡ integral f above below (inf s)
+  unfolding integral
+  integral-inf s = refl
+
+  integral-nan : nan ≡ integral f above below nan
+  unfolding integral
+  integral-nan = refl
+
+  integral-large : (x : Float) (s : Bool) (a c : ℕ) → T (fits f x) → 0 < c → HasValue x s a c → hid f * c ≤ a → integral f above below x ≡ x
+  unfolding integral
+  integral-large nan s a c t C h l = absurd h
+  integral-large (inf u) s a c t C h l = absurd h
+  integral-large (fin u m (pos k)) s a c t C h l = rw (whole-one (cond u below above) (m * 2 ^ k)) (round-own f u m (pos k) t)
+  integral-large (fin u m (negsuc k)) s a c t C h l =
+      absurd (no-fraction m a c (hid f) (2 ^ suc k) C (h .1) l (pow-mono {i =
+      1} (omega arith)) (subst (λ (z : ℕ). m < z) (twice-hid f) (short f u m (negsuc k) t)))
+
+-- ---- by the pattern b that x has as an `f64`
+abbrev field : ℕ → ℕ
+field b = b % 2 ^ 63 / 2 ^ 52
+
+abbrev size-of : ℕ → ℕ
+size-of b = sized binary64 (field b) (b % 2 ^ 52)
+
+-- hid f is 2 ^ (prec f - 1), and a pattern of the field 1023 stands for 1
+module _ (f : Format) where
+  at-most : (e t : ℕ) → t < 2 ^ 52 → e < 1022 + prec f → sized binary64 e t < hid f * 2 ^ 1074
+  at-most e t h l = lt-of-lt-of-le (shl-lt 53 (exp e) (sig-lt e t h)) (le-trans (pow-mono (places e l)) (le-of-eq (pow-add 2 (prec f - 1) 1074)))
+    where
+      places : (e : ℕ) → e < 1022 + prec f → 53 + exp e ≤ prec f - 1 + 1074
+      places zero l = omega (arith, two f)
+      places (suc y) l = omega (arith, two f)
+
+  at-least : (e t : ℕ) → 1022 + prec f ≤ e → hid f * 2 ^ 1074 ≤ sized binary64 e t
+  at-least zero t h = absurd (omega arith)
+  at-least (suc y) t h =
+      let places : prec f - 1 + 1074 ≤ 52 + y = omega (arith, two f) in
+      le-trans (le-of-eq (sym (pow-add 2 (prec f - 1) 1074)))
+      (le-trans (pow-mono places) (le-trans (le-of-eq (pow-add 2 52 y)) (mul-le-mul-right (2 ^ y) (le-add-right (2 ^ 52) t))))
+
+module _ (f : Format) (above below : Way) (x : Float) (b : ℕ) (is : ofBits binary64 b ≡ x) where
+  value : (s : Bool) → leb (2 ^ 63) b ≡ s → field b < 2047 → HasValue x s (size-of b) (2 ^ 1074)
+  value s g h = rw (← is, ← g) (read-value binary64 b h)
+
+  small : (s : Bool) (n : ℕ) → leb (2 ^ 63) b ≡ s → field b < 1075 → n ≡ toWhole (cond s below above) (size-of b) (2 ^ 1074)
+      → round f s n 1 ≡ integral f above below x
+  small s n g h r = rw r (sym (integral-at f above below x s (size-of b) (2 ^ 1074) (pow-pos 1074) (value s g (omega arith))))
+
+  pub from-zero-up : (n : ℕ) → b < 2 ^ 63 → field b < 1075 → n ≡ toWhole above (size-of b) (2 ^ 1074) → ofInt f (pos n) ≡ integral f above below x
+  unfolding ofInt
+  from-zero-up n g h r = small false n (lt-leb (2 ^ 63) b g) h r
+
+  pub below-zero : (n : ℕ) → 2 ^ 63 ≤ b → field b < 1075 → n ≡ toWhole below (size-of b) (2 ^ 1074) → neg (ofInt f (pos n)) ≡ integral f above below x
+  unfolding ofInt
+  below-zero n g h r = round-neg f false n 1 ∙ small true n (le-leb (2 ^ 63) b g) h r
+
+  pub whole-already : T (fits f x) → 1022 + prec f ≤ field b → x ≡ integral f above below x
+  whole-already t h =
+      elim (decLt (field b) 2047) [
+        | yes l ↦
+            sym (integral-large f above below x (leb (2 ^ 63) b) (size-of b) (2 ^ 1074) t (pow-pos 1074) (value (leb (2 ^ 63) b) refl l)
+            (at-least f (field b) (b % 2 ^ 52) h))
+        | no l ↦ subst (λ (v : Float). v ≡ integral f above below v) is (no-number (omega arith))
+      ]
+    where
+      no-number : field b ≡ 2047 → ofBits binary64 b ≡ integral f above below (ofBits binary64 b)
+      no-number k =
+          elim (eq-zero-or-pos (b % 2 ^ 52)) [
+            | inl z ↦ rw (read-inf binary64 b k z) (integral-inf f above below (leb (2 ^ 63) b))
+            | inr p ↦ rw (read-nan binary64 b k p) (integral-nan f above below)
+          ]
+
+pub in-format : (f : Format) (w : Way) (b n : ℕ) → field b < 1022 + prec f → n ≡ toWhole w (size-of b) (2 ^ 1074) → T (inFloat f (pos n))
+unfolding inFloat
+in-format f w b n h r =
+    let l : size-of b / 2 ^ 1074 < hid f = div-lt-iff-lt-mul (pow-pos 1074) .1 (at-most f (field b) (b % 2 ^ 52) (omega arith) h) in
+    let m = whole-le w (size-of b) (2 ^ 1074) (pow-pos 1074) in
+    le→leb n (2 ^ prec f) (rw r (few (toWhole w (size-of b) (2 ^ 1074)) (size-of b / 2 ^ 1074) (hid f) (2 ^ prec f) m l (twice-hid f)))
+  where
+    few : (n q h p : ℕ) → n ≤ q + 1 → q < h → p ≡ 2 * h → n ≤ p
+    few n q h p a b c = omega arith

@@ -1,0 +1,38 @@
+-- A float's size as a whole number is one shift of its digits. Assumes nothing.
+use mathlib.Core.Path.{_≡_, sym, ap, _∙_}
+use Prim.Native.Nat.{ℕ, zero, suc, _+_, _-_, _*_, _/_, _^_, _≤_, _<_, min}
+use native.Mathlib.Nat.{lt-of-lt-of-le, mul-assoc, mul-comm, mul-div-mul-right, mul-pos, pow-succ'}
+use native.Mathlib.Omega.{arith}
+use lib.Pow.{pow-add, pow-mono, pow-pos, shl-lt}
+use lib.Ieee.{binary64}
+use Rattle.ieee.specs.Fields.{exp, sized}
+use Rattle.ieee.specs.Integral.{Way, half, toWhole}
+use Rattle.ieee.proofs.Patterns.Fields.{exp-le, sig-lt}
+use Rattle.ieee.proofs.Numbers.Basic.{pow-half}
+use Rattle.ieee.proofs.Numbers.Wholes.{whole-same, whole-tiny}
+
+-- a half of 2 ^ j is added, and the fraction dropped
+pub half-shift : (d j : ℕ) → 0 < j → (d + 2 ^ (j - 1)) / 2 ^ j ≡ toWhole half d (2 ^ j)
+half-shift d j h =
+    let n : (d + 2 ^ (j - 1)) * 2 ≡ 2 * d + 2 ^ j = omega (arith, pow-half j h) in
+    sym (mul-div-mul-right (d + 2 ^ (j - 1)) (2 ^ j) (pow-pos 1)) ∙ rw (n, mul-comm (2 ^ j) 2)
+
+-- ---- by the fields e and t
+twice-lt : (n k l : ℕ) → n < 2 ^ k → k < l → 2 * n < 2 ^ l
+twice-lt n k l h g = lt-of-lt-of-le (omega (arith, pow-succ' 2 k)) (pow-mono g)
+
+pub tiny-size : (w : Way) (e t : ℕ) → e < 1012 → t < 2 ^ 52 → toWhole w (e + t) (2 ^ 63) ≡ toWhole w (sized binary64 e t) (2 ^ 1074)
+tiny-size w e t h l =
+    whole-tiny w (e + t) (2 ^ 63) (sized binary64 e t) (2 ^ 1074) (omega arith)
+    (twice-lt (sized binary64 e t) (53 + exp e) 1074 (shl-lt 53 (exp e) (sig-lt e t l)) (omega (arith, exp-le e))) (some e)
+  where
+    some : (e : ℕ) → min (e + t) 1 ≡ min (sized binary64 e t) 1
+    some zero = omega arith
+    some (suc y) = let p : 0 < (2 ^ 52 + t) * 2 ^ y = mul-pos (omega arith) (pow-pos y) in omega arith
+
+pub cut-size : (w : Way) (e t : ℕ) → 1012 ≤ e → e < 1075 → toWhole w (2 ^ 52 + t) (2 ^ (1075 - e)) ≡ toWhole w (sized binary64 e t) (2 ^ 1074)
+cut-size w zero t h l = absurd (omega arith)
+cut-size w (suc y) t h l =
+    let places : 1074 ≡ y + (1075 - suc y) = omega arith in
+    whole-same w (2 ^ 52 + t) (2 ^ (1075 - suc y)) ((2 ^ 52 + t) * 2 ^ y) (2 ^ 1074) (pow-pos (1075 - suc y)) (pow-pos 1074)
+    (ap (λ (z : ℕ). (2 ^ 52 + t) * 2 ^ z) places ∙ rw (pow-add 2 y (1075 - suc y)) (sym (mul-assoc (2 ^ 52 + t) (2 ^ y) (2 ^ (1075 - suc y)))))

@@ -11,7 +11,7 @@ use std::time::Instant;
 
 const PATTERNS: usize = 4096;
 const ROUNDS: usize = 200;
-const BEST_OF: usize = 9;
+const BEST_OF: usize = 25;
 
 pub struct Row {
     pub name: &'static str,

@@ -18,7 +18,8 @@ fn every_helper_agrees_on_the_edges() {
 /// Wrong helpers that look right: each must show on the edges, and by chance.
 #[test]
 fn a_wrong_helper_is_found() {
-    let wrong: [(&str, fn(u64, u64) -> u64); 8] = [
+    type Port = fn(u64, u64) -> u64;
+    let wrong: [(&str, Port); 8] = [
         ("root64", |x, _| (f64::from_bits(x) as f32).sqrt().to_bits() as u64),
         ("floor64", |x, _| f64::from_bits(x).trunc().to_bits()),
         ("ceiling32", |x, _| (f32::from_bits(x as u32).floor() + 1.0).to_bits() as u64),

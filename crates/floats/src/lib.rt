@@ -1,9 +1,15 @@
 // Float helpers that answer every input, a NaN, an infinity and a -0 too. Each contract is one
 // equation with a definition of specs/, which follows a clause of IEEE 754-2019.
 // A form on bit patterns, `_bits`, also fixes the pattern of a NaN result: 7ff8000000000000 or 7fc00000.
-// The crates behind it: `patterns`, `rounding`, `root`, `cube`; their laws stand in `ieee`.
+// The crates behind it: `patterns`, `integers`, `rounding`, `root`, `cube`; their laws stand in `ieee`.
 pub use cube::cube_above;
 pub use cube::cube_above_bits;
+pub use integers::to_i32;
+pub use integers::to_i32_bits;
+pub use integers::to_i64;
+pub use integers::to_i64_bits;
+pub use integers::to_u64;
+pub use integers::to_u64_bits;
 pub use patterns::bits32;
 pub use patterns::bits64;
 pub use patterns::f32_of;
@@ -20,12 +26,6 @@ pub use patterns::magnitude32;
 pub use patterns::magnitude32_bits;
 pub use patterns::magnitude64;
 pub use patterns::magnitude64_bits;
-pub use patterns::to_i32;
-pub use patterns::to_i32_bits;
-pub use patterns::to_i64;
-pub use patterns::to_i64_bits;
-pub use patterns::to_u64;
-pub use patterns::to_u64_bits;
 pub use root::root64;
 pub use root::root64_bits;
 pub use rounding::ceiling32;

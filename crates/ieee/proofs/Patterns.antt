@@ -7,6 +7,7 @@ pub mod Packing
 pub mod Shifted
 pub mod Whole
 pub mod Integral
+pub mod Integer
 pub mod Narrowed
 pub mod Root
 pub mod Cube

@@ -1,6 +1,5 @@
 // A float's bit pattern, and what needs no rounding. Internal: `floats` passes it on.
 mod bits; // a float's bit pattern, and back
-mod integers; // to an integer, toward zero
 mod order; // magnitude, least and greatest
 
 pub use bits::FIELD;
@@ -9,12 +8,6 @@ pub use bits::bits32;
 pub use bits::bits64;
 pub use bits::f32_of;
 pub use bits::f64_of;
-pub use integers::to_i32;
-pub use integers::to_i32_bits;
-pub use integers::to_i64;
-pub use integers::to_i64_bits;
-pub use integers::to_u64;
-pub use integers::to_u64_bits;
 pub use order::greatest32;
 pub use order::greatest32_bits;
 pub use order::greatest64;

@@ -1,12 +1,12 @@
 -- From an integer to the float that it is, and back: one float of a format is that integer, and `whole` tests for one. Assumes nothing.
-use mathlib.Core.Path.{_≡_, refl, sym, _∙_}
-use mathlib.Core.Bool.{Bool, true, false, not, _&&_, cond}
-use Prim.Native.Nat.{ℕ, zero, suc, _-_, _*_, _/_, _%_, _^_, _≤_, _<_, min}
+use mathlib.Core.Path.{_≡_, refl, sym, _∙_, subst}
+use mathlib.Core.Bool.{Bool, true, false, not, _&&_}
+use Prim.Native.Nat.{ℕ, zero, suc, _*_, _/_, _%_, _^_, _≤_, _<_}
 use native.Mathlib.Nat.{add-zero, div-add-mod', mul-div-cancel, mul-mod-left, mul-one, mul-pos, zero-lt-suc, zero-mul}
 use native.Mathlib.Omega.{arith}
 use borrow.Author.Tests.{eq-eqb, le-leb, ne-eqb}
 use lib.Dec.{T, eqb, leb, eqb→eq, leb→le, lit<}
-use lib.IntN.{ℤ, pos, negsuc, negℤ, natAbs}
+use lib.IntN.{ℤ, pos, negsuc, natAbs}
 use lib.Signed.{nonNeg}
 use lib.Ieee.{Float, nan, inf, fin, Format, prec, up, down, fits, ofInt, toSigned, whole}
 use lib.Ieee.Back.{round-whole, whole-unique}
@@ -17,6 +17,7 @@ use Rattle.ieee.specs.Magnitude.{magnitude}
 use Rattle.ieee.specs.Rounded.{rounded}
 use Rattle.ieee.proofs.Values.ByValue.{magnitude-value, rounded-values}
 use Rattle.ieee.proofs.Integers.Sums.{signed-is}
+use Rattle.ieee.proofs.Order.Ranges.{signed-cut}
 
 -- ---- from the integer
 pub ofInt-whole : (f : Format) (a : ℤ) → natAbs a ≤ 2 ^ prec f → IsWhole (ofInt f a) a
@@ -43,17 +44,9 @@ cut : (m : ℕ) (e : ℤ) (n : ℕ) → m * up e * 1 ≡ n * down e → m * up e
 cut m e n h = sym (mul-one (m * up e)) ∙ h
 
 pub toSigned-value : (h : ℕ) (x : Float) (s : Bool) (n : ℕ) → n < 2 ^ h → HasValue x s n 1 → toSigned h x ≡ signed s n
-unfolding toSigned
-toSigned-value h nan s n l v = absurd v
-toSigned-value h (inf t) s n l v = absurd v
-toSigned-value h (fin t m e) s n l v =
-    let low : min n (2 ^ h) ≡ n = omega arith in
-    let high : min n (2 ^ h - 1) ≡ n = omega arith in
-    rw (v .0, cut m e n (v .1), mul-div-cancel n (down-pos e), low, high) (either s)
-  where
-    either : (s : Bool) → cond s (negℤ (pos n)) (pos n) ≡ signed s n
-    either false = refl
-    either true = refl
+toSigned-value h x s n l v =
+    let one : n / 1 ≡ n = omega arith in
+    subst (λ (q : ℕ). q < 2 ^ h → toSigned h x ≡ signed s q) one (signed-cut h x s n 1 (lit< tt) v) l
 
 pub toSigned-whole : (h : ℕ) (x : Float) (z : ℤ) → natAbs z < 2 ^ h → IsWhole x z → toSigned h x ≡ z
 toSigned-whole h x z l v = toSigned-value h x (not (nonNeg z)) (natAbs z) l v ∙ signed-is z

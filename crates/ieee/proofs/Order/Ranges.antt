@@ -1,18 +1,22 @@
--- A conversion to an integer at the ends of its range, and one to a narrow range by one to a wider. Assumes nothing.
+-- A conversion to an integer at the ends of its range and within it. Assumes nothing.
 use mathlib.Core.Path.{_≡_, refl, sym, ap, _∙_}
 use mathlib.Core.Bool.{Bool, true, false, not, cond, true≢false, false≢true}
 use Prim.Native.Nat.{ℕ, _+_, _-_, _*_, _/_, _^_, _≤_, _<_, min}
-use native.Mathlib.Nat.{le-of-lt, mul-pos, div-le-of-le-mul, div-lt-iff-lt-mul, le-div-iff-mul-le}
+use native.Mathlib.Nat.{le-of-lt, mul-pos, le-div-iff-mul-le}
 use native.Mathlib.Omega.{arith}
-use borrow.Author.Tests.{lt-ltb, ltb-true, ltb-false}
+use borrow.Author.Tests.{lt-ltb, ltb-false}
 use lib.IntN.{ℤ, pos, negℤ}
-use lib.Pow.{pow-pos, pow-mono}
+use lib.Pow.{pow-pos}
 use lib.Ieee.{Float, nan, inf, fin, up, down, lt, le, eq, ne, isNan, toSigned, toUnsigned}
+use lib.Ieee.Exact.{HasValue}
 use lib.Ieee.Fits.{down-pos}
 use lib.Ieee.Casts.{toSigned-in}
 use mir.Syntax.{Width}
 use mir.Val.{SFits, hbits, ofZ, toZ}
 use mir.ValLaws.{toZ-ofZ}
+use Rattle.ieee.specs.Integral.{cut}
+use Rattle.ieee.specs.WholeNumber.{signed}
+use Rattle.ieee.proofs.Numbers.Wholes.{whole-same}
 use Rattle.ieee.proofs.Order.Comparison.{lt-not-le}
 use Rattle.ieee.proofs.Patterns.Nan.{is-nan, ne-self}
 
@@ -21,20 +25,18 @@ module _ (k m : ℕ) (e : ℤ) where
   size-ge : 1 * 2 ^ k * down e ≤ m * up e * 1 → 2 ^ k ≤ m * up e / down e
   size-ge h = le-div-iff-mul-le (down-pos e) .1 (omega arith)
 
-  size-lt : m * up e * 1 < 1 * 2 ^ k * down e → m * up e / down e < 2 ^ k
-  size-lt h = div-lt-iff-lt-mul (down-pos e) .1 (omega arith)
-
-  size-le : m * up e * 1 ≤ 1 * 2 ^ k * down e → m * up e / down e ≤ 2 ^ k
-  size-le h = div-le-of-le-mul (down e) (omega arith)
-
   one-pos : 0 < 1 * 2 ^ k * down e
   one-pos = mul-pos (mul-pos (pow-pos 0) (pow-pos k)) (down-pos e)
 
 min-end : (a c d : ℕ) → c ≤ a → d ≤ c → min a d ≡ d
 min-end a c d h k = omega arith
 
-min-either : (a c d : ℕ) → a ≤ c → c ≤ d → min a d ≡ min a c
-min-either a c d h k = omega arith
+min-below : (a d : ℕ) → a ≤ d → min a d ≡ a
+min-below a d h = omega arith
+
+-- a / c is the size, so its whole part is too
+same-size : (m : ℕ) (e : ℤ) (s t : Bool) (a c : ℕ) → 0 < c → HasValue (fin t m e) s a c → m * up e / down e ≡ a / c
+same-size m e s t a c C v = whole-same cut (m * up e) (down e) a c (down-pos e) C (v .1)
 
 -- `lt` for `le`, whose comparison of products is one
 lt-for-le : (k : ℕ) (s : Bool) (m : ℕ) (e : ℤ) → lt (fin s m e) (fin false 1 (pos k)) ≡ not (le (fin false 1 (pos k)) (fin s m e))
@@ -58,13 +60,10 @@ reaches-above k (fin true m e) h =
     absurd (omega (arith, one-pos k m e))
 reaches-above k (fin false m e) h = (refl, size-ge k m e (ltb-false _ _ (lt-for-le k false m e ∙ ap not h)))
 
-pub reaches-below : (k : ℕ) (x : Float) → lt x (fin true 1 (pos k)) ≡ true → Reaches (2 ^ k) true x
-unfolding lt
-reaches-below k nan h = absurd (false≢true h)
-reaches-below k (inf true) h = refl
-reaches-below k (inf false) h = absurd (false≢true h)
-reaches-below k (fin true m e) h = (refl, size-ge k m e (le-of-lt (ltb-true _ _ h)))
-reaches-below k (fin false m e) h = absurd (false≢true h)
+pub reaches-value : (n : ℕ) (x : Float) (s : Bool) (a c : ℕ) → 0 < c → HasValue x s a c → n * c ≤ a → Reaches n s x
+reaches-value n nan s a c C v l = absurd v
+reaches-value n (inf t) s a c C v l = absurd v
+reaches-value n (fin t m e) s a c C v l = (v .0, rw (same-size m e s t a c C v) (le-div-iff-mul-le C .1 l))
 
 pub signed-end : (h : ℕ) (s : Bool) (x : Float) → Reaches (2 ^ h) s x → toSigned h x ≡ cond s (negℤ (pos (2 ^ h))) (pos (2 ^ h - 1))
 unfolding toSigned
@@ -92,17 +91,17 @@ pub signed-nan : (h : ℕ) (x : Float) → ne x x ≡ true → toSigned h x ≡ 
 unfolding toSigned
 signed-nan h x t = ap (toSigned h) (is-nan x (sym (ne-self x) ∙ t))
 
--- ---- within the range of h bits and a sign, h or more bits say the same, of a NaN too
-pub within : (h g : ℕ) (x : Float) → h ≤ g → le (fin false 1 (pos h)) x ≡ false → lt x (fin true 1 (pos h)) ≡ false → toSigned g x ≡ toSigned h x
-unfolding lt le eq toSigned
-within h g nan k a b = refl
-within h g (inf true) k a b = absurd (true≢false b)
-within h g (inf false) k a b = absurd (true≢false a)
-within h g (fin true m e) k a b = rw (min-either (m * up e / down e) (2 ^ h) (2 ^ g) (size-le h m e (ltb-false _ _ b)) (pow-mono k))
-within h g (fin false m e) k a b =
-    let l = size-lt h m e (ltb-true _ _ (lt-for-le h false m e ∙ ap not a)) in
-    let p : 2 ^ h ≤ 2 ^ g = pow-mono k in
-    rw (min-either (m * up e / down e) (2 ^ h - 1) (2 ^ g - 1) (omega arith) (omega arith))
+-- ---- within the range, the fraction is dropped
+pub signed-cut : (h : ℕ) (x : Float) (s : Bool) (a c : ℕ) → 0 < c → HasValue x s a c → a / c < 2 ^ h → toSigned h x ≡ signed s (a / c)
+unfolding toSigned
+signed-cut h nan s a c C v l = absurd v
+signed-cut h (inf t) s a c C v l = absurd v
+signed-cut h (fin t m e) s a c C v l =
+    rw (v .0, same-size m e s t a c C v, min-below (a / c) (2 ^ h) (le-of-lt l), min-below (a / c) (2 ^ h - 1) (omega arith)) (either s)
+  where
+    either : (s : Bool) → cond s (negℤ (pos (a / c))) (pos (a / c)) ≡ signed s (a / c)
+    either false = refl
+    either true = refl
 
 -- ---- the answer as a word of the machine
 pub signed-fits : (w : Width) (x : Float) → SFits w (toSigned (hbits w) x)

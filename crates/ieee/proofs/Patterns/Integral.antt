@@ -54,35 +54,34 @@ module _ (f : Format) (above below : Way) where
       1} (omega arith)) (subst (λ (z : ℕ). m < z) (twice-hid f) (short f u m (negsuc k) t)))
 
 -- ---- by the pattern b that x has as an `f64`
-abbrev field : ℕ → ℕ
+abbrev pub field : ℕ → ℕ
 field b = b % 2 ^ 63 / 2 ^ 52
 
-abbrev size-of : ℕ → ℕ
+abbrev pub size-of : ℕ → ℕ
 size-of b = sized binary64 (field b) (b % 2 ^ 52)
 
--- hid f is 2 ^ (prec f - 1), and a pattern of the field 1023 stands for 1
-module _ (f : Format) where
-  at-most : (e t : ℕ) → t < 2 ^ 52 → e < 1022 + prec f → sized binary64 e t < hid f * 2 ^ 1074
-  at-most e t h l = lt-of-lt-of-le (shl-lt 53 (exp e) (sig-lt e t h)) (le-trans (pow-mono (places e l)) (le-of-eq (pow-add 2 (prec f - 1) 1074)))
-    where
-      places : (e : ℕ) → e < 1022 + prec f → 53 + exp e ≤ prec f - 1 + 1074
-      places zero l = omega (arith, two f)
-      places (suc y) l = omega (arith, two f)
+-- a pattern of the field 1023 stands for 1
+pub at-most : (k e t : ℕ) → t < 2 ^ 52 → e < 1023 + k → sized binary64 e t < 2 ^ k * 2 ^ 1074
+at-most k e t h l = lt-of-lt-of-le (shl-lt 53 (exp e) (sig-lt e t h)) (le-trans (pow-mono (places e l)) (le-of-eq (pow-add 2 k 1074)))
+  where
+    places : (e : ℕ) → e < 1023 + k → 53 + exp e ≤ k + 1074
+    places zero l = omega arith
+    places (suc y) l = omega arith
 
-  at-least : (e t : ℕ) → 1022 + prec f ≤ e → hid f * 2 ^ 1074 ≤ sized binary64 e t
-  at-least zero t h = absurd (omega arith)
-  at-least (suc y) t h =
-      let places : prec f - 1 + 1074 ≤ 52 + y = omega (arith, two f) in
-      le-trans (le-of-eq (sym (pow-add 2 (prec f - 1) 1074)))
-      (le-trans (pow-mono places) (le-trans (le-of-eq (pow-add 2 52 y)) (mul-le-mul-right (2 ^ y) (le-add-right (2 ^ 52) t))))
+pub at-least : (k e t : ℕ) → 1023 + k ≤ e → 2 ^ k * 2 ^ 1074 ≤ sized binary64 e t
+at-least k zero t h = absurd (omega arith)
+at-least k (suc y) t h =
+    let places : k + 1074 ≤ 52 + y = omega arith in
+    le-trans (le-of-eq (sym (pow-add 2 k 1074)))
+    (le-trans (pow-mono places) (le-trans (le-of-eq (pow-add 2 52 y)) (mul-le-mul-right (2 ^ y) (le-add-right (2 ^ 52) t))))
+
+pub value : (x : Float) (b : ℕ) → ofBits binary64 b ≡ x → (s : Bool) → leb (2 ^ 63) b ≡ s → field b < 2047 → HasValue x s (size-of b) (2 ^ 1074)
+value x b is s g h = rw (← is, ← g) (read-value binary64 b h)
 
 module _ (f : Format) (above below : Way) (x : Float) (b : ℕ) (is : ofBits binary64 b ≡ x) where
-  value : (s : Bool) → leb (2 ^ 63) b ≡ s → field b < 2047 → HasValue x s (size-of b) (2 ^ 1074)
-  value s g h = rw (← is, ← g) (read-value binary64 b h)
-
   small : (s : Bool) (n : ℕ) → leb (2 ^ 63) b ≡ s → field b < 1075 → n ≡ toWhole (cond s below above) (size-of b) (2 ^ 1074)
       → round f s n 1 ≡ integral f above below x
-  small s n g h r = rw r (sym (integral-at f above below x s (size-of b) (2 ^ 1074) (pow-pos 1074) (value s g (omega arith))))
+  small s n g h r = rw r (sym (integral-at f above below x s (size-of b) (2 ^ 1074) (pow-pos 1074) (value x b is s g (omega arith))))
 
   pub from-zero-up : (n : ℕ) → b < 2 ^ 63 → field b < 1075 → n ≡ toWhole above (size-of b) (2 ^ 1074) → ofInt f (pos n) ≡ integral f above below x
   unfolding ofInt
@@ -96,8 +95,8 @@ module _ (f : Format) (above below : Way) (x : Float) (b : ℕ) (is : ofBits bin
   whole-already t h =
       elim (decLt (field b) 2047) [
         | yes l ↦
-            sym (integral-large f above below x (leb (2 ^ 63) b) (size-of b) (2 ^ 1074) t (pow-pos 1074) (value (leb (2 ^ 63) b) refl l)
-            (at-least f (field b) (b % 2 ^ 52) h))
+            sym (integral-large f above below x (leb (2 ^ 63) b) (size-of b) (2 ^ 1074) t (pow-pos 1074) (value x b is (leb (2 ^ 63) b) refl l)
+            (at-least (prec f - 1) (field b) (b % 2 ^ 52) (omega (arith, two f))))
         | no l ↦ subst (λ (v : Float). v ≡ integral f above below v) is (no-number (omega arith))
       ]
     where
@@ -111,7 +110,7 @@ module _ (f : Format) (above below : Way) (x : Float) (b : ℕ) (is : ofBits bin
 pub in-format : (f : Format) (w : Way) (b n : ℕ) → field b < 1022 + prec f → n ≡ toWhole w (size-of b) (2 ^ 1074) → T (inFloat f (pos n))
 unfolding inFloat
 in-format f w b n h r =
-    let l : size-of b / 2 ^ 1074 < hid f = div-lt-iff-lt-mul (pow-pos 1074) .1 (at-most f (field b) (b % 2 ^ 52) (omega arith) h) in
+    let l : size-of b / 2 ^ 1074 < hid f = div-lt-iff-lt-mul (pow-pos 1074) .1 (at-most (prec f - 1) (field b) (b % 2 ^ 52) (omega arith) (omega (arith, two f))) in
     let m = whole-le w (size-of b) (2 ^ 1074) (pow-pos 1074) in
     le→leb n (2 ^ prec f) (rw r (few (toWhole w (size-of b) (2 ^ 1074)) (size-of b / 2 ^ 1074) (hid f) (2 ^ prec f) m l (twice-hid f)))
   where

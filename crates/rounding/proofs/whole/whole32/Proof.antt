@@ -4,19 +4,15 @@ use mathlib.Core.Path.{_≡_}
 use native.Mathlib.Omega.{arith}
 use lib.Ieee.{binary32, binary64, ofBits}
 use denote.Floats.{passes}
-use lib.Ieee.Bits.{ofBits-toBits}
-use lib.Ieee.Fits.{fits-widens}
 use Rattle.rounding.specs.Ways.{wayOf}
+use Rattle.ieee.proofs.Patterns.Back.{read-wide}
 use Rattle.ieee.proofs.Patterns.Integral.{below-zero, from-zero-up, in-format, whole-already}
 use Rattle.rounding.proofs.whole.whole32.Statement.{statement}
 use Rattle.rounding.proofs.whole.whole32.Tie as tie
 
 -- x has the pattern b as an `f64`
 is : (c : tie.After-bits64) → ofBits binary64 (c .bits64 .result) ≡ c .before .before .args .x
-is c =
-    let start = c .before .before in
-    rw (c .bits64 .ensures, c .before .f32-to-f64-with-nan .ensures)
-    (ofBits-toBits binary64 (start .args .x) (fits-widens (start .args .x) (passes _ (start .good .0 .1))))
+is c = rw (c .bits64 .ensures, c .before .f32-to-f64-with-nan .ensures) (read-wide (c .before .before .args .x) (c .before .before .good .0 .1))
 
 f32-to-f64-with-nan-requires : tie.Need-f32-to-f64-with-nan-requires
 f32-to-f64-with-nan-requires c κs = search needs

@@ -1,10 +1,10 @@
--- `patterns::integers::to_i32_bits` meets its contract. Assumes nothing.
+-- `integers::to_i32_bits` meets its contract. Assumes nothing.
 use borrow.Author.Needs.{needs}
 use lib.Ieee.{binary32, ofBits}
 use mir.Syntax.{w32}
 use Rattle.ieee.proofs.Order.Ranges.{signed-kept}
-use Rattle.patterns.proofs.integers.to_i32_bits.Statement.{statement}
-use Rattle.patterns.proofs.integers.to_i32_bits.Tie as tie
+use Rattle.integers.proofs.to_i32_bits.Statement.{statement}
+use Rattle.integers.proofs.to_i32_bits.Tie as tie
 
 f32-of-requires : tie.Need-f32-of-requires
 f32-of-requires c κs = search needs

@@ -1,10 +1,10 @@
--- `patterns::integers::to_i64_bits` meets its contract. Assumes nothing.
+-- `integers::to_i64_bits` meets its contract. Assumes nothing.
 use borrow.Author.Needs.{needs}
 use lib.Ieee.{binary64, ofBits}
 use mir.Syntax.{w64}
 use Rattle.ieee.proofs.Order.Ranges.{signed-kept}
-use Rattle.patterns.proofs.integers.to_i64_bits.Statement.{statement}
-use Rattle.patterns.proofs.integers.to_i64_bits.Tie as tie
+use Rattle.integers.proofs.to_i64_bits.Statement.{statement}
+use Rattle.integers.proofs.to_i64_bits.Tie as tie
 
 f64-of-requires : tie.Need-f64-of-requires
 f64-of-requires c κs = search needs

@@ -1,7 +1,7 @@
--- `patterns::integers::to_u64_bits` meets its contract. Assumes nothing.
+-- `integers::to_u64_bits` meets its contract. Assumes nothing.
 use borrow.Author.Needs.{needs}
-use Rattle.patterns.proofs.integers.to_u64_bits.Statement.{statement}
-use Rattle.patterns.proofs.integers.to_u64_bits.Tie as tie
+use Rattle.integers.proofs.to_u64_bits.Statement.{statement}
+use Rattle.integers.proofs.to_u64_bits.Tie as tie
 
 f32-of-requires : tie.Need-f32-of-requires
 f32-of-requires c κs = search needs

@@ -1,4 +1,4 @@
--- `patterns::integers::to_u64` meets its contract. Assumes nothing.
+-- `integers::to_u64` meets its contract. Assumes nothing.
 use borrow.Author.Needs.{needs}
 use mathlib.Core.Bool.{true, false}
 use mathlib.Core.Path.{sym}
@@ -7,8 +7,8 @@ use lib.Ieee.{fin, isNan, neg, ofBits}
 use denote.Floats.{passes}
 use Rattle.ieee.proofs.Order.Comparison.{lt-right, lt-of-not-le}
 use Rattle.ieee.proofs.Order.Ranges.{reaches-above, unsigned-end, unsigned-low}
-use Rattle.patterns.proofs.integers.to_u64.Statement.{statement}
-use Rattle.patterns.proofs.integers.to_u64.Tie as tie
+use Rattle.integers.proofs.to_u64.Statement.{statement}
+use Rattle.integers.proofs.to_u64.Tie as tie
 
 truncating-f32-to-u64-requires : tie.Need-truncating-f32-to-u64-requires
 unfolding isNan neg ofBits

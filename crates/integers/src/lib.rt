@@ -1,0 +1,93 @@
+// A float as an integer (IEEE 754-2019 5.8, convertToIntegerTowardZero): the fraction is dropped. For what does not
+// fit, 5.8 leaves the answer open. Here, as in Rust, it is the end of the range that is nearer, and 0 for a NaN:
+// the model's `toSigned h`, of h bits and a sign, and `toUnsigned w`, of w bits. Internal: `floats` passes it on.
+ghost use lib.Ieee.{binary32, binary64, ofBits, toSigned, toUnsigned};
+ghost use mathlib.Core.Path.{_≡_};
+ghost use Prim.Native.Nat.{_/_, _<_, _^_};
+ghost use Rattle.ieee.specs.Fields.{sized};
+use patterns::FIELD;
+use patterns::SIGN;
+use patterns::bits64;
+use patterns::f32_of;
+use patterns::f64_of;
+
+// The size of a float below 2^63 without its fraction, from its pattern's fields. With the digits at the top of a word
+// one shift serves every size from 1 on.
+fn cut_size(e: u64, t: u64) -> u64
+    requires { ⌜ (e < 1086) × (t < 2 ^ 52) ⌝ }
+    ensures { λ r. ⌜ r ≡ sized binary64 e t / 2 ^ 1074 ⌝ }
+{
+    if e < 1023 {
+        0
+    } else {
+        ((FIELD + t) * 0x800) >> (1086 - e)
+    }
+}
+
+// The sign is put on last: a processor would guess a branch by the sign wrongly every other time. From 2^63 on there are
+// only the ends.
+pub fn to_i64(x: f64) -> i64
+    ensures { λ r. ⌜ r ≡ toSigned 63 x ⌝ }
+{
+    let b = bits64(x);
+    let e = b % SIGN / FIELD;
+    if e < 1086 {
+        let n = cut_size(e, b % FIELD) as i64;
+        if b < SIGN { n } else { -n }
+    } else if x != x {
+        0
+    } else if b < SIGN {
+        i64::MAX
+    } else {
+        i64::MIN
+    }
+}
+
+// The same by the pattern that x has as an `f64`, with the ends from 2^31 on.
+pub fn to_i32(x: f32) -> i32
+    ensures { λ r. ⌜ r ≡ toSigned 31 x ⌝ }
+{
+    let b = bits64(std::num::f32_to_f64_with_nan(x));
+    let e = b % SIGN / FIELD;
+    if e < 1054 {
+        let n = cut_size(e, b % FIELD) as i32;
+        if b < SIGN { n } else { -n }
+    } else if x != x {
+        0
+    } else if b < SIGN {
+        i32::MAX
+    } else {
+        i32::MIN
+    }
+}
+
+// A NaN fails both tests.
+pub fn to_u64(x: f32) -> u64
+    ensures { λ r. ⌜ r ≡ toUnsigned 64 x ⌝ }
+{
+    if x >= 18446744073709551616.0 {
+        u64::MAX
+    } else if x > -1.0 {
+        std::num::truncating_f32_to_u64(x)
+    } else {
+        0
+    }
+}
+
+pub fn to_i64_bits(b: u64) -> i64
+    ensures { λ r. ⌜ r ≡ toSigned 63 (ofBits binary64 b) ⌝ }
+{
+    to_i64(f64_of(b))
+}
+
+pub fn to_i32_bits(b: u32) -> i32
+    ensures { λ r. ⌜ r ≡ toSigned 31 (ofBits binary32 b) ⌝ }
+{
+    to_i32(f32_of(b))
+}
+
+pub fn to_u64_bits(b: u32) -> u64
+    ensures { λ r. ⌜ r ≡ toUnsigned 64 (ofBits binary32 b) ⌝ }
+{
+    to_u64(f32_of(b))
+}

@@ -1,5 +1,7 @@
 // Floor, ceiling, and rounding half away from zero: to a whole number of the float's own format.
+ghost use lib.Dec.{leb};
 ghost use lib.Ieee.{binary32, binary64, ofBits, toBits};
+ghost use mathlib.Core.Bool.{cond};
 ghost use mathlib.Core.Path.{_≡_};
 ghost use Prim.Native.Nat.{_<_, _^_};
 ghost use Rattle.ieee.specs.Fields.{sized};
@@ -44,19 +46,25 @@ fn whole_size(e: u64, t: u64, way: Way) -> u64
     }
 }
 
-// x as a whole number, by one way from zero up and by another below. From 2^52 on x is whole.
+// The way of the float with the pattern b: one from zero up, another below.
+fn way_at(b: u64, above: Way, below: Way) -> Way
+    ensures { λ r. ⌜ wayOf r ≡ cond (leb (2 ^ 63) b) (wayOf below) (wayOf above) ⌝ }
+{
+    if b < SIGN { above } else { below }
+}
+
+// x as a whole number, by one way from zero up and by another below. From 2^52 on x is whole. The sign is put on last: a
+// processor would guess a branch by the sign wrongly every other time.
 fn whole64(x: f64, above: Way, below: Way) -> f64
     ensures { λ r. ⌜ r ≡ integral binary64 (wayOf above) (wayOf below) x ⌝ }
 {
     let b = bits64(x);
     let e = b % SIGN / FIELD;
-    let t = b % FIELD;
     if e >= 1075 {
         x
-    } else if b < SIGN {
-        whole_size(e, t, above) as f64
     } else {
-        -(whole_size(e, t, below) as f64)
+        let n = whole_size(e, b % FIELD, way_at(b, above, below)) as f64;
+        if b < SIGN { n } else { -n }
     }
 }
 
@@ -66,13 +74,11 @@ fn whole32(x: f32, above: Way, below: Way) -> f32
 {
     let b = bits64(std::num::f32_to_f64_with_nan(x));
     let e = b % SIGN / FIELD;
-    let t = b % FIELD;
     if e >= 1046 {
         x
-    } else if b < SIGN {
-        whole_size(e, t, above) as f32
     } else {
-        -(whole_size(e, t, below) as f32)
+        let n = whole_size(e, b % FIELD, way_at(b, above, below)) as f32;
+        if b < SIGN { n } else { -n }
     }
 }
 

@@ -83,13 +83,17 @@ module _ (f : Format) (above below : Way) (x : Float) (b : ℕ) (is : ofBits bin
       → round f s n 1 ≡ integral f above below x
   small s n g h r = rw r (sym (integral-at f above below x s (size-of b) (2 ^ 1074) (pow-pos 1074) (value x b is s g (omega arith))))
 
-  pub from-zero-up : (n : ℕ) → b < 2 ^ 63 → field b < 1075 → n ≡ toWhole above (size-of b) (2 ^ 1074) → ofInt f (pos n) ≡ integral f above below x
-  unfolding ofInt
-  from-zero-up n g h r = small false n (lt-leb (2 ^ 63) b g) h r
+  -- the way is the sign's
+  abbrev way : Way
+  way = cond (leb (2 ^ 63) b) below above
 
-  pub below-zero : (n : ℕ) → 2 ^ 63 ≤ b → field b < 1075 → n ≡ toWhole below (size-of b) (2 ^ 1074) → neg (ofInt f (pos n)) ≡ integral f above below x
+  pub from-zero-up : (n : ℕ) → b < 2 ^ 63 → field b < 1075 → n ≡ toWhole way (size-of b) (2 ^ 1074) → ofInt f (pos n) ≡ integral f above below x
   unfolding ofInt
-  below-zero n g h r = round-neg f false n 1 ∙ small true n (le-leb (2 ^ 63) b g) h r
+  from-zero-up n g h r = let e = lt-leb (2 ^ 63) b g in small false n e h (rw e at r)
+
+  pub below-zero : (n : ℕ) → 2 ^ 63 ≤ b → field b < 1075 → n ≡ toWhole way (size-of b) (2 ^ 1074) → neg (ofInt f (pos n)) ≡ integral f above below x
+  unfolding ofInt
+  below-zero n g h r = let e = le-leb (2 ^ 63) b g in round-neg f false n 1 ∙ small true n e h (rw e at r)
 
   pub whole-already : T (fits f x) → 1022 + prec f ≤ field b → x ≡ integral f above below x
   whole-already t h =

@@ -17,25 +17,17 @@ is c = rw (c .bits64 .ensures) (read-back binary64 (c .before .args .x) (c .befo
 bits64-requires : tie.Need-bits64-requires
 bits64-requires c κs = search needs
 
+way-at-requires : tie.Need-way-at-requires
+way-at-requires c κs = search needs
+
 whole-size-requires : tie.Need-whole-size-requires
 whole-size-requires c κs = search needs
 
-int-to-float-result : tie.Need-int-to-float-result
-int-to-float-result c =
-    let called = c .before .before .before .before in
-    let start = called .before in
-    in-format binary64 (wayOf (start .args .above)) (called .bits64 .result) (c .before .whole-size .result) (c .before .before .before .if1 .left)
+int-to-float-n : tie.Need-int-to-float-n
+int-to-float-n c =
+    let asked = c .before .before in
+    in-format binary64 (wayOf (asked .way-at .result)) (asked .before .before .bits64 .result) (c .before .whole-size .result) (asked .before .if1 .left)
     (c .before .whole-size .ensures)
-
-whole-size-requires-2 : tie.Need-whole-size-requires-2
-whole-size-requires-2 c κs = search needs
-
-int-to-float-result-2 : tie.Need-int-to-float-result-2
-int-to-float-result-2 c =
-    let called = c .before .before .before .before in
-    let start = called .before in
-    in-format binary64 (wayOf (start .args .below)) (called .bits64 .result) (c .before .whole-size2 .result) (c .before .before .before .if1 .left)
-    (c .before .whole-size2 .ensures)
 
 returns : tie.Need-returns
 returns c =
@@ -45,19 +37,20 @@ returns c =
 
 returns-2 : tie.Need-returns-2
 returns-2 c =
-    let called = c .before .before .before .before in
+    let asked = c .before .before .before in
+    let called = asked .before .before in
     let start = called .before in
     from-zero-up binary64 (wayOf (start .args .above)) (wayOf (start .args .below)) (start .args .x) (called .bits64 .result) (is called)
-    (c .before .whole-size .result) (c .before .before .if2 .taken) (omega arith) (c .before .whole-size .ensures)
+    (c .before .before .whole-size .result) (c .if2 .taken) (omega arith) (rw (← asked .way-at .ensures) (c .before .before .whole-size .ensures))
 
 returns-3 : tie.Need-returns-3
 returns-3 c =
-    let called = c .before .before .before .before in
+    let asked = c .before .before .before in
+    let called = asked .before .before in
     let start = called .before in
     below-zero binary64 (wayOf (start .args .above)) (wayOf (start .args .below)) (start .args .x) (called .bits64 .result) (is called)
-    (c .before .whole-size2 .result) (c .before .before .if2 .left) (omega arith) (c .before .whole-size2 .ensures)
+    (c .before .before .whole-size .result) (c .if2 .left) (omega arith) (rw (← asked .way-at .ensures) (c .before .before .whole-size .ensures))
 
 pub whole64-spec : {M : Type 1} → statement M
 whole64-spec =
-    tie.close
-    (tie.spec bits64-requires whole-size-requires int-to-float-result whole-size-requires-2 int-to-float-result-2 returns returns-2 returns-3)
+    tie.close (tie.spec bits64-requires way-at-requires whole-size-requires int-to-float-n returns returns-2 returns-3)

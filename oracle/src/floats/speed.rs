@@ -36,7 +36,7 @@ pub fn rows() -> Vec<Row> {
     rows
 }
 
-/// Numbers as they come up in a record: from a millimetre to a kilometre, squares and cubes of them, both signs.
+/// Numbers as they come up in a record: lengths, and areas and volumes made of them, of either sign.
 fn of_a_mesh(width: Width, random: &mut Random) -> u64 {
     let x = random.between(-1.0, 1.0) * 10f64.powi(random.within(-3, 6) as i32);
     match width {

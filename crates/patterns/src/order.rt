@@ -1,5 +1,6 @@
 // Magnitude, and the lesser and the greater of two floats.
 ghost use lib.Ieee.{binary32, binary64, ofBits, toBits};
+ghost use mathlib.Core.Bool.{_||_};
 ghost use mathlib.Core.Path.{_≡_};
 ghost use Rattle.ieee.specs.Magnitude.{magnitude, SignCleared};
 ghost use Rattle.ieee.specs.Order.{greatest, least};
@@ -34,29 +35,36 @@ pub fn magnitude32(x: f32) -> f32
     f32_of(magnitude32_bits(bits32(x)))
 }
 
+// Whether the second of two is taken: where the first is a NaN, and where the first lies past it.
+fn second(nan: bool, past: bool) -> bool
+    ensures { λ r. ⌜ r ≡ (nan || past) ⌝ }
+{
+    nan | past
+}
+
 // `x != x` only where x is a NaN.
 pub fn least64(x: f64, y: f64) -> f64
     ensures { λ r. ⌜ r ≡ least x y ⌝ }
 {
-    if (x != x) | (y < x) { y } else { x }
+    if second(x != x, y < x) { y } else { x }
 }
 
 pub fn least32(x: f32, y: f32) -> f32
     ensures { λ r. ⌜ r ≡ least x y ⌝ }
 {
-    if (x != x) | (y < x) { y } else { x }
+    if second(x != x, y < x) { y } else { x }
 }
 
 pub fn greatest64(x: f64, y: f64) -> f64
     ensures { λ r. ⌜ r ≡ greatest x y ⌝ }
 {
-    if (x != x) | (x < y) { y } else { x }
+    if second(x != x, x < y) { y } else { x }
 }
 
 pub fn greatest32(x: f32, y: f32) -> f32
     ensures { λ r. ⌜ r ≡ greatest x y ⌝ }
 {
-    if (x != x) | (x < y) { y } else { x }
+    if second(x != x, x < y) { y } else { x }
 }
 
 pub fn least64_bits(a: u64, b: u64) -> u64

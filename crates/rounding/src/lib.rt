@@ -1,5 +1,7 @@
 // Roundings: to a whole number of the format, and f64 to f32. Internal: `floats` passes it on.
 mod narrowing; // f64 to f32
+mod ties_away; // to nearest, one tie rule
+mod ties_even; // and the other
 mod whole; // floor, ceiling, and rounding half away from zero
 
 pub use narrowing::narrow;

@@ -1,23 +1,15 @@
 // f64 to f32, to nearest, a tie to the even one, by integer arithmetic on the pattern.
 ghost use lib.Ieee.{binary32, binary64, ofBits, round, toBits};
-ghost use lib.Ieee.Nearest.{closest};
 ghost use mathlib.Core.Bool.{false};
 ghost use mathlib.Core.Path.{_≡_};
-ghost use Prim.Native.Nat.{_*_, _<_, _^_};
+ghost use Prim.Native.Nat.{_<_, _^_};
 ghost use Rattle.ieee.specs.Fields.{sized};
 ghost use Rattle.ieee.specs.Rounded.{rounded};
+use crate::ties_even::nearest_shift;
 use patterns::FIELD;
 use patterns::SIGN;
 use patterns::bits64;
 use patterns::f32_of;
-
-// n / 2^k to the nearest whole number, a tie to the even one: half of 2^k is added, less one where the quotient is even.
-fn nearest_shift(n: u64, k: u64) -> u64
-    requires { ⌜ (n < 2 ^ 53) × (0 < k) × (k < 64) ⌝ }
-    ensures { λ r. ⌜ r ≡ closest n (2 ^ k) ⌝ }
-{
-    (n + ((1u64 << (k - 1)) - 1) + (n >> k) % 2) >> k
-}
 
 // The size of a finite `f64`, from its pattern's fields, as the pattern of the nearest `f32`. An `f32` has 29 digits
 // less and counts its exponent from 896 lower. A carry out of the digits runs into the exponent by itself.

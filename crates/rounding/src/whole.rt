@@ -7,6 +7,7 @@ ghost use Prim.Native.Nat.{_<_, _^_};
 ghost use Rattle.ieee.specs.Fields.{sized};
 ghost use Rattle.ieee.specs.Integral.{ceiling, floor, halfAway, integral, toWhole};
 ghost use Rattle.rounding.specs.Ways.{wayOf};
+use crate::ties_away::nearest_shift;
 use patterns::FIELD;
 use patterns::SIGN;
 use patterns::bits32;
@@ -29,7 +30,7 @@ fn shifted(d: u64, j: u64, way: Way) -> u64
     match way {
         Way::Cut => d >> j,
         Way::Away => (d + ((1u64 << j) - 1)) >> j,
-        Way::Half => (d + (1u64 << (j - 1))) >> j,
+        Way::Half => nearest_shift(d, j),
     }
 }
 

@@ -1,16 +1,20 @@
 -- `patterns::order::least32` meets its contract. Assumes nothing.
+use borrow.Author.Needs.{needs}
 use Rattle.ieee.proofs.Patterns.Nan.{ne-self}
 use Rattle.ieee.specs.Order.{least}
 use Rattle.patterns.proofs.order.least32.Statement.{statement}
 use Rattle.patterns.proofs.order.least32.Tie as tie
 
+second-requires : tie.Need-second-requires
+second-requires c κs = search needs
+
 returns : tie.Need-returns
 unfolding least
-returns c = rw (← ne-self, c .if1 .taken)
+returns c = rw (← ne-self, ← c .before .second .ensures, c .if1 .taken)
 
 returns-2 : tie.Need-returns-2
 unfolding least
-returns-2 c = rw (← ne-self, c .if1 .left)
+returns-2 c = rw (← ne-self, ← c .before .second .ensures, c .if1 .left)
 
 pub least32-spec : {M : Type 1} → statement M
-least32-spec = tie.close (tie.spec returns returns-2)
+least32-spec = tie.close (tie.spec second-requires returns returns-2)

@@ -32,17 +32,8 @@ shr-result-2 c = search needs
 enum-told-3 : tie.Need-enum-told-3
 enum-told-3 c = search needs
 
-sub-result-2 : tie.Need-sub-result-2
-sub-result-2 c = search needs
-
-shl-result-2 : tie.Need-shl-result-2
-shl-result-2 c = search needs
-
-add-result-2 : tie.Need-add-result-2
-add-result-2 c = let j = c .before .before .args .j in rw (one-shl (j - 1) (omega arith)) (omega (arith, pow-mono {i = j - 1} {j = 63} (omega arith)))
-
-shr-result-3 : tie.Need-shr-result-3
-shr-result-3 c = search needs
+nearest-shift-requires : tie.Need-nearest-shift-requires
+nearest-shift-requires c κs = search needs
 
 returns : tie.Need-returns
 returns c = rw (c .enum-told .given .1)
@@ -51,11 +42,9 @@ returns-2 : tie.Need-returns-2
 returns-2 c = rw (c .enum-told2 .given .1, one-shl (c .before .before .args .j) (omega arith))
 
 returns-3 : tie.Need-returns-3
-returns-3 c =
-    let j = c .before .before .args .j in
-    rw (c .enum-told3 .given .1, one-shl (j - 1) (omega arith)) (half-shift (c .before .before .args .d) j (omega arith))
+returns-3 c = rw (c .before .enum-told3 .given .1) (c .nearest-shift .ensures)
 
 pub shifted-spec : {M : Type 1} → statement M
 shifted-spec =
     tie.close
-    (tie.spec enum-told shr-result enum-told-2 shl-result sub-result add-result shr-result-2 enum-told-3 sub-result-2 shl-result-2 add-result-2 shr-result-3 returns returns-2 returns-3)
+    (tie.spec enum-told shr-result enum-told-2 shl-result sub-result add-result shr-result-2 enum-told-3 nearest-shift-requires returns returns-2 returns-3)

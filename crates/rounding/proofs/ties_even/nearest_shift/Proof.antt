@@ -1,11 +1,11 @@
--- `rounding::narrowing::nearest_shift` meets its contract. Assumes nothing.
+-- `rounding::ties_even::nearest_shift` meets its contract. Assumes nothing.
 use borrow.Author.Needs.{needs}
 use Prim.Native.Nat.{_-_}
 use native.Mathlib.Omega.{arith}
 use lib.Pow.{pow-mono, pow-pos}
 use Rattle.ieee.proofs.Numbers.Basic.{nearest-shift, one-shl}
-use Rattle.rounding.proofs.narrowing.nearest_shift.Statement.{statement}
-use Rattle.rounding.proofs.narrowing.nearest_shift.Tie as tie
+use Rattle.rounding.proofs.ties_even.nearest_shift.Statement.{statement}
+use Rattle.rounding.proofs.ties_even.nearest_shift.Tie as tie
 
 sub-result : tie.Need-sub-result
 sub-result c = search needs

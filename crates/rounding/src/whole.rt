@@ -54,8 +54,8 @@ fn way_at(b: u64, above: Way, below: Way) -> Way
     if b < SIGN { above } else { below }
 }
 
-// x as a whole number, by one way from zero up and by another below. From 2^52 on x is whole. The sign is put on last: a
-// processor would guess a branch by the sign wrongly every other time.
+// x as a whole number, by one way from zero up and by another below. From 2^52 on x is whole. The size is made whole, and
+// the sign put on.
 fn whole64(x: f64, above: Way, below: Way) -> f64
     ensures { λ r. ⌜ r ≡ integral binary64 (wayOf above) (wayOf below) x ⌝ }
 {

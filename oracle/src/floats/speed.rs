@@ -9,8 +9,9 @@ use crate::random::Random;
 use std::hint::black_box;
 use std::time::Instant;
 
-const PATTERNS: usize = 4096;
-const ROUNDS: usize = 200;
+/// So many that a processor cannot learn their branches by heart: with 4,096 it does.
+const PATTERNS: usize = 1 << 16;
+const ROUNDS: usize = 10;
 const BEST_OF: usize = 25;
 
 pub struct Row {

@@ -1,0 +1,12 @@
+-- The complete contract of the piece count.
+use Prim.Native.Nat.{ℕ}
+use mathlib.Core.List.{List}
+use Rattle.ids.specs.Triangles.{triangleCount}
+use Rattle.ids.specs.Lent.{Gives}
+use Rattle.pieces.specs.Groups.{shareId, pieces}
+use Rattle.pieces.specs.declared.PieceCount.{PieceCount}
+use Rattle.pieces.specs.declared.PieceCount.the-variants.{Answer, Refused}
+
+-- for these ids and this area, r is the answer and `after` is what the area holds then
+abbrev pub PiecesGiven : List ℕ → List ℕ → PieceCount → List ℕ → Type 0
+PiecesGiven ids area r after = Gives (triangleCount ids) Refused (Answer (pieces shareId ids)) ids area r after

@@ -1,0 +1,5 @@
+pub mod Search
+pub mod Sums
+pub mod Probe
+pub mod Largest
+pub mod Signed

@@ -1,0 +1,35 @@
+// Tables in lent words: what those of edges, faces and vertices share. Internal.
+ghost use mathlib.Core.Path.{_≡_};
+ghost use Prim.Native.Nat.{_≤_, _<_};
+ghost use lib.ListN.{length};
+ghost use Rattle.ids.specs.Lent.{cleared};
+ghost use Rattle.table.specs.Rows.{homeRow, nextRow};
+
+// Zeroes the first n words.
+pub fn clear(work: &mut [u32], n: usize)
+    requires { ⌜ n ≤ length (now work) ⌝ }
+    ensures { λ _. ⌜ now (work .exit) ≡ cleared n (now (work .entry)) ⌝ }
+{
+    let mut i = 0;
+    while i < n {
+        work[i] = 0;
+        i += 1;
+    }
+}
+
+// The row at which a search starts, of n, by a hash.
+pub fn home(hash: u32, n: usize) -> usize
+    requires { ⌜ (0 < n) × (n < 4294967296) ⌝ }
+    ensures { λ r. ⌜ (r ≡ homeRow n hash) × (r < n) ⌝ }
+{
+    (hash as u64 * n as u64 / 0x1_0000_0000) as usize
+}
+
+// The row after r, round.
+pub fn next(r: usize, n: usize) -> usize
+    requires { ⌜ (r < n) × (n < 4294967296) ⌝ }
+    ensures { λ s. ⌜ s ≡ nextRow n r ⌝ }
+{
+    let s = r + 1;
+    if s == n { 0 } else { s }
+}

@@ -1,2 +1,3 @@
 pub mod Triangles
 pub mod Lent
+pub mod Examples

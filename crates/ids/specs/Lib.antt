@@ -1,5 +1,7 @@
--- What `chain` and `pieces` share: document 01's "complete id triples in order", signed uses of edges and faces, and the refusals and the lent area of an
--- id routine.
+-- What document 01 says of lists of ids: their triangles, the edge chain and the face net, and what an id routine refuses and leaves in its lent area.
 pub mod Triangles
 pub mod Uses
+pub mod EdgeChain
+pub mod FaceNet
 pub mod Lent
+pub mod Examples

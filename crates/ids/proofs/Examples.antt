@@ -1,0 +1,12 @@
+-- The starred examples hold, by computing. Assumes nothing.
+use mathlib.Core.Path.{refl}
+use Rattle.ids.specs.Triangles.{distinct, overTriangles}
+use Rattle.ids.specs.Uses.{bit, sumBy, maxBy, counting, uses, signed, keys, keysThat, largest}
+use Rattle.ids.specs.EdgeChain.{sameEdge, step, around, enough, chain, present, unbalanced, crowded, unpaired, incoherent, boundaryFree, overIncident, properStep, aroundProper, closedManifold, windingCoherent}
+use Rattle.ids.specs.FaceNet.{sameFace, sorted, falls, faceUse, face, maxAbs, allCancel}
+use Rattle.ids.specs.Examples.{Holds, tetrahedron, examples}
+
+pub examples-hold : Holds examples
+unfolding Holds tetrahedron examples distinct overTriangles bit sumBy maxBy counting uses signed keys keysThat largest sameEdge step around enough chain present unbalanced crowded unpaired incoherent boundaryFree overIncident properStep aroundProper closedManifold windingCoherent sameFace sorted falls faceUse face maxAbs allCancel
+examples-hold =
+    (refl, refl, refl, refl, refl, refl, (refl, refl, refl, refl, refl, refl, (refl, refl, refl, refl, refl, refl, (refl, refl, refl, refl, refl, refl, (refl, refl, refl, refl, refl, refl, (refl, refl, refl, refl, refl, refl, tt))))))

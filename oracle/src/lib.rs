@@ -11,6 +11,8 @@ pub mod exception;
 pub mod file;
 #[cfg(port)]
 pub mod floats;
+#[cfg(port)]
+pub mod ids;
 pub mod kinds;
 pub mod listing;
 pub mod pieces;

@@ -23,6 +23,10 @@ Against the port (x86-64; first, at the root of the repository: rt staticlib cap
                                last line 'A agree, D differ'
   oracle floats all            the helpers of one f32 on all of its patterns
   oracle speed floats          nanoseconds a call, the port's helper and Rust's operation
+  oracle ids N                 every id routine on all short lists, on large ones and on N by chance, over areas that are
+                               exact, one word short and longer, against the original (pieces: a plain reference);
+                               answers, refusals and every word of the area; last line 'A agree, D differ'
+  oracle speed ids             milliseconds a list, the port's routine and the original's
 ";
 
 fn main() -> ExitCode {
@@ -41,7 +45,12 @@ fn main() -> ExitCode {
             Ok(n) => port::floats(n),
             Err(_) => return usage("N is a whole number from 0 up, or 'all'"),
         },
+        ["ids", n] => match n.parse() {
+            Ok(n) => port::ids(n),
+            Err(_) => return usage("N is a whole number from 0 up"),
+        },
         ["speed", "floats"] => port::speed_floats(),
+        ["speed", "ids"] => port::speed_ids(),
         ["help" | "--help" | "-h"] => {
             print!("{USAGE}");
             return ExitCode::SUCCESS;
@@ -70,6 +79,7 @@ mod port {
     use mowfrost_oracle::floats::compare::{on_all_32, on_chance, on_edges, Count};
     use mowfrost_oracle::floats::helpers::{Width, HELPERS};
     use mowfrost_oracle::floats::speed;
+    use mowfrost_oracle::ids;
     use std::io::{self, Write};
     use std::process::ExitCode;
 
@@ -87,17 +97,34 @@ mod port {
     }
 
     fn tell(counts: impl Iterator<Item = (&'static str, Vec<(&'static str, Count)>)>) -> io::Result<ExitCode> {
+        sum(counts.flat_map(|(name, parts)| {
+            parts.into_iter().map(move |(on, Count { agree, differ, open, shown })| {
+                let line =
+                    format!("{name:<12} {on:<12} {agree:>11} agree, {differ} differ ({open} that Rust leaves open)");
+                (line, agree, differ, shown)
+            })
+        }))
+    }
+
+    pub fn ids(n: u64) -> io::Result<ExitCode> {
+        sum(ids::compare::all(n).flat_map(|(name, parts)| {
+            parts.into_iter().map(move |(on, ids::compare::Count { agree, differ, refused, shown })| {
+                let line = format!("{name:<18} {on:<9} {agree:>9} agree, {differ} differ ({refused} refused)");
+                (line, agree, differ, shown)
+            })
+        }))
+    }
+
+    /// Prints each line with what it shows, then the sums.
+    fn sum(lines: impl Iterator<Item = (String, u64, u64, Vec<String>)>) -> io::Result<ExitCode> {
         let mut out = io::stdout().lock();
         let (mut agree, mut differ) = (0, 0);
-        for (name, parts) in counts {
-            for (on, count) in parts {
-                let Count { agree: a, differ: d, open, shown } = count;
-                writeln!(out, "{name:<12} {on:<12} {a:>11} agree, {d} differ ({open} that Rust leaves open)")?;
-                for line in shown {
-                    writeln!(out, "  {line}")?;
-                }
-                (agree, differ) = (agree + a, differ + d);
+        for (line, a, d, shown) in lines {
+            writeln!(out, "{line}")?;
+            for line in shown {
+                writeln!(out, "  {line}")?;
             }
+            (agree, differ) = (agree + a, differ + d);
         }
         writeln!(out, "{agree} agree, {differ} differ")?;
         Ok(if differ == 0 { ExitCode::SUCCESS } else { ExitCode::FAILURE })
@@ -109,6 +136,17 @@ mod port {
         for row in speed::rows() {
             let ratio = row.port / row.rust;
             writeln!(out, "| `{}` | {} | {:.1} | {:.1} | {ratio:.1} |", row.name, row.on, row.port, row.rust)?;
+        }
+        Ok(ExitCode::SUCCESS)
+    }
+
+    pub fn speed_ids() -> io::Result<ExitCode> {
+        let mut out = io::stdout().lock();
+        writeln!(out, "| routine | list | ids | port, ms | Rust, ms | ratio |\n|---|---|---|---|---|---|")?;
+        for row in ids::speed::rows().iter().chain(&ids::speed::worst()) {
+            let ratio = row.port / row.rust;
+            let (name, on, ids) = (row.name, &row.on, row.ids);
+            writeln!(out, "| `{name}` | {on} | {ids} | {:.3} | {:.3} | {ratio:.2} |", row.port, row.rust)?;
         }
         Ok(ExitCode::SUCCESS)
     }
@@ -136,6 +174,14 @@ mod port {
     }
 
     pub fn speed_floats() -> io::Result<ExitCode> {
+        missing()
+    }
+
+    pub fn ids(_: u64) -> io::Result<ExitCode> {
+        missing()
+    }
+
+    pub fn speed_ids() -> io::Result<ExitCode> {
         missing()
     }
 }

@@ -1,5 +1,5 @@
 -- A contract `Gives` leaves one answer and one area; and what it says by the number of ids and of words. Assumes nothing.
-use mathlib.Core.Path.{_≡_, refl, sym, _∙_}
+use mathlib.Core.Path.{_≡_, refl, sym, ap, _∙_}
 use mathlib.Core.List.{List, [], _++_, append-assoc}
 use Prim.Native.Nat.{ℕ, zero, suc, _+_, _≤_, _<_}
 use native.Mathlib.Omega.{arith}
@@ -31,3 +31,16 @@ module _ {A : Type 0} (needed : ℕ) (refused : ℕ → A) (answer : A) (ids are
 pub cleared-all : (n : ℕ) (t : List ℕ) → length t ≡ n → cleared n t ≡ replicate n 0
 unfolding cleared
 cleared-all n t e = let none : drop n t ≡ [] = drop-of-length-le t {i = n} (omega arith) in rw (none, append-none)
+
+-- an answer by its number, or by anything else that it is turned into
+as-turned : {A B : Type 0} (f : A → B) (n : ℕ) (refused : ℕ → A) (answer : A) → f (unlessRefused n refused answer) ≡ unlessRefused n (λ k. f (refused k)) (f answer)
+unfolding unlessRefused
+as-turned f zero refused answer = refl
+as-turned f (suc n) refused answer = refl
+
+pub gives-turned : {A B : Type 0} (f : A → B) (needed : ℕ) (refused : ℕ → A) (answer : A) (ids area : List ℕ) (r : A) (after : List ℕ)
+    → Gives needed refused answer ids area r after → Gives needed (λ k. f (refused k)) (f answer) ids area (f r) after
+gives-turned f needed refused answer ids area r after g = record {
+  answers = ap f (g .answers) ∙ as-turned f (refusal (length ids) needed (length area)) refused answer;
+  leaves = g .leaves;
+}

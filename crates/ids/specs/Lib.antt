@@ -3,5 +3,6 @@ pub mod Triangles
 pub mod Uses
 pub mod EdgeChain
 pub mod FaceNet
+pub mod Meaning
 pub mod Lent
 pub mod Examples

@@ -1,0 +1,39 @@
+-- What the answers say of every edge and every face, in the words of document 01. `proofs/Meaning.antt` shows that each answer is yes exactly where this holds.
+use mathlib.Core.Path.{_≡_}
+use mathlib.Core.Bool.{Bool, true}
+use mathlib.Core.List.{List}
+use Prim.Native.Nat.{ℕ, _≤_, _<_}
+use lib.IntN.{ℤ, pos, natAbs}
+use lib.ListN.{length}
+use Rattle.ids.specs.Uses.{Use, uses, signed}
+use Rattle.ids.specs.EdgeChain.{Edge, sameEdge, chain, enough, properEdges}
+use Rattle.ids.specs.FaceNet.{Face, sameFace, faces}
+
+-- yes exactly where P holds
+pub record Tells (answer : Bool) (P : Type 0) : Type 0 where
+  pub sound : answer ≡ true → P
+  pub complete : P → answer ≡ true
+
+-- some edge exists and every sum is 0
+pub record BoundaryFree (ids : List ℕ) : Type 0 where
+  pub some : (e : Edge) × (0 < uses sameEdge e (chain ids))
+  pub balanced : (e : Edge) → signed sameEdge e (chain ids) ≡ pos 0
+
+-- some edge has more than 2 uses
+abbrev pub OverIncident : List ℕ → Type 0
+OverIncident ids = (e : Edge) × (2 < uses sameEdge e (chain ids))
+
+-- every edge that is used is used twice, once each way
+pub record ClosedManifold (ids : List ℕ) : Type 0 where
+  pub long-enough : enough (length ids) ≡ true
+  pub twice : (e : Edge) → 0 < uses sameEdge e (properEdges ids) → uses sameEdge e (properEdges ids) ≡ 2
+  pub each-way : (e : Edge) → signed sameEdge e (properEdges ids) ≡ pos 0
+
+-- every face's sum is 0
+abbrev pub AllCancel : List ℕ → Type 0
+AllCancel ids = (f : Face) → signed sameFace f (faces ids) ≡ pos 0
+
+-- m is the largest magnitude of a face's sum
+pub record LargestFaceSum (ids : List ℕ) (m : ℕ) : Type 0 where
+  pub above : (f : Face) → natAbs (signed sameFace f (faces ids)) ≤ m
+  pub reached : 0 < m → (f : Face) × (natAbs (signed sameFace f (faces ids)) ≡ m)

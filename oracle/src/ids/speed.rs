@@ -1,0 +1,88 @@
+//! `oracle speed ids`: how long a routine takes on a list, and how long the original, in one process. For pieces the
+//! other side is a plain union-find over a `HashMap`.
+
+use super::lists::{boxes, fan, mixed, soup, torus, Shape};
+use super::routines::{Routine, MOST_IDS, ROUTINES};
+use crate::random::Random;
+use std::hint::black_box;
+use std::time::Instant;
+
+const BEST_OF: usize = 15;
+
+pub struct Row {
+    pub name: &'static str,
+    pub on: String,
+    pub ids: usize,
+    pub port: f64,
+    pub rust: f64,
+}
+
+const SHAPES: [(&str, Shape); 4] = [("torus", torus), ("soup", soup), ("fan", fan), ("boxes", boxes)];
+
+/// Every routine on each shape as it comes, at the limit and below it; at the limit also with ids and triangles mixed up.
+pub fn rows() -> Vec<Row> {
+    let mut rows = Vec::new();
+    for routine in &ROUTINES {
+        for (name, shape) in SHAPES {
+            for share in [64, 16, 4, 1] {
+                rows.push(race(routine, name.into(), &shape(MOST_IDS / 3 / share), BEST_OF));
+            }
+            let ids = mixed(&shape(MOST_IDS / 3), &mut Random::new(5));
+            rows.push(race(routine, format!("{name}, mixed up"), &ids, BEST_OF));
+        }
+    }
+    rows
+}
+
+/// Ids chosen against the hashes.
+pub fn worst() -> Vec<Row> {
+    let lists = [("edge_chain", against_edges()), ("pieces", against_pieces())];
+    let named = |name: &str| ROUTINES.iter().find(|routine| routine.name == name).expect("a routine of that name");
+    lists.iter().map(|(name, ids)| race(named(name), "ids against the hash".into(), ids, 1)).collect()
+}
+
+/// x with x * odd = 1 among the numbers below 2^32.
+fn inverse(odd: u32) -> u32 {
+    (0..5).fold(odd, |x, _| x.wrapping_mul(2u32.wrapping_sub(odd.wrapping_mul(x))))
+}
+
+/// Triangles whose edges all start their search within some rows of each other.
+fn against_edges() -> Vec<u32> {
+    let (low, high) = (2_447_445_413u32, 1_052_792_407u32);
+    let step = inverse(low.wrapping_add(high) >> 2 | 1);
+    let (to_b, to_c) = (inverse(low), inverse(high));
+    let mut ids = Vec::with_capacity(MOST_IDS);
+    let mut a = 0u32;
+    while ids.len() < MOST_IDS {
+        a = a.wrapping_add(step);
+        let b = a.wrapping_add(to_b);
+        let c = b.wrapping_add(to_c);
+        if a < b && b < c {
+            ids.extend([a, b, c]);
+        }
+    }
+    ids
+}
+
+/// Ids that all start at one row in the first pass.
+fn against_pieces() -> Vec<u32> {
+    let step = inverse(0x9e37_79b1);
+    (0..MOST_IDS as u32).map(|i| i.wrapping_mul(step)).collect()
+}
+
+/// Milliseconds, the best of several runs that take turns.
+fn race(routine: &Routine, on: String, ids: &[u32], best_of: usize) -> Row {
+    let mut work = vec![1; (routine.needed)(ids.len())];
+    let mut row = Row { name: routine.name, on, ids: ids.len(), port: f64::INFINITY, rust: f64::INFINITY };
+    for _ in 0..best_of {
+        row.port = row.port.min(time(|| (routine.port)(ids, &mut work)));
+        row.rust = row.rust.min(time(|| (routine.rust)(ids)));
+    }
+    row
+}
+
+fn time(mut f: impl FnMut() -> u32) -> f64 {
+    let start = Instant::now();
+    black_box(f());
+    start.elapsed().as_secs_f64() * 1e3
+}

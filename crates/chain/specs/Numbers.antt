@@ -17,5 +17,5 @@ faceNetNumber (face-net.Answer max-abs all-cancel) = 2 * max-abs + bit all-cance
 faceNetNumber (face-net.Refused n) = 2147483648 + n
 
 unfoldable pub verdictNumber : Verdict → ℕ
-verdictNumber (verdict.Answer yes) = bit yes
+verdictNumber (verdict.Answer b) = bit b
 verdictNumber (verdict.Refused n) = 2147483648 + n

@@ -3,3 +3,4 @@ pub mod Sums
 pub mod Probe
 pub mod Largest
 pub mod Signed
+pub mod Counts

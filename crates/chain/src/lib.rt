@@ -1,0 +1,177 @@
+// `EdgeChain`, `FaceNet`, `is_closed_manifold` and `winding_coherent`: what the verdict closed or open rests on. Each takes ids and a lent area,
+// and either refuses, with nothing changed, or answers and leaves zero in the words that it needs.
+ghost use mathlib.Core.Path.{_≡_};
+ghost use Prim.Native.Nat.{_+_, _*_, _/_, _≤_};
+ghost use lib.ListN.{length, replicate};
+ghost use mathlib.Core.List.{[]};
+ghost use Rattle.ids.specs.Triangles.{triangleCount};
+ghost use Rattle.ids.specs.EdgeChain.{enough as enoughIds, chain, boundaryFree, overIncident, closedManifold, windingCoherent};
+ghost use Rattle.ids.specs.FaceNet.{maxAbs, allCancel};
+ghost use Rattle.edges.specs.Rows.{EdgeTable};
+ghost use Rattle.chain.specs.Answers.{EdgeChainGiven, FaceNetGiven, ClosedManifoldGiven, WindingCoherentGiven};
+
+// What the edge chain answers.
+pub enum EdgeChain {
+    Answer {
+        boundary_free: bool,
+        over_incident: bool,
+    },
+    Refused(u8),
+}
+
+// What the face net answers: the largest magnitude of a face's sum, and whether all sums are 0.
+pub enum FaceNet {
+    Answer { max_abs: u32, all_cancel: bool },
+    Refused(u8),
+}
+
+// What the routines answer that say yes or no.
+pub enum Verdict {
+    Answer(bool),
+    Refused(u8),
+}
+
+// ---- over an area of just the words needed, which is zero afterwards
+
+// At least 9 ids, and 3 divides their number.
+fn enough(n: usize) -> bool
+    ensures { λ r. ⌜ r ≡ enoughIds n ⌝ }
+{
+    (9 <= n) & (n % 3 == 0)
+}
+
+// Adds the uses of the chain to an empty table: none unless there are enough ids.
+fn gather_chain(ids: &[u32], part: &mut [u32], n: usize)
+    requires { ⌜ (length (now ids) ≤ 98304) × (length (now ids) ≤ n) × (n ≤ 131072) × (3 * n ≤ length (now part)) × EdgeTable n (now part) [] ⌝ }
+    ensures { λ _. ⌜ EdgeTable n (now (part .exit)) (chain (now (ids .entry))) ⌝ }
+{
+    let go = enough(ids.len());
+    if go {
+        edges::gather(ids, part, n, true);
+    }
+}
+
+fn chain_in(ids: &[u32], part: &mut [u32]) -> EdgeChain
+    requires { ⌜ (length (now ids) ≤ 98304) × (length (now part) ≡ 4 * length (now ids)) ⌝ }
+    ensures { λ r. ⌜ (r ≡ EdgeChain.Answer (boundaryFree (now (ids .entry))) (overIncident (now (ids .entry))))
+        × (now (part .exit) ≡ replicate (4 * length (now (ids .entry))) 0) ⌝ }
+{
+    let m = 4 * ids.len();
+    let n = edges::rows(ids.len());
+    table::clear(part, m);
+    gather_chain(ids, part, n);
+    let present = edges::count(part, n, 0);
+    let unbalanced = edges::count(part, n, 1);
+    let crowded = edges::count(part, n, 2);
+    table::clear(part, m);
+    EdgeChain::Answer {
+        boundary_free: (0 < present) & (unbalanced == 0),
+        over_incident: 0 < crowded,
+    }
+}
+
+fn manifold_in(ids: &[u32], part: &mut [u32]) -> bool
+    requires { ⌜ (length (now ids) ≤ 98304) × (length (now part) ≡ 4 * length (now ids)) ⌝ }
+    ensures { λ r. ⌜ (r ≡ closedManifold (now (ids .entry))) × (now (part .exit) ≡ replicate (4 * length (now (ids .entry))) 0) ⌝ }
+{
+    let m = 4 * ids.len();
+    let n = edges::rows(ids.len());
+    table::clear(part, m);
+    edges::gather(ids, part, n, false);
+    let unpaired = edges::count(part, n, 3);
+    table::clear(part, m);
+    enough(ids.len()) & (unpaired == 0)
+}
+
+fn coherent_in(ids: &[u32], part: &mut [u32]) -> bool
+    requires { ⌜ (length (now ids) ≤ 98304) × (length (now part) ≡ 4 * length (now ids)) ⌝ }
+    ensures { λ r. ⌜ (r ≡ windingCoherent (now (ids .entry))) × (now (part .exit) ≡ replicate (4 * length (now (ids .entry))) 0) ⌝ }
+{
+    let m = 4 * ids.len();
+    let n = edges::rows(ids.len());
+    table::clear(part, m);
+    edges::gather(ids, part, n, false);
+    let present = edges::count(part, n, 0);
+    let incoherent = edges::count(part, n, 4);
+    table::clear(part, m);
+    enough(ids.len()) & ((0 < present) & (50 * incoherent <= present))
+}
+
+fn net_in(ids: &[u32], part: &mut [u32]) -> FaceNet
+    requires { ⌜ (length (now ids) ≤ 98304) × (length (now part) ≡ 4 * triangleCount (now ids)) ⌝ }
+    ensures { λ r. ⌜ (r ≡ FaceNet.Answer (maxAbs (now (ids .entry))) (allCancel (now (ids .entry))))
+        × (now (part .exit) ≡ replicate (4 * triangleCount (now (ids .entry))) 0) ⌝ }
+{
+    let n = 2 * (ids.len() / 3);
+    let m = 4 * (ids.len() / 3);
+    table::clear(part, m);
+    faces::gather(ids, part, n);
+    let net = faces::net(part, n);
+    table::clear(part, m);
+    FaceNet::Answer {
+        max_abs: net.max_abs,
+        all_cancel: net.off == 0,
+    }
+}
+
+// ---- the public routines
+
+// The edge chain of a list of ids: is it boundary-free, is it over-incident?
+pub fn edge_chain(ids: &[u32], work: &mut [u32]) -> EdgeChain
+    ensures { λ r. ⌜ EdgeChainGiven (now (ids .entry)) (now (work .entry)) r (now (work .exit)) ⌝ }
+{
+    let n = ids.len();
+    if 98304 < n {
+        return EdgeChain::Refused(1);
+    }
+    let m = 4 * n;
+    if work.len() < m {
+        return EdgeChain::Refused(3);
+    }
+    chain_in(ids, &mut work[0..m])
+}
+
+// Is each edge used twice, once each way?
+pub fn is_closed_manifold(ids: &[u32], work: &mut [u32]) -> Verdict
+    ensures { λ r. ⌜ ClosedManifoldGiven (now (ids .entry)) (now (work .entry)) r (now (work .exit)) ⌝ }
+{
+    let n = ids.len();
+    if 98304 < n {
+        return Verdict::Refused(1);
+    }
+    let m = 4 * n;
+    if work.len() < m {
+        return Verdict::Refused(3);
+    }
+    Verdict::Answer(manifold_in(ids, &mut work[0..m]))
+}
+
+// Is at most one edge in fifty used neither once nor twice, once each way?
+pub fn winding_coherent(ids: &[u32], work: &mut [u32]) -> Verdict
+    ensures { λ r. ⌜ WindingCoherentGiven (now (ids .entry)) (now (work .entry)) r (now (work .exit)) ⌝ }
+{
+    let n = ids.len();
+    if 98304 < n {
+        return Verdict::Refused(1);
+    }
+    let m = 4 * n;
+    if work.len() < m {
+        return Verdict::Refused(3);
+    }
+    Verdict::Answer(coherent_in(ids, &mut work[0..m]))
+}
+
+// The face net of a list of ids: the largest magnitude of a face's sum, and whether all sums are 0.
+pub fn face_net(ids: &[u32], work: &mut [u32]) -> FaceNet
+    ensures { λ r. ⌜ FaceNetGiven (now (ids .entry)) (now (work .entry)) r (now (work .exit)) ⌝ }
+{
+    let n = ids.len();
+    if 98304 < n {
+        return FaceNet::Refused(1);
+    }
+    let m = 4 * (n / 3);
+    if work.len() < m {
+        return FaceNet::Refused(3);
+    }
+    net_in(ids, &mut work[0..m])
+}

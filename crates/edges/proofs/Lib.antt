@@ -1,0 +1,6 @@
+pub mod Same
+pub mod Words
+pub mod Within
+pub mod Added
+pub mod Triangles
+pub mod Tally

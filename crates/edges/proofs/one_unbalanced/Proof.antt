@@ -1,0 +1,30 @@
+use Prim.Native.Nat.{_+_}
+use native.Mathlib.Omega.{arith}
+use borrow.Author.Tests.{eq-eqb, ne-eqb}
+use Rattle.ids.specs.Uses.{bit}
+use Rattle.ids.specs.EdgeChain.{unbalanced}
+use Rattle.table.specs.Counts.{magnitude}
+use Rattle.table.proofs.Probe.{gate-zero, gate-pos}
+use Rattle.edges.proofs.one_unbalanced.Statement.{statement}
+use Rattle.edges.proofs.one_unbalanced.Tie as tie
+use Rattle.edges.proofs.one_unbalanced.Reads as reads
+use Rattle.edges.proofs.one_unbalanced.Lts as lts
+
+-- src/lib.rt:174:1
+returns : tie.Need-returns
+unfolding unbalanced bit magnitude
+returns c =
+    let p = c .before .args .ups in
+    let m = c .before .args .ups + c .before .args .downs in
+    (rw (eq-eqb (magnitude m p) 0 (omega arith), gate-zero), omega arith)
+
+-- src/lib.rt:174:1
+returns-2 : tie.Need-returns-2
+unfolding unbalanced bit magnitude
+returns-2 c =
+    let p = c .before .args .ups in
+    let m = c .before .args .ups + c .before .args .downs in
+    (rw (gate-pos m (bit (unbalanced m (magnitude m p))) (omega arith), ne-eqb (magnitude m p) 0 (λ z. omega arith)), omega arith)
+
+pub one-unbalanced-spec : {M : Type 1} → statement M
+one-unbalanced-spec = tie.close (tie.spec returns returns-2)

@@ -1,0 +1,63 @@
+use mathlib.Core.List.{append-assoc}
+use native.Mathlib.Omega.{arith}
+use Rattle.ids.specs.EdgeChain.{properStep, aroundProper}
+use Rattle.edges.specs.Rows.{Room}
+use Rattle.edges.proofs.Triangles.{step-length}
+use Rattle.edges.proofs.Within.{room-less, room-after}
+use borrow.Author.Needs.{needs}
+use Rattle.edges.proofs.proper_triangle.Statement.{statement}
+use Rattle.edges.proofs.proper_triangle.Tie as tie
+use Rattle.edges.proofs.proper_triangle.Reads as reads
+use Rattle.edges.proofs.proper_triangle.Lts as lts
+use Rattle.edges.proofs.proper_step.Reads as proper-step-reads
+
+-- src/lib.rt:125:5
+proper-step-requires : tie.Need-proper-step-requires
+proper-step-requires c κs =
+    let s = c .before .before in
+    (s .pre .0, s .pre .1, room-less (s .args .n) (s .args .work .now) 3 1 (omega arith) (s .pre .2))
+
+-- after the first step there is room for two
+second : (c : tie.After-proper-step) → Room (c .before .before .before .args .n) (c .proper-step .last .0) 2
+second c =
+    let s = c .before .before .before in
+    let k = c .proper-step in
+    let w = s .pre .2 in
+    let l = step-length (s .args .a) (s .args .b) in
+    room-after (s .args .n) (s .args .work .now) (k .last .0) 3 2 (properStep (s .args .a) (s .args .b)) (omega arith) (omega arith) w (k .ensures (w .so-far) (w .means))
+
+-- src/lib.rt:126:5
+proper-step-requires-2 : tie.Need-proper-step-requires-2
+proper-step-requires-2 c κs =
+    let s = c .before .before .before .before .before .before in
+    let k = c .before .before .before .proper-step in
+    (s .pre .0, omega (arith, s .pre .1, k .kept), room-less (s .args .n) (k .last .0) 2 1 (omega arith) (second (c .before .before .before)))
+
+-- src/lib.rt:127:5
+proper-step-requires-3 : tie.Need-proper-step-requires-3
+proper-step-requires-3 c κs =
+    let s = c .before .before .before .before .before .before .before .before .before .before in
+    let j = c .before .before .before .before .before .before .before .proper-step in
+    let k = c .before .before .before .proper-step2 in
+    let w = second (c .before .before .before .before .before .before .before) in
+    let l = step-length (s .args .b) (s .args .c) in
+    (s .pre .0, omega (arith, s .pre .1, k .kept, j .kept), room-after (s .args .n) (j .last .0) (k .last .0) 2 1 (properStep (s .args .b) (s .args .c)) (omega arith) (omega arith) w (k .ensures (w .so-far) (w .means)))
+
+-- src/lib.rt:121:1
+same-length : tie.Need-same-length
+same-length c = search needs
+
+-- src/lib.rt:121:1
+returns : tie.Need-returns
+unfolding aroundProper
+returns c = λ es m. simp append-assoc at (c .before .before .proper-step3 .ensures _ (c .before .before .before .before .before .before .proper-step2 .ensures _ (c .before .before .before .before .before .before .before .before .before .before .proper-step .ensures es m)))
+
+pub proper-triangle-spec : {M : Type 1} → statement M
+proper-triangle-spec =
+    tie.close
+    (tie.spec
+    proper-step-requires
+    proper-step-requires-2
+    proper-step-requires-3
+    same-length
+    returns)

@@ -1,0 +1,243 @@
+// The edges of the triangles of a list of ids, counted in a table in lent words. Internal: `chain` asks it.
+ghost use mathlib.Core.Path.{_≡_};
+ghost use mathlib.Core.Bool.{cond};
+ghost use mathlib.Core.List.{List, [], _∷_, _++_};
+ghost use Prim.Native.Nat.{_+_, _*_, _/_, _≤_, _<_, min, max};
+ghost use lib.Dec.{ltb};
+ghost use lib.ListN.{length};
+ghost use Rattle.ids.specs.Triangles.{overTriangles};
+ghost use Rattle.ids.specs.Uses.{Use, bit};
+ghost use Rattle.ids.specs.EdgeChain.{Edge, step as stepUse, properStep, around, aroundProper, present, unbalanced, crowded, unpaired, incoherent};
+ghost use Rattle.table.specs.Rows.{Found, Free, sumTo};
+ghost use Rattle.table.specs.Counts.{usesIn, upsIn, magnitude};
+ghost use Rattle.table.specs.Table.{gate};
+ghost use Rattle.edges.specs.Rows.{edgeAt, wordAt, usesAt, put, hashOf, EdgeTable, Room, rowBit};
+ghost use Rattle.edges.specs.Tests.{testOf, edgesOf};
+
+// ---- one edge
+
+fn lesser(u: u32, v: u32) -> u32
+    ensures { λ r. ⌜ r ≡ min u v ⌝ }
+{
+    if u < v { u } else { v }
+}
+
+fn greater(u: u32, v: u32) -> u32
+    ensures { λ r. ⌜ r ≡ max u v ⌝ }
+{
+    if u < v { v } else { u }
+}
+
+// What a step from u to v adds to the word that counts its edge: 65536 upwards, 1 downwards.
+fn weight(u: u32, v: u32) -> u32
+    ensures { λ r. ⌜ r ≡ cond (ltb u v) 65536 1 ⌝ }
+{
+    if u < v { 65536 } else { 1 }
+}
+
+// The hash of an edge. The two factors are far from any ratio of small numbers, and so are their sum and difference, so that the edges of a
+// grid of ids spread.
+fn hash(low: u32, high: u32) -> u32
+    ensures { λ r. ⌜ r ≡ hashOf (record { low = low; high = high }) ⌝ }
+{
+    ((low as u64 * 2447445413 + high as u64 * 1052792407) % 0x1_0000_0000) as u32
+}
+
+// The first row, from `start` on and round, that holds the edge or is free.
+fn find(work: &[u32], n: usize, low: u32, high: u32, start: usize) -> usize
+    requires { ⌜ (start < n) × (n ≤ 131072) × (3 * n ≤ length (now work)) × Free n (usesAt (now work)) ⌝ }
+    ensures { λ r. ⌜ Found n start (edgeAt (now (work .entry))) (usesAt (now (work .entry))) (record { low = low; high = high }) r ⌝ }
+{
+    let mut r = start;
+    loop {
+        let at = 3 * r;
+        if work[at + 2] == 0 {
+            break r;
+        }
+        if (work[at] == low) & (work[at + 1] == high) {
+            break r;
+        }
+        r = table::next(r, n);
+    }
+}
+
+// Counts one more use in row r, which is then the edge's.
+fn bump(work: &mut [u32], r: usize, low: u32, high: u32, by: u32)
+    requires { ⌜ (r < 131072) × (3 * r + 2 < length (now work)) × (wordAt (now work) r + by < 4294967296) ⌝ }
+    ensures { λ _. ⌜ now (work .exit) ≡ put (now (work .entry)) r low high (wordAt (now (work .entry)) r + by) ⌝ }
+{
+    let at = 3 * r;
+    let word = work[at + 2] + by;
+    work[at] = low;
+    work[at + 1] = high;
+    work[at + 2] = word;
+}
+
+// Adds the use that a step from id u to id v makes.
+fn walk(work: &mut [u32], n: usize, u: u32, v: u32)
+    requires { ⌜ (n ≤ 131072) × (3 * n ≤ length (now work)) × Room n (now work) 1 ⌝ }
+    ensures { λ _. ⌜ ((es : List (Use Edge)) → EdgeTable n (now (work .entry)) es → EdgeTable n (now (work .exit)) (es ++ stepUse u v ∷ [])) ⌝ }
+{
+    let low = lesser(u, v);
+    let high = greater(u, v);
+    let start = table::home(hash(low, high), n);
+    let r = find(work, n, low, high, start);
+    bump(work, r, low, high, weight(u, v));
+}
+
+// ---- one triangle
+
+// Adds the uses that one triangle makes: none if it repeats an id.
+fn triangle(work: &mut [u32], n: usize, a: u32, b: u32, c: u32)
+    requires { ⌜ (n ≤ 131072) × (3 * n ≤ length (now work)) × Room n (now work) 3 ⌝ }
+    ensures { λ _. ⌜ ((es : List (Use Edge)) → EdgeTable n (now (work .entry)) es → EdgeTable n (now (work .exit)) (es ++ around (record { a = a; b = b; c = c }))) ⌝ }
+{
+    if a == b {
+        return;
+    }
+    if b == c {
+        return;
+    }
+    if c == a {
+        return;
+    }
+    walk(work, n, a, b);
+    walk(work, n, b, c);
+    walk(work, n, c, a);
+}
+
+// Adds the use that a step makes: none between equal ids.
+fn proper_step(work: &mut [u32], n: usize, u: u32, v: u32)
+    requires { ⌜ (n ≤ 131072) × (3 * n ≤ length (now work)) × Room n (now work) 1 ⌝ }
+    ensures { λ _. ⌜ ((es : List (Use Edge)) → EdgeTable n (now (work .entry)) es → EdgeTable n (now (work .exit)) (es ++ properStep u v)) ⌝ }
+{
+    if u == v {
+        return;
+    }
+    walk(work, n, u, v);
+}
+
+// Adds the uses of one triangle, but those between equal ids.
+fn proper_triangle(work: &mut [u32], n: usize, a: u32, b: u32, c: u32)
+    requires { ⌜ (n ≤ 131072) × (3 * n ≤ length (now work)) × Room n (now work) 3 ⌝ }
+    ensures { λ _. ⌜ ((es : List (Use Edge)) → EdgeTable n (now (work .entry)) es → EdgeTable n (now (work .exit)) (es ++ aroundProper (record { a = a; b = b; c = c }))) ⌝ }
+{
+    proper_step(work, n, a, b);
+    proper_step(work, n, b, c);
+    proper_step(work, n, c, a);
+}
+
+// One or the other.
+fn triangle_by(work: &mut [u32], n: usize, whole: bool, a: u32, b: u32, c: u32)
+    requires { ⌜ (n ≤ 131072) × (3 * n ≤ length (now work)) × Room n (now work) 3 ⌝ }
+    ensures { λ _. ⌜ ((es : List (Use Edge)) → EdgeTable n (now (work .entry)) es → EdgeTable n (now (work .exit)) (es ++ edgesOf whole (record { a = a; b = b; c = c }))) ⌝ }
+{
+    if whole {
+        triangle(work, n, a, b, c);
+    } else {
+        proper_triangle(work, n, a, b, c);
+    }
+}
+
+// ---- all triangles
+
+// How many rows there are for so many ids: 4 for 3.
+pub fn rows(ids: usize) -> usize
+    requires { ⌜ ids ≤ 98304 ⌝ }
+    ensures { λ r. ⌜ r ≡ ids * 4 / 3 ⌝ }
+{
+    ids * 4 / 3
+}
+
+// Adds the uses of all triangles to an empty table of n rows.
+pub fn gather(ids: &[u32], work: &mut [u32], n: usize, whole: bool)
+    requires { ⌜ (length (now ids) ≤ 98304) × (length (now ids) ≤ n) × (n ≤ 131072) × (3 * n ≤ length (now work)) × EdgeTable n (now work) [] ⌝ }
+    ensures { λ _. ⌜ EdgeTable n (now (work .exit)) (overTriangles (edgesOf whole) (now (ids .entry))) ⌝ }
+{
+    let mut i = 0;
+    while i + 2 < ids.len() {
+        triangle_by(work, n, whole, ids[i], ids[i + 1], ids[i + 2]);
+        i += 3;
+    }
+}
+
+// ---- tests on the edges
+
+// 1 for a used row whose edge passes the test, else 0: one function a test, by the row's uses, those upwards and those downwards.
+
+fn one_present(uses: u32) -> usize
+    ensures { λ r. ⌜ (r ≡ gate uses (bit (present uses 0))) × (r ≤ 1) ⌝ }
+{
+    if uses == 0 { 0 } else { 1 }
+}
+
+fn one_unbalanced(ups: u32, downs: u32) -> usize
+    ensures { λ r. ⌜ (r ≡ gate (ups + downs) (bit (unbalanced (ups + downs) (magnitude (ups + downs) ups)))) × (r ≤ 1) ⌝ }
+{
+    if ups == downs { 0 } else { 1 }
+}
+
+fn one_crowded(uses: u32) -> usize
+    ensures { λ r. ⌜ (r ≡ gate uses (bit (crowded uses 0))) × (r ≤ 1) ⌝ }
+{
+    if 2 < uses { 1 } else { 0 }
+}
+
+fn one_unpaired(uses: u32, ups: u32) -> usize
+    ensures { λ r. ⌜ (r ≡ gate uses (bit (unpaired uses (magnitude uses ups)))) × (r ≤ 1) ⌝ }
+{
+    if uses == 0 {
+        return 0;
+    }
+    if uses == 2 {
+        if ups == 1 {
+            return 0;
+        }
+    }
+    1
+}
+
+fn one_incoherent(uses: u32, ups: u32) -> usize
+    ensures { λ r. ⌜ (r ≡ gate uses (bit (incoherent uses (magnitude uses ups)))) × (r ≤ 1) ⌝ }
+{
+    if uses == 1 {
+        return 0;
+    }
+    one_unpaired(uses, ups)
+}
+
+// 1 if a row with this word is used and passes the test, else 0.
+fn passes(word: u32, test: u8) -> usize
+    ensures { λ r. ⌜ (r ≡ gate (usesIn word) (bit (testOf test (usesIn word) (magnitude (usesIn word) (upsIn word))))) × (r ≤ 1) ⌝ }
+{
+    let ups = word / 65536;
+    let downs = word % 65536;
+    let uses = ups + downs;
+    if test == 0 {
+        return one_present(uses);
+    }
+    if test == 1 {
+        return one_unbalanced(ups, downs);
+    }
+    if test == 2 {
+        return one_crowded(uses);
+    }
+    if test == 3 {
+        return one_unpaired(uses, ups);
+    }
+    one_incoherent(uses, ups)
+}
+
+// How many edges pass a test.
+pub fn count(work: &[u32], n: usize, test: u8) -> usize
+    requires { ⌜ (n ≤ 131072) × (3 * n ≤ length (now work)) ⌝ }
+    ensures { λ r. ⌜ (r ≡ sumTo (rowBit (testOf test) (now (work .entry))) n) × (r ≤ n) ⌝ }
+{
+    let mut total = 0;
+    let mut i = 0;
+    while i < n {
+        total += passes(work[3 * i + 2], test);
+        i += 1;
+    }
+    total
+}

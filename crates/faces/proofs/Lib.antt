@@ -1,0 +1,5 @@
+pub mod Faces
+pub mod Bits
+pub mod Rows
+pub mod Answers
+pub mod Turns

@@ -1,0 +1,86 @@
+-- The rows of the table of faces in lent words: a row that is written, what the table then means, and room for one more use. Assumes nothing.
+use mathlib.Core.Path.{_≡_, ap, _∙_}
+use mathlib.Core.Logic.{_≢_}
+use mathlib.Core.Bool.{Bool, cond}
+use mathlib.Core.List.{List, [], _∷_, _++_}
+use Prim.Native.Nat.{ℕ, _+_, _*_, _≤_, _<_}
+use native.Mathlib.Omega.{arith}
+use native.Mathlib.Decide.{ℕ-discrete, decLt}
+use lib.ListN.{length, getD, set, length-set}
+use lib.Seq.{getD-set-same, getD-set-other}
+use Rattle.ids.specs.Triangles.{triangle, triangleCount}
+use Rattle.ids.specs.Uses.{Use}
+use Rattle.ids.specs.FaceNet.{Face, sameFace, sorted, faceUse}
+use Rattle.table.specs.Rows.{Found, Free}
+use Rattle.table.specs.Counts.{usesIn, upsIn}
+use Rattle.table.proofs.Counts.{uses-one-more, ups-one-more}
+use Rattle.table.proofs.Sums.{uses-le}
+use Rattle.table.proofs.Search.{has-free}
+use Rattle.table.proofs.Probe.{Bumped, step}
+use Rattle.faces.specs.Rows.{namedAt, faceAt, wordAt, usesAt, upsAt, put, homeOf, FaceTable, Room}
+use Rattle.faces.proofs.Faces.{face-eq, face-refl, home-in}
+
+-- what the rows are after row r is written
+module _ (t : List ℕ) (r named word : ℕ) where
+  pub put-off : (x : ℕ) → x ≢ 2 * r → x ≢ 2 * r + 1 → getD (put t r named word) x 0 ≡ getD t x 0
+  put-off x n₀ n₁ = getD-set-other (set t (2 * r) named) (2 * r + 1) x word 0 n₁ ∙ getD-set-other t (2 * r) x named 0 n₀
+
+  module _ (fits : 2 * r + 1 < length t) where
+    pub put-named : namedAt (put t r named word) r ≡ named
+    put-named = getD-set-other (set t (2 * r) named) (2 * r + 1) (2 * r) word 0 (omega arith) ∙ getD-set-same t (2 * r) named 0 (omega arith)
+
+    pub put-word : wordAt (put t r named word) r ≡ word
+    put-word = getD-set-same (set t (2 * r) named) (2 * r + 1) word 0 (simp length-set (omega arith))
+
+module _ (ids : List ℕ) (n : ℕ) (t : List ℕ) where
+  abbrev key : ℕ → Face
+  key = faceAt ids t
+
+  -- row r, which a search found, counts one more use and names its triangle
+  module _ (es : List (Use Face)) (r named : ℕ) (fits : 2 * n ≤ length t) (here : named < triangleCount ids) (few : usesAt t r < 65535)
+      (m : FaceTable ids n t es) (found : Found n (homeOf n (sorted (triangle ids named))) (faceAt ids t) (usesAt t) (sorted (triangle ids named)) r) where
+    abbrev up : Bool
+    up = faceUse (triangle ids named) .up
+
+    abbrev after : List ℕ
+    after = put t r named (wordAt t r + cond up 65536 1)
+
+    abbrev within : r < n
+    within = found .within
+
+    bumped : Bumped r (sorted (triangle ids named)) up (faceAt ids t) (faceAt ids after) (usesAt t) (usesAt after) (upsAt t) (upsAt after)
+    bumped =
+        let word : ℕ = wordAt t r + cond up 65536 1 in
+        let room : 2 * r + 1 < length t = omega (arith, found .within) in
+        let wrote : wordAt after r ≡ word = put-word t r named word room in
+        record {
+          key-at = ap (λ (v : ℕ). sorted (triangle ids v)) (put-named t r named word room);
+          cnt-at = ap usesIn wrote ∙ uses-one-more (wordAt t r) few up;
+          up-at = ap upsIn wrote ∙ ups-one-more (wordAt t r) few up;
+          key-off = λ i ne. ap (λ (v : ℕ). sorted (triangle ids v)) (put-off t r named word (2 * i) (omega arith) (omega arith));
+          cnt-off = λ i ne. ap usesIn (put-off t r named word (2 * i + 1) (omega arith) (omega arith));
+          up-off = λ i ne. ap upsIn (put-off t r named word (2 * i + 1) (omega arith) (omega arith));
+        }
+
+    still-named : (i : ℕ) → Dec (i ≡ r) → i < n → namedAt after i < triangleCount ids
+    still-named i (yes e) l = rw (e, put-named t r named (wordAt t r + cond up 65536 1) (omega (arith, found .within))) here
+    still-named i (no ne) l = rw (put-off t r named (wordAt t r + cond up 65536 1) (2 * i) (omega arith) (omega arith)) (m .named i l)
+
+    pub added : FaceTable ids n after (es ++ faceUse (triangle ids named) ∷ [])
+    unfolding faceUse
+    added = record {
+      named = λ i. still-named i (ℕ-discrete i r);
+      means = step sameFace face-eq face-refl n (homeOf n) (faceAt ids t) (usesAt t) (upsAt t) es (faceUse (triangle ids named)) r (home-in n (sorted (triangle ids named)) (omega (arith, found .within)))
+          (m .means) found (faceAt ids after) (usesAt after) (upsAt after) bumped;
+    }
+
+  pub room-free : Room ids n t → Free n (usesAt t)
+  room-free w = has-free (usesAt t) n (omega (arith, w .1, w .3 .means .rows .total))
+
+  -- a row's uses are at most all uses
+  pub row-small : (es : List (Use Face)) → FaceTable ids n t es → (i : ℕ) → i < n → usesAt t i ≤ length es
+  row-small es m i l =
+      elim (decLt 0 (usesAt t i)) [
+        | yes p ↦ omega (arith, m .means .rows .counted i l p, uses-le sameFace (faceAt ids t i) es)
+        | no p ↦ omega arith
+      ]

@@ -1,0 +1,119 @@
+-- `faces::find` meets its contract. The invariant: every row that was passed is used by another face. It ends, since some row is free. Assumes nothing.
+use mathlib.Core.Path.{_≡_, sym, ap, _∙_}
+use mathlib.Core.Logic.{_≢_}
+use mathlib.Core.Bool.{true, false}
+use Prim.Native.Nat.{ℕ, _+_, _-_, _*_, _<_}
+use native.Mathlib.Omega.{arith}
+use borrow.Author.Needs.{needs}
+use Rattle.ids.specs.FaceNet.{Face}
+use Rattle.table.specs.Rows.{dist, nextRow, Passed}
+use Rattle.table.specs.Counts.{usesIn}
+use Rattle.table.proofs.Counts.{used, uses-zero}
+use Rattle.table.proofs.Search.{dist-here, dist-below, next-below, not-round, turn}
+use Rattle.faces.specs.Rows.{faceAt, wordAt, usesAt}
+use Rattle.faces.proofs.Faces.{face-eq, face-ne}
+use Rattle.faces.proofs.find.Statement.{statement}
+use Rattle.faces.proofs.find.Tie as tie
+
+abbrev Inv-loop : tie.InvT-loop
+Inv-loop ids work n low mid high start r₀ r = (r < n) × Passed n start (faceAt ids work) (usesAt work) (record { low = low; mid = mid; high = high }) r
+
+abbrev μ-loop : tie.MeasureT-loop
+μ-loop ids work n low mid high start r₀ r = n - dist n start r
+
+loop-holds : tie.Need-loop-holds Inv-loop μ-loop
+loop-holds c = let s = c .before .before in (s .pre .1, λ j l d. absurd (omega (arith, dist-here (s .args .n) (s .args .start) (s .pre .1))))
+
+mul-at : tie.Need-mul-at Inv-loop μ-loop
+mul-at c = search needs
+
+add-if1 : tie.Need-add-if1 Inv-loop μ-loop
+add-if1 c = search needs
+
+mul-if1 : tie.Need-mul-if1 Inv-loop μ-loop
+mul-if1 c = search needs
+
+shared-slice-read-if1 : tie.Need-shared-slice-read-if1 Inv-loop μ-loop
+shared-slice-read-if1 c = search needs
+
+mul-same : tie.Need-mul-same Inv-loop μ-loop
+mul-same c = search needs
+
+shared-slice-read-same : tie.Need-shared-slice-read-same Inv-loop μ-loop
+shared-slice-read-same c = search needs
+
+cast-same : tie.Need-cast-same Inv-loop μ-loop
+cast-same c = omega (arith, c .shared-slice-known4 .given (2 * c .before .before .before .loop .r))
+
+same-requires : tie.Need-same-requires Inv-loop μ-loop
+same-requires c κs = let s = c .before .before .before .before .before .before in (s .pre .0, s .pre .4 (c .before .before .before .loop .r) (c .before .before .before .loop .inv .0))
+
+next-requires : tie.Need-next-requires Inv-loop μ-loop
+next-requires c κs = search needs
+
+-- what the test of row r says: it holds the face, or the search goes on
+module _ (c : tie.After-same Inv-loop μ-loop) where
+  abbrev at : tie.At-loop Inv-loop μ-loop
+  at = c .before .before .before .before
+
+  abbrev st : tie.Start Inv-loop μ-loop
+  st = c .before .before .before .before .before .before .before
+
+  abbrev key : ℕ → Face
+  key = faceAt (st .args .ids .now) (st .args .work .now)
+
+  abbrev mark : ℕ → ℕ
+  mark = usesAt (st .args .work .now)
+
+  abbrev sought : Face
+  sought = record { low = st .args .low; mid = st .args .mid; high = st .args .high }
+
+  here : c .same .result ≡ true → key (at .loop .r) ≡ sought
+  here told = face-eq (key (at .loop .r)) sought (sym (c .same .ensures) ∙ told)
+
+  busy : 0 < mark (at .loop .r)
+  busy = used (wordAt (st .args .work .now) (at .loop .r)) (omega (arith, c .before .before .if1 .left))
+
+  on : c .same .result ≡ false
+      → (dist (st .args .n) (st .args .start) (nextRow (st .args .n) (at .loop .r)) ≡ dist (st .args .n) (st .args .start) (at .loop .r) + 1)
+      × Passed (st .args .n) (st .args .start) key mark sought (nextRow (st .args .n) (at .loop .r))
+  on differs =
+      let other : key (at .loop .r) ≢ sought = face-ne (key (at .loop .r)) sought (sym (c .same .ensures) ∙ differs) in
+      turn (st .args .n) (st .args .start) (st .pre .1) key mark sought (at .loop .r) (at .loop .inv .0) (at .loop .inv .1) busy other
+      (not-round (st .args .n) (st .args .start) (st .pre .1) key mark sought (at .loop .r) (at .loop .inv .0) (at .loop .inv .1) busy other (st .pre .5))
+
+  below : dist (st .args .n) (st .args .start) (at .loop .r) < st .args .n
+  below = dist-below (st .args .n) (st .args .start) (st .pre .1) (at .loop .r) (at .loop .inv .0)
+
+loop-less : tie.Need-loop-less Inv-loop μ-loop
+loop-less c = let s = c .before .before in rw (c .next .ensures) (omega (arith, on s (c .before .if2 .left) .0, below s))
+
+loop-again : tie.Need-loop-again Inv-loop μ-loop
+loop-again c = let s = c .before .before in rw (c .next .ensures) (next-below (st s .args .n) (st s .args .start) (st s .pre .1) (at s .loop .r) (at s .loop .inv .0), on s (c .before .if2 .left) .1)
+
+returns : tie.Need-returns Inv-loop μ-loop
+returns c = let l = c .before .before .loop in record { within = l .inv .0; holds = λ u. absurd (omega (arith, ap usesIn (c .if1 .taken), uses-zero)); passed = l .inv .1 }
+
+returns-2 : tie.Need-returns-2 Inv-loop μ-loop
+returns-2 c = let l = c .before .before .before .before .before .loop in record { within = l .inv .0; holds = λ u. here (c .before) (c .if2 .taken); passed = l .inv .1 }
+
+pub find-spec : {M : Type 1} → statement M
+find-spec =
+    tie.close
+    (tie.spec
+    Inv-loop
+    μ-loop
+    loop-holds
+    mul-at
+    add-if1
+    mul-if1
+    shared-slice-read-if1
+    mul-same
+    shared-slice-read-same
+    cast-same
+    same-requires
+    next-requires
+    loop-less
+    loop-again
+    returns
+    returns-2)

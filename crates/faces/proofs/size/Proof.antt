@@ -1,0 +1,20 @@
+-- `faces::size` meets its contract: uses upwards less uses downwards, or the other way round. Assumes nothing.
+use native.Mathlib.Omega.{arith}
+use borrow.Author.Needs.{needs}
+use Rattle.table.specs.Counts.{usesIn, upsIn, magnitude}
+use Rattle.faces.proofs.size.Statement.{statement}
+use Rattle.faces.proofs.size.Tie as tie
+
+sub-result : tie.Need-sub-result
+sub-result c = search needs
+
+returns : tie.Need-returns
+unfolding usesIn upsIn magnitude
+returns c = omega arith
+
+returns-2 : tie.Need-returns-2
+unfolding usesIn upsIn magnitude
+returns-2 c = omega arith
+
+pub size-spec : {M : Type 1} → statement M
+size-spec = tie.close (tie.spec sub-result returns returns-2)

@@ -1,0 +1,190 @@
+// The faces of the triangles of a list of ids, counted in a table in lent words. Internal: `chain` asks it.
+ghost use mathlib.Core.Path.{_≡_};
+ghost use mathlib.Core.Bool.{cond};
+ghost use mathlib.Core.List.{List, [], _∷_, _++_};
+ghost use Prim.Native.Nat.{ℕ, _+_, _*_, _≤_, _<_, min, max};
+ghost use lib.ListN.{length};
+ghost use Rattle.ids.specs.Triangles.{triangle, triangleCount};
+ghost use Rattle.ids.specs.Uses.{Use};
+ghost use Rattle.ids.specs.FaceNet.{Face, sameFace, sorted, faceUse, face, faces};
+ghost use Rattle.table.specs.Rows.{sumTo, Found, Free};
+ghost use Rattle.table.specs.Counts.{usesIn, upsIn, magnitude};
+ghost use Rattle.table.specs.Table.{maxTo};
+ghost use Rattle.faces.specs.Rows.{namedAt, faceAt, wordAt, usesAt, put, hashOf, FaceTable, Room, rowOff, rowSize};
+
+fn lesser(a: u32, b: u32) -> u32
+    ensures { λ r. ⌜ r ≡ min a b ⌝ }
+{
+    if a < b { a } else { b }
+}
+
+fn greater(a: u32, b: u32) -> u32
+    ensures { λ r. ⌜ r ≡ max a b ⌝ }
+{
+    if a < b { b } else { a }
+}
+
+// Three ids sorted.
+pub struct Sorted {
+    pub low: u32,
+    pub mid: u32,
+    pub high: u32,
+}
+
+// The ids of triangle t, sorted.
+fn sort(ids: &[u32], t: usize) -> Sorted
+    requires { ⌜ (length (now ids) ≤ 98304) × (t < triangleCount (now ids)) ⌝ }
+    ensures { λ r. ⌜ sorted (triangle (now (ids .entry)) t) ≡ record { low = r .low; mid = r .mid; high = r .high } ⌝ }
+{
+    let at = 3 * t;
+    let a = ids[at];
+    let b = ids[at + 1];
+    let c = ids[at + 2];
+    let first = lesser(a, b);
+    let last = greater(a, b);
+    let low = lesser(first, c);
+    let mid = greater(first, lesser(last, c));
+    let high = greater(last, c);
+    Sorted { low, mid, high }
+}
+
+// What triangle t adds to the word that counts its face: 65536 if an even number of its pairs fall, else 1.
+fn weight(ids: &[u32], t: usize) -> u32
+    requires { ⌜ (length (now ids) ≤ 98304) × (t < triangleCount (now ids)) ⌝ }
+    ensures { λ r. ⌜ r ≡ cond (faceUse (triangle (now (ids .entry)) t) .up) 65536 1 ⌝ }
+{
+    let at = 3 * t;
+    let a = ids[at];
+    let b = ids[at + 1];
+    let c = ids[at + 2];
+    let falls = (b < a) as u32 + ((c < b) as u32 + (c < a) as u32);
+    if falls % 2 == 0 { 65536 } else { 1 }
+}
+
+fn hash(low: u32, mid: u32, high: u32) -> u32
+    ensures { λ r. ⌜ r ≡ hashOf (record { low = low; mid = mid; high = high }) ⌝ }
+{
+    ((low as u64 * 1640531527 + mid as u64 * 1052792407 + high as u64 * 779470673)
+        % 0x1_0000_0000) as u32
+}
+
+// Is the face of triangle t the one with these ids?
+fn same(ids: &[u32], t: usize, low: u32, mid: u32, high: u32) -> bool
+    requires { ⌜ (length (now ids) ≤ 98304) × (t < triangleCount (now ids)) ⌝ }
+    ensures { λ r. ⌜ r ≡ sameFace (sorted (triangle (now (ids .entry)) t)) (record { low = low; mid = mid; high = high }) ⌝ }
+{
+    let s = sort(ids, t);
+    (s.low == low) & ((s.mid == mid) & (s.high == high))
+}
+
+// The first row, from `start` on and round, that holds the face or is free.
+fn find(ids: &[u32], work: &[u32], n: usize, low: u32, mid: u32, high: u32, start: usize) -> usize
+    requires { ⌜ (length (now ids) ≤ 98304) × (start < n) × (n ≤ 65536) × (2 * n ≤ length (now work))
+        × ((i : ℕ) → i < n → namedAt (now work) i < triangleCount (now ids)) × Free n (usesAt (now work)) ⌝ }
+    ensures { λ r. ⌜ Found n start (faceAt (now (ids .entry)) (now (work .entry))) (usesAt (now (work .entry))) (record { low = low; mid = mid; high = high }) r ⌝ }
+{
+    let mut r = start;
+    loop {
+        let at = 2 * r;
+        if work[at + 1] == 0 {
+            break r;
+        }
+        if same(ids, work[at] as usize, low, mid, high) {
+            break r;
+        }
+        r = table::next(r, n);
+    }
+}
+
+// Counts one more use in row r, which then names triangle t.
+fn bump(work: &mut [u32], r: usize, t: usize, by: u32)
+    requires { ⌜ (r < 65536) × (2 * r + 1 < length (now work)) × (t < 32768) × (by ≤ 65536) × (usesAt (now work) r < 32768) ⌝ }
+    ensures { λ _. ⌜ now (work .exit) ≡ put (now (work .entry)) r t (wordAt (now (work .entry)) r + by) ⌝ }
+{
+    let at = 2 * r;
+    let word = work[at + 1] + by;
+    work[at] = t as u32;
+    work[at + 1] = word;
+}
+
+// Adds the use that triangle t makes, whose ids are distinct.
+fn add(ids: &[u32], work: &mut [u32], n: usize, t: usize)
+    requires { ⌜ (length (now ids) ≤ 98304) × (t < triangleCount (now ids)) × (n ≤ 65536) × (2 * n ≤ length (now work)) × Room (now ids) n (now work) ⌝ }
+    ensures { λ _. ⌜ ((es : List (Use Face)) → FaceTable (now (ids .entry)) n (now (work .entry)) es
+        → FaceTable (now (ids .entry)) n (now (work .exit)) (es ++ faceUse (triangle (now (ids .entry)) t) ∷ [])) ⌝ }
+{
+    let s = sort(ids, t);
+    let low = s.low;
+    let mid = s.mid;
+    let high = s.high;
+    let start = table::home(hash(low, mid, high), n);
+    let r = find(ids, work, n, low, mid, high, start);
+    bump(work, r, t, weight(ids, t));
+}
+
+// Adds the use that triangle t makes: none if it repeats an id.
+fn triangle(ids: &[u32], work: &mut [u32], n: usize, t: usize)
+    requires { ⌜ (length (now ids) ≤ 98304) × (t < triangleCount (now ids)) × (n ≤ 65536) × (2 * n ≤ length (now work)) × Room (now ids) n (now work) ⌝ }
+    ensures { λ _. ⌜ ((es : List (Use Face)) → FaceTable (now (ids .entry)) n (now (work .entry)) es
+        → FaceTable (now (ids .entry)) n (now (work .exit)) (es ++ face (triangle (now (ids .entry)) t))) ⌝ }
+{
+    let at = 3 * t;
+    let a = ids[at];
+    let b = ids[at + 1];
+    let c = ids[at + 2];
+    if a == b {
+        return;
+    }
+    if b == c {
+        return;
+    }
+    if c == a {
+        return;
+    }
+    add(ids, work, n, t);
+}
+
+// Adds the uses of all triangles to an empty table of n rows.
+pub fn gather(ids: &[u32], work: &mut [u32], n: usize)
+    requires { ⌜ (length (now ids) ≤ 98304) × (triangleCount (now ids) ≤ n) × (n ≤ 65536) × (2 * n ≤ length (now work)) × FaceTable (now ids) n (now work) [] ⌝ }
+    ensures { λ _. ⌜ FaceTable (now (ids .entry)) n (now (work .exit)) (faces (now (ids .entry))) ⌝ }
+{
+    let m = ids.len() / 3;
+    let mut t = 0;
+    while t < m {
+        triangle(ids, work, n, t);
+        t += 1;
+    }
+}
+
+// The magnitude of the sum that a word counts.
+fn size(word: u32) -> u32
+    ensures { λ r. ⌜ r ≡ magnitude (usesIn word) (upsIn word) ⌝ }
+{
+    let up = word / 65536;
+    let down = word % 65536;
+    if up < down { down - up } else { up - down }
+}
+
+// The largest magnitude of a row's sum, and the number of rows whose sum is not 0.
+pub struct Sums {
+    pub max_abs: u32,
+    pub off: usize,
+}
+
+pub fn net(work: &[u32], n: usize) -> Sums
+    requires { ⌜ (n ≤ 65536) × (2 * n ≤ length (now work)) ⌝ }
+    ensures { λ r. ⌜ (r .«max_abs» ≡ maxTo (rowSize (now (work .entry))) n) × (r .off ≡ sumTo (rowOff (now (work .entry))) n) ⌝ }
+{
+    let mut most = 0;
+    let mut off = 0;
+    let mut i = 0;
+    while i < n {
+        let at = 2 * i;
+        let s = size(work[at + 1]);
+        most = greater(most, s);
+        off += (0 < s) as usize;
+        i += 1;
+    }
+    Sums { max_abs: most, off }
+}

@@ -5,17 +5,17 @@ use mathlib.Core.Bool.{Bool}
 use mathlib.Core.List.{List, [], _∷_, _++_}
 use Prim.Native.Nat.{ℕ, _+_, _*_, _≤_, _<_}
 use native.Mathlib.Omega.{arith}
-use native.Mathlib.Nat.{mul-le-mul-right}
 use lib.ListN.{length, getD, set, length-set}
 use lib.Seq.{getD-set-same, getD-set-other}
 use Rattle.ids.specs.Uses.{Use}
 use Rattle.ids.specs.EdgeChain.{Edge, sameEdge}
-use Rattle.table.specs.Rows.{homeRow, Found}
+use Rattle.table.specs.Rows.{Found}
 use Rattle.table.specs.Counts.{usesIn, upsIn}
+use Rattle.table.proofs.Search.{home-below}
 use Rattle.table.proofs.Probe.{Bumped, step}
 use Rattle.edges.specs.Rows.{EdgeTable, homeOf, hashOf, edgeAt, wordAt, usesAt, upsAt, put}
-use Rattle.edges.proofs.Same.{edge-eq, edge-refl}
-use Rattle.edges.proofs.Words.{weigh, Roomy, more-uses, more-ups}
+use Rattle.ids.proofs.Same.{edge-eq, edge-refl}
+use Rattle.table.proofs.Counts.{weigh, Roomy, more-uses, more-ups}
 
 -- a row that is written
 module _ (t : List ℕ) (r a b w : ℕ) where
@@ -59,8 +59,8 @@ put-bumped t r a b up fits room =
 
 -- a search starts within the table
 home-in : (n : ℕ) (k : Edge) → 0 < n → homeOf n k < n
-unfolding homeOf homeRow hashOf
-home-in n k pos = let m : hashOf k * n ≤ 4294967295 * n = mul-le-mul-right n (omega arith) in omega (arith, m)
+unfolding homeOf hashOf
+home-in n k pos = home-below n (hashOf k) pos (omega arith)
 
 -- the table after one more use, counted in the row that the search found
 pub added : (n : ℕ) (t : List ℕ) (es : List (Use Edge)) (r : ℕ) (x : Use Edge) → 0 < n → 3 * n ≤ length t → Roomy (wordAt t r)

@@ -1,5 +1,3 @@
-pub mod Same
-pub mod Words
 pub mod Within
 pub mod Added
 pub mod Triangles

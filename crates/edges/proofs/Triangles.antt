@@ -3,11 +3,11 @@ use mathlib.Core.Path.{_≡_, refl, sym, ap, _∙_}
 use mathlib.Core.Logic.{_≢_}
 use mathlib.Core.Bool.{Bool, true, false, _&&_, true≢false}
 use mathlib.Core.List.{List, [], _∷_, _++_}
-use Prim.Native.Nat.{ℕ, _+_, _≤_, _<_, min, max}
+use Prim.Native.Nat.{ℕ, _+_, _≤_, min, max}
 use native.Mathlib.Omega.{arith}
 use native.Mathlib.Decide.{ℕ-discrete, decLt}
 use borrow.Author.Tests.{eq-eqb, ne-eqb, lt-ltb, le-ltb}
-use lib.Dec.{eqb, ltb}
+use lib.Dec.{ltb}
 use lib.ListN.{length, length-append}
 use Rattle.ids.specs.Triangles.{Triangle, distinct}
 use Rattle.ids.specs.Uses.{Use, uses, bit}
@@ -16,7 +16,7 @@ use Rattle.table.specs.Table.{ups}
 use Rattle.ids.proofs.Triangles.{repeats-ab, repeats-bc, repeats-ca, repeats-none}
 use Rattle.edges.specs.Rows.{Within}
 use Rattle.edges.specs.Tests.{edgesOf}
-use Rattle.edges.proofs.Same.{edge-eq}
+use Rattle.ids.proofs.Same.{edge-eq}
 use Rattle.edges.proofs.Within.{uses-append, ups-append, within-length}
 
 -- ---- one step

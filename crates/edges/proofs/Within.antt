@@ -1,5 +1,5 @@
 -- How often an edge is used each way, at most: the bound of lists put together. With it a table that has room still has room after a step. Assumes nothing.
-use mathlib.Core.Path.{_≡_, sym}
+use mathlib.Core.Path.{_≡_}
 use mathlib.Core.List.{List, [], _∷_, _++_}
 use Prim.Native.Nat.{ℕ, _+_, _-_, _≤_, _<_}
 use native.Mathlib.Omega.{arith}
@@ -12,7 +12,7 @@ use Rattle.table.specs.Table.{ups}
 use Rattle.table.proofs.Search.{has-free}
 use Rattle.table.proofs.Sums.{ups-le, uses-le}
 use Rattle.edges.specs.Rows.{edgeAt, wordAt, usesAt, EdgeTable, Within, Room}
-use Rattle.edges.proofs.Words.{Roomy}
+use Rattle.table.proofs.Counts.{Roomy}
 
 pub uses-append : (k : Edge) (es fs : List (Use Edge)) → uses sameEdge k (es ++ fs) ≡ uses sameEdge k es + uses sameEdge k fs
 unfolding uses

@@ -141,7 +141,7 @@ fn triangle_by(work: &mut [u32], n: usize, whole: bool, a: u32, b: u32, c: u32)
 
 // ---- all triangles
 
-// How many rows there are for so many ids: 4 for 3.
+// How many rows there are for so many ids: 4 for 3, so 131,072 at most.
 pub fn rows(ids: usize) -> usize
     requires { ⌜ ids ≤ 98304 ⌝ }
     ensures { λ r. ⌜ r ≡ ids * 4 / 3 ⌝ }
@@ -163,7 +163,7 @@ pub fn gather(ids: &[u32], work: &mut [u32], n: usize, whole: bool)
 
 // ---- tests on the edges
 
-// 1 for a used row whose edge passes the test, else 0: one function a test, by the row's uses, those upwards and those downwards.
+// One function a test: 1 for a used row whose edge passes it, else 0, by how often the edge is used, upwards and downwards.
 
 fn one_present(uses: u32) -> usize
     ensures { λ r. ⌜ (r ≡ gate uses (bit (present uses 0))) × (r ≤ 1) ⌝ }

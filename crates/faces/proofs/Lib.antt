@@ -1,5 +1,6 @@
 pub mod Faces
-pub mod Bits
+pub mod Parity
 pub mod Rows
-pub mod Answers
+pub mod RowSums
 pub mod Turns
+pub mod Answers

@@ -1,4 +1,4 @@
--- The rows of the table of faces in lent words: a row that is written, what the table then means, and room for one more use. Assumes nothing.
+-- The table of faces in lent words: what it means when a row is written for one more use, that there is room for it, and that zeros mean no use. Assumes nothing.
 use mathlib.Core.Path.{_≡_, ap, _∙_}
 use mathlib.Core.Logic.{_≢_}
 use mathlib.Core.Bool.{Bool, cond}
@@ -6,65 +6,64 @@ use mathlib.Core.List.{List, [], _∷_, _++_}
 use Prim.Native.Nat.{ℕ, _+_, _*_, _≤_, _<_}
 use native.Mathlib.Omega.{arith}
 use native.Mathlib.Decide.{ℕ-discrete, decLt}
-use lib.ListN.{length, getD, set, length-set}
+use lib.ListN.{length, getD, set, replicate, length-set, getD-replicate}
 use lib.Seq.{getD-set-same, getD-set-other}
 use Rattle.ids.specs.Triangles.{triangle, triangleCount}
 use Rattle.ids.specs.Uses.{Use}
 use Rattle.ids.specs.FaceNet.{Face, sameFace, sorted, faceUse}
 use Rattle.table.specs.Rows.{Found, Free}
 use Rattle.table.specs.Counts.{usesIn, upsIn}
-use Rattle.table.proofs.Counts.{uses-one-more, ups-one-more}
+use Rattle.table.proofs.Counts.{weigh, few-roomy, more-uses, more-ups, none-used, none-up}
 use Rattle.table.proofs.Sums.{uses-le}
 use Rattle.table.proofs.Search.{has-free}
-use Rattle.table.proofs.Probe.{Bumped, step}
+use Rattle.table.proofs.Probe.{Bumped, step, empty}
 use Rattle.faces.specs.Rows.{namedAt, faceAt, wordAt, usesAt, upsAt, put, homeOf, FaceTable, Room}
-use Rattle.faces.proofs.Faces.{face-eq, face-refl, home-in}
+use Rattle.ids.proofs.Same.{face-eq, face-refl}
+use Rattle.faces.proofs.Faces.{home-in}
 
 -- what the rows are after row r is written
 module _ (t : List ℕ) (r named word : ℕ) where
-  pub put-off : (x : ℕ) → x ≢ 2 * r → x ≢ 2 * r + 1 → getD (put t r named word) x 0 ≡ getD t x 0
+  put-off : (x : ℕ) → x ≢ 2 * r → x ≢ 2 * r + 1 → getD (put t r named word) x 0 ≡ getD t x 0
   put-off x n₀ n₁ = getD-set-other (set t (2 * r) named) (2 * r + 1) x word 0 n₁ ∙ getD-set-other t (2 * r) x named 0 n₀
 
   module _ (fits : 2 * r + 1 < length t) where
-    pub put-named : namedAt (put t r named word) r ≡ named
+    put-named : namedAt (put t r named word) r ≡ named
     put-named = getD-set-other (set t (2 * r) named) (2 * r + 1) (2 * r) word 0 (omega arith) ∙ getD-set-same t (2 * r) named 0 (omega arith)
 
-    pub put-word : wordAt (put t r named word) r ≡ word
+    put-word : wordAt (put t r named word) r ≡ word
     put-word = getD-set-same (set t (2 * r) named) (2 * r + 1) word 0 (simp length-set (omega arith))
 
 module _ (ids : List ℕ) (n : ℕ) (t : List ℕ) where
-  abbrev key : ℕ → Face
-  key = faceAt ids t
-
   -- row r, which a search found, counts one more use and names its triangle
   module _ (es : List (Use Face)) (r named : ℕ) (fits : 2 * n ≤ length t) (here : named < triangleCount ids) (few : usesAt t r < 65535)
       (m : FaceTable ids n t es) (found : Found n (homeOf n (sorted (triangle ids named))) (faceAt ids t) (usesAt t) (sorted (triangle ids named)) r) where
     abbrev up : Bool
     up = faceUse (triangle ids named) .up
 
-    abbrev after : List ℕ
-    after = put t r named (wordAt t r + cond up 65536 1)
+    abbrev word : ℕ
+    word = wordAt t r + weigh up
 
-    abbrev within : r < n
-    within = found .within
+    abbrev after : List ℕ
+    after = put t r named word
+
+    room : 2 * r + 1 < length t
+    room = omega (arith, found .within)
 
     bumped : Bumped r (sorted (triangle ids named)) up (faceAt ids t) (faceAt ids after) (usesAt t) (usesAt after) (upsAt t) (upsAt after)
     bumped =
-        let word : ℕ = wordAt t r + cond up 65536 1 in
-        let room : 2 * r + 1 < length t = omega (arith, found .within) in
         let wrote : wordAt after r ≡ word = put-word t r named word room in
         record {
           key-at = ap (λ (v : ℕ). sorted (triangle ids v)) (put-named t r named word room);
-          cnt-at = ap usesIn wrote ∙ uses-one-more (wordAt t r) few up;
-          up-at = ap upsIn wrote ∙ ups-one-more (wordAt t r) few up;
+          cnt-at = ap usesIn wrote ∙ more-uses (wordAt t r) (few-roomy (wordAt t r) few) up;
+          up-at = ap upsIn wrote ∙ more-ups (wordAt t r) (few-roomy (wordAt t r) few) up;
           key-off = λ i ne. ap (λ (v : ℕ). sorted (triangle ids v)) (put-off t r named word (2 * i) (omega arith) (omega arith));
           cnt-off = λ i ne. ap usesIn (put-off t r named word (2 * i + 1) (omega arith) (omega arith));
           up-off = λ i ne. ap upsIn (put-off t r named word (2 * i + 1) (omega arith) (omega arith));
         }
 
     still-named : (i : ℕ) → Dec (i ≡ r) → i < n → namedAt after i < triangleCount ids
-    still-named i (yes e) l = rw (e, put-named t r named (wordAt t r + cond up 65536 1) (omega (arith, found .within))) here
-    still-named i (no ne) l = rw (put-off t r named (wordAt t r + cond up 65536 1) (2 * i) (omega arith) (omega arith)) (m .named i l)
+    still-named i (yes e) l = rw (e, put-named t r named word room) here
+    still-named i (no ne) l = rw (put-off t r named word (2 * i) (omega arith) (omega arith)) (m .named i l)
 
     pub added : FaceTable ids n after (es ++ faceUse (triangle ids named) ∷ [])
     unfolding faceUse
@@ -84,3 +83,11 @@ module _ (ids : List ℕ) (n : ℕ) (t : List ℕ) where
         | yes p ↦ omega (arith, m .means .rows .counted i l p, uses-le sameFace (faceAt ids t i) es)
         | no p ↦ omega arith
       ]
+
+-- zeros are a table with no use
+pub zero-table : (ids : List ℕ) (n m : ℕ) → 2 * n ≤ m → (0 < n → 0 < triangleCount ids) → FaceTable ids n (replicate m 0) []
+zero-table ids n m fits some = record {
+  named = λ i l. rw (getD-replicate {A = ℕ} m (2 * i) 0 0 (omega arith)) (some (omega arith));
+  means = empty sameFace n (homeOf n) (faceAt ids (replicate m 0)) (usesAt (replicate m 0)) (upsAt (replicate m 0))
+      (λ i l. let z : wordAt (replicate m 0) i ≡ 0 = getD-replicate {A = ℕ} m (2 * i + 1) 0 0 (omega arith) in (none-used _ z, none-up _ z));
+}

@@ -8,14 +8,15 @@ use lib.ListN.{length, drop, length-append}
 use Rattle.ids.specs.Triangles.{Triangle, triangle, triangleCount, distinct}
 use Rattle.ids.specs.Uses.{Use}
 use Rattle.ids.specs.FaceNet.{Face, faceUse, face, faces}
-use Rattle.ids.proofs.Triangles.{turn, turned}
+use Rattle.ids.proofs.Triangles.{append-none, turn, turned}
 
-module _ (t : Triangle) where
-  pub face-none : distinct t ≡ false → face t ≡ []
+-- a triangle that repeats an id adds no use, another one
+module _ (es : List (Use Face)) (t : Triangle) where
+  pub face-none : distinct t ≡ false → es ++ face t ≡ es
   unfolding face
-  face-none e = rw e
+  face-none e = rw (e, append-none)
 
-  pub face-one : distinct t ≡ true → face t ≡ faceUse t ∷ []
+  pub face-one : distinct t ≡ true → es ++ face t ≡ es ++ faceUse t ∷ []
   unfolding face
   face-one e = rw e
 

@@ -1,7 +1,5 @@
 -- The table of faces: rows of 2 words, a triangle and the word that counts the uses of its face. There are 2 rows for a triangle, so at most one in two is used.
-use mathlib.Core.Path.{_≡_}
-use Prim.Native.Nat.{ℕ, _+_, _*_, _%_, _≤_, _<_}
-use mathlib.Core.Bool.{Bool}
+use Prim.Native.Nat.{ℕ, _+_, _*_, _%_, _<_}
 use mathlib.Core.List.{List}
 use lib.ListN.{length, getD, set}
 use Rattle.ids.specs.Triangles.{triangle, triangleCount}

@@ -95,10 +95,10 @@ module _ (ids : List ℕ) where
   unfolding boundaryFree present
   boundary-free-tells = record {
     sound = λ h. let w = both _ _ h in
-      let s = some-passes sameEdge edge-eq edge-refl present (chain ids) (w .0) in
-      record { some = (s .0, s .1); balanced = balanced sameEdge edge-eq edge-refl (chain ids) (w .1) };
+        let s = some-passes sameEdge edge-eq edge-refl present (chain ids) (w .0) in
+        record { some = (s .0, s .1); balanced = balanced sameEdge edge-eq edge-refl (chain ids) (w .1) };
     complete = λ h. and-true _ _ (passes-some sameEdge edge-eq edge-refl present (chain ids) (h .some .0) (h .some .1) refl)
-      (unbalanced-none sameEdge edge-eq edge-refl (chain ids) (h .balanced));
+        (unbalanced-none sameEdge edge-eq edge-refl (chain ids) (h .balanced));
   }
 
   pub over-incident-tells : Tells (overIncident ids) (OverIncident ids)
@@ -121,16 +121,16 @@ module _ (ids : List ℕ) where
   unfolding closedManifold unpaired
   closed-manifold-tells = record {
     sound = λ h. let w = both _ _ h in
-      record {
-        long-enough = w .0;
-        twice = λ e l. eqb-true _ _ (paired (w .1) e l .0);
-        each-way = λ e. elim (decLt 0 (uses sameEdge e (properEdges ids))) [
-          | yes l ↦ abs-zero _ (eqb-true _ _ (paired (w .1) e l .1))
-          | no l ↦ unused-zero sameEdge edge-eq edge-refl e (properEdges ids) (omega arith)
-        ];
-      };
+        record {
+          long-enough = w .0;
+          twice = λ e l. eqb-true _ _ (paired (w .1) e l .0);
+          each-way = λ e. elim (decLt 0 (uses sameEdge e (properEdges ids))) [
+            | yes l ↦ abs-zero _ (eqb-true _ _ (paired (w .1) e l .1))
+            | no l ↦ unused-zero sameEdge edge-eq edge-refl e (properEdges ids) (omega arith)
+          ];
+        };
     complete = λ h. and-true _ _ (h .long-enough)
-      (passes-none sameEdge edge-eq edge-refl unpaired (properEdges ids) (λ e l. not-true _ (and-true _ _ (eq-eqb _ _ (h .twice e l)) (eq-eqb _ _ (ap natAbs (h .each-way e))))));
+        (passes-none sameEdge edge-eq edge-refl unpaired (properEdges ids) (λ e l. not-true _ (and-true _ _ (eq-eqb _ _ (h .twice e l)) (eq-eqb _ _ (ap natAbs (h .each-way e))))));
   }
 
   pub all-cancel-tells : Tells (allCancel ids) (AllCancel ids)

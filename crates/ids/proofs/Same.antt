@@ -1,6 +1,7 @@
 -- `sameEdge` and `sameFace` are equality. Assumes nothing.
-use mathlib.Core.Path.{_≡_, refl}
-use mathlib.Core.Bool.{Bool, true, false, _&&_, false≢true}
+use mathlib.Core.Path.{_≡_, refl, sym, _∙_}
+use mathlib.Core.Logic.{_≢_}
+use mathlib.Core.Bool.{Bool, true, false, _&&_, true≢false, false≢true}
 use Prim.Native.Nat.{ℕ}
 use borrow.Author.Tests.{eqb-true, eq-eqb}
 use lib.Dec.{eqb}
@@ -32,3 +33,7 @@ face-eq f g h =
 pub face-refl : (f : Face) → sameFace f f ≡ true
 unfolding sameFace
 face-refl f = rw (eq-eqb (f .low) (f .low) refl, eq-eqb (f .mid) (f .mid) refl, eq-eqb (f .high) (f .high) refl)
+
+-- a test on keys that holds of a key and itself is refused only by another key
+pub same-ne : {K : Type 0} (same : K → K → Bool) → ((a : K) → same a a ≡ true) → (a b : K) → same a b ≡ false → a ≢ b
+same-ne same same-refl a b differ e = true≢false (sym (same-refl b) ∙ rw e at differ)

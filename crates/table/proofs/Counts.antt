@@ -1,4 +1,4 @@
--- The word in which a row counts uses: it is 0 just where there are none, and one use more adds 65536 or 1 to it. Assumes nothing.
+-- The word in which a row counts uses: it is 0 just where there are none, and one use more, upwards or downwards, adds its weight. Assumes nothing.
 use mathlib.Core.Path.{_≡_}
 use mathlib.Core.Bool.{Bool, true, false, cond}
 use Prim.Native.Nat.{ℕ, _+_, _≤_, _<_}
@@ -7,9 +7,13 @@ use Rattle.ids.specs.Uses.{bit}
 use Rattle.table.specs.Counts.{upsIn, usesIn}
 
 module _ (w : ℕ) where
-  pub none-used : usesIn w ≡ 0 → w ≡ 0
+  pub none-used : w ≡ 0 → usesIn w ≡ 0
   unfolding usesIn
-  none-used z = omega arith
+  none-used e = omega arith
+
+  pub none-up : w ≡ 0 → upsIn w ≡ 0
+  unfolding upsIn
+  none-up e = omega arith
 
   pub used : 0 < w → 0 < usesIn w
   unfolding usesIn
@@ -19,26 +23,30 @@ module _ (w : ℕ) where
   unfolding usesIn upsIn
   ups-within = omega arith
 
-  -- a word with few uses holds one more
-  module _ (few : usesIn w < 65535) where
-    pub fits-more : w + 65536 < 4294967296
-    unfolding usesIn
-    fits-more = omega arith
+-- what a use adds to the word
+abbrev pub weigh : Bool → ℕ
+weigh up = cond up 65536 1
 
-    pub uses-one-more : (up : Bool) → usesIn (w + cond up 65536 1) ≡ usesIn w + 1
-    unfolding usesIn
-    uses-one-more true = omega arith
-    uses-one-more false = omega arith
+-- the word has room for one more use, either way
+pub record Roomy (w : ℕ) : Type 0 where
+  pub ups-left : upsIn w < 65535
+  pub downs-left : usesIn w < upsIn w + 65535
 
-    pub ups-one-more : (up : Bool) → upsIn (w + cond up 65536 1) ≡ upsIn w + bit up
-    unfolding usesIn upsIn bit
-    ups-one-more true = omega arith
-    ups-one-more false = omega arith
+pub few-roomy : (w : ℕ) → usesIn w < 65535 → Roomy w
+few-roomy w few = record { ups-left = omega (arith, ups-within w); downs-left = omega arith }
 
-pub uses-zero : usesIn 0 ≡ 0
-unfolding usesIn
-uses-zero = omega arith
+module _ (w : ℕ) (room : Roomy w) where
+  pub more-fits : (up : Bool) → w + weigh up < 4294967296
+  unfolding usesIn upsIn
+  more-fits true = omega (arith, room .ups-left)
+  more-fits false = omega (arith, room .ups-left)
 
-pub ups-zero : upsIn 0 ≡ 0
-unfolding upsIn
-ups-zero = omega arith
+  pub more-uses : (up : Bool) → usesIn (w + weigh up) ≡ usesIn w + 1
+  unfolding usesIn upsIn
+  more-uses true = omega arith
+  more-uses false = omega (arith, room .downs-left)
+
+  pub more-ups : (up : Bool) → upsIn (w + weigh up) ≡ upsIn w + bit up
+  unfolding usesIn upsIn bit
+  more-ups true = omega arith
+  more-ups false = omega (arith, room .downs-left)

@@ -4,3 +4,4 @@ pub mod Probe
 pub mod Largest
 pub mod Signed
 pub mod Counts
+pub mod Tally

@@ -1,14 +1,20 @@
 -- What a search finds, and what writing the row that it found does to a table: the part that is the same for every kind of table. Assumes nothing.
 use mathlib.Core.Path.{_≡_, refl, sym, ap, _∙_}
 use mathlib.Core.Logic.{_≢_, _⊎_, inl, inr, ⊎-elim}
-use Prim.Native.Nat.{ℕ, zero, suc, _+_, _-_, _≤_, _<_}
+use Prim.Native.Nat.{ℕ, zero, suc, _+_, _-_, _*_, _≤_, _<_}
 use native.Mathlib.Omega.{arith}
+use native.Mathlib.Nat.{mul-le-mul-right}
 use native.Mathlib.Decide.{ℕ-discrete, decLt, decLe}
 use borrow.Author.Tests.{le-leb, lt-leb, eq-eqb, ne-eqb}
 use Rattle.table.proofs.Sums.{sumTo-pos}
-use Rattle.table.specs.Rows.{sumTo, nextRow, dist, Passed, Found, Free, Spread}
+use Rattle.table.specs.Rows.{sumTo, homeRow, nextRow, dist, Passed, Found, Free, Spread}
 
 -- ---- the way of a search
+
+-- it starts at one of the rows
+pub home-below : (n hash : ℕ) → 0 < n → hash < 4294967296 → homeRow n hash < n
+unfolding homeRow
+home-below n hash some small = let m : hash * n ≤ 4294967295 * n = mul-le-mul-right n (omega arith) in omega (arith, m)
 
 -- the laws of `dist`
 dist-ge : (n h x : ℕ) → h ≤ x → dist n h x ≡ x - h
@@ -50,11 +56,11 @@ module _ (n h : ℕ) (home : h < n) where
   pub dist-next : (x : ℕ) → x < n → dist n h x + 1 < n → dist n h (nextRow n x) ≡ dist n h x + 1
   dist-next x l m =
       ⊎-elim (λ w. rw (w .1) (split n h x
-          (λ a d. split n h (x + 1) (λ a′ d′. omega arith) (λ a′ d′. omega arith))
-          (λ a d. split n h (x + 1) (λ a′ d′. omega (arith, w .0)) (λ a′ d′. omega arith))))
+      (λ a d. split n h (x + 1) (λ a′ d′. omega arith) (λ a′ d′. omega arith))
+      (λ a d. split n h (x + 1) (λ a′ d′. omega (arith, w .0)) (λ a′ d′. omega arith))))
       (λ w. rw (w .1) (split n h x
-          (λ a d. split n h 0 (λ a′ d′. omega (arith, w .0)) (λ a′ d′. omega (arith, w .0)))
-          (λ a d. split n h 0 (λ a′ d′. omega (arith, w .0)) (λ a′ d′. omega (arith, w .0)))))
+      (λ a d. split n h 0 (λ a′ d′. omega (arith, w .0)) (λ a′ d′. omega (arith, w .0)))
+      (λ a d. split n h 0 (λ a′ d′. omega (arith, w .0)) (λ a′ d′. omega (arith, w .0)))))
       (next-of x l)
 
 -- a turn of the search: row r is used by another key

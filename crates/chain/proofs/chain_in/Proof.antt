@@ -31,7 +31,6 @@ clear-requires c κs = search needs
 -- src/lib.rt:62:5
 gather-chain-requires : tie.Need-gather-chain-requires
 gather-chain-requires c κs =
-    
     let s = c .before .before .before .before .before .before .before .before in
     let k = c .before .before .before .clear in
     let n = c .before .before .before .before .before .rows in
@@ -61,7 +60,6 @@ same-length c = search needs
 returns : tie.Need-returns
 unfolding testOf boundaryFree overIncident
 returns c =
-    
     let s = c .before .before .before .before .before .before .before .before .before .before .before .before .before .before .before .before .before .before .before .before .before in
     let ids = s .args .ids .now in
     let n = c .before .before .before .before .before .before .before .before .before .before .before .before .before .before .before .before .before .before .rows .result in

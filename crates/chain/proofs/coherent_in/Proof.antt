@@ -34,7 +34,6 @@ clear-requires c κs = search needs
 -- src/lib.rt:93:5
 gather-requires : tie.Need-gather-requires
 gather-requires c κs =
-    
     let s = c .before .before .before .before .before .before .before .before in
     let k = c .before .before .before .clear in
     let n = c .before .before .before .before .before .rows in
@@ -68,7 +67,6 @@ same-length c = search needs
 returns : tie.Need-returns
 unfolding testOf edgesOf windingCoherent
 returns c =
-    
     let s = c .before .before .before .before .before .before .before .before .before .before .before .before .before .before .before .before .before .before .before .before in
     let ids = s .args .ids .now in
     let n = c .before .before .before .before .before .before .before .before .before .before .before .before .before .before .before .before .before .rows .result in

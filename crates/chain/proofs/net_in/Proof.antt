@@ -3,7 +3,8 @@ use Prim.Native.Nat.{ℕ, _*_}
 use lib.ListN.{length, replicate}
 use Prim.Native.Nat.{_/_}
 use Rattle.ids.proofs.Lent.{cleared-all}
-use Rattle.faces.proofs.Answers.{zero-table, net-max, net-off}
+use Rattle.faces.proofs.Rows.{zero-table}
+use Rattle.faces.proofs.Answers.{net-max, net-off}
 use native.Mathlib.Omega.{arith}
 use borrow.Author.Needs.{needs}
 use Rattle.chain.proofs.net_in.Statement.{statement}
@@ -29,7 +30,6 @@ clear-requires c κs = search needs
 -- src/lib.rt:108:5
 gather-requires : tie.Need-gather-requires
 gather-requires c κs =
-    
     let s = c .before .before .before .before .before .before .before in
     let ids = s .args .ids .now in
     let k = c .before .before .before .clear in
@@ -50,7 +50,6 @@ same-length c = search needs
 -- src/lib.rt:100:1
 returns : tie.Need-returns
 returns c =
-    
     let s = c .before .before .before .before .before .before .before .before .before .before .before .before .before .before .before .before .before in
     let ids = s .args .ids .now in
     let g = c .before .before .before .before .before .before .before .before .before .gather in

@@ -49,7 +49,6 @@ same-length c = search needs
 returns-3 : tie.Need-returns-3
 unfolding cleared
 returns-3 c =
-    
     let s = c .before .before .before .before .before .before .before .before in
     let ids = s .args .ids .now in
     let t = s .args .work .now in

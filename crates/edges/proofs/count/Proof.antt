@@ -1,3 +1,4 @@
+-- `edges::count` meets its contract: after i turns the total is the sum over the first i rows. Assumes nothing.
 use mathlib.Core.Path.{_≡_, refl}
 use Prim.Native.Nat.{_-_, _≤_}
 use native.Mathlib.Omega.{arith}
@@ -8,9 +9,6 @@ use Rattle.edges.specs.Rows.{rowBit}
 use Rattle.edges.specs.Tests.{testOf}
 use Rattle.edges.proofs.count.Statement.{statement}
 use Rattle.edges.proofs.count.Tie as tie
-use Rattle.edges.proofs.count.Reads as reads
-use Rattle.edges.proofs.count.Lts as lts
-use Rattle.edges.proofs.passes.Reads as passes-reads
 
 abbrev Inv-loop : tie.InvT-loop
 Inv-loop work n test total₀ i₀ total i = (i ≤ n) × (total ≡ sumTo (rowBit (testOf test) work) i) × (total ≤ i)
@@ -18,44 +16,34 @@ Inv-loop work n test total₀ i₀ total i = (i ≤ n) × (total ≡ sumTo (rowB
 abbrev μ-loop : tie.MeasureT-loop
 μ-loop work n test total₀ i₀ total i = n - i
 
--- src/lib.rt:238:5
 loop-holds : tie.Need-loop-holds Inv-loop μ-loop
 unfolding sumTo
 loop-holds c = (omega arith, refl, omega arith)
 
--- src/lib.rt:239:30
 mul-passes : tie.Need-mul-passes Inv-loop μ-loop
 mul-passes c = search needs
 
--- src/lib.rt:239:30
 add-passes : tie.Need-add-passes Inv-loop μ-loop
 add-passes c = search needs
 
--- src/lib.rt:239:25
 mul-passes-2 : tie.Need-mul-passes-2 Inv-loop μ-loop
 mul-passes-2 c = search needs
 
--- src/lib.rt:239:25
 shared-slice-read-passes : tie.Need-shared-slice-read-passes Inv-loop μ-loop
 shared-slice-read-passes c = search needs
 
--- src/lib.rt:239:18
 passes-requires : tie.Need-passes-requires Inv-loop μ-loop
 passes-requires c κs = search needs
 
--- src/lib.rt:239:9
 add-total : tie.Need-add-total Inv-loop μ-loop
 add-total c = search needs
 
--- src/lib.rt:240:9
 add-i : tie.Need-add-i Inv-loop μ-loop
 add-i c = search needs
 
--- src/lib.rt:238:5
 loop-less : tie.Need-loop-less Inv-loop μ-loop
 loop-less c = search needs
 
--- src/lib.rt:238:5
 loop-again : tie.Need-loop-again Inv-loop μ-loop
 unfolding rowBit
 loop-again c =
@@ -64,7 +52,6 @@ loop-again c =
     let e : c .passes .result ≡ rowBit (testOf (s .args .test)) (s .args .work .now) (l .i) = c .passes .ensures .0 in
     (omega arith, omega (arith, sumTo-next (rowBit (testOf (s .args .test)) (s .args .work .now)) (l .i)), omega (arith, c .passes .ensures .1))
 
--- src/lib.rt:232:1
 returns : tie.Need-returns Inv-loop μ-loop
 returns c =
     let l = c .before .loop in

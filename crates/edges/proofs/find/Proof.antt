@@ -1,3 +1,4 @@
+-- `edges::find` meets its contract: each row from the start to r is used by another edge. As some row is free, the search ends before it has gone round. Assumes nothing.
 use mathlib.Core.Path.{_≡_}
 use mathlib.Core.Logic.{_≢_}
 use Prim.Native.Nat.{_+_, _-_, _<_}
@@ -7,13 +8,10 @@ use Rattle.ids.specs.EdgeChain.{Edge, sameEdge}
 use Rattle.table.specs.Rows.{nextRow, dist, Passed}
 use Rattle.table.proofs.Search.{dist-here, next-below, not-round, turn}
 use Rattle.edges.specs.Rows.{edgeAt, usesAt}
-use Rattle.edges.proofs.Same.{edge-eq, edge-ne}
-use Rattle.edges.proofs.Words.{none-used, used}
+use Rattle.ids.proofs.Same.{edge-eq, edge-refl, same-ne}
+use Rattle.table.proofs.Counts.{none-used, used}
 use Rattle.edges.proofs.find.Statement.{statement}
 use Rattle.edges.proofs.find.Tie as tie
-use Rattle.edges.proofs.find.Reads as reads
-use Rattle.edges.proofs.find.Lts as lts
-use Rattle.table.proofs.next.Reads as next-reads
 
 abbrev Inv-loop : tie.InvT-loop
 Inv-loop work n low high start r₀ r = (r < n) × Passed n start (edgeAt work) (usesAt work) (record { low = low; high = high }) r
@@ -21,47 +19,36 @@ Inv-loop work n low high start r₀ r = (r < n) × Passed n start (edgeAt work) 
 abbrev μ-loop : tie.MeasureT-loop
 μ-loop work n low high start r₀ r = n - dist n start r
 
--- src/lib.rt:52:5
 loop-holds : tie.Need-loop-holds Inv-loop μ-loop
 loop-holds c = let s = c .before in (s .pre .0, λ j l d. absurd (omega (arith, dist-here (s .args .n) (s .args .start) (s .pre .0))))
 
--- src/lib.rt:53:18
 mul-at : tie.Need-mul-at Inv-loop μ-loop
 mul-at c = search needs
 
--- src/lib.rt:54:17
 add-if1 : tie.Need-add-if1 Inv-loop μ-loop
 add-if1 c = search needs
 
--- src/lib.rt:54:12
 mul-if1 : tie.Need-mul-if1 Inv-loop μ-loop
 mul-if1 c = search needs
 
--- src/lib.rt:54:12
 shared-slice-read-if1 : tie.Need-shared-slice-read-if1 Inv-loop μ-loop
 shared-slice-read-if1 c = search needs
 
--- src/lib.rt:57:13
 mul-if2 : tie.Need-mul-if2 Inv-loop μ-loop
 mul-if2 c = search needs
 
--- src/lib.rt:57:13
 shared-slice-read-if2 : tie.Need-shared-slice-read-if2 Inv-loop μ-loop
 shared-slice-read-if2 c = search needs
 
--- src/lib.rt:57:38
 add-if2 : tie.Need-add-if2 Inv-loop μ-loop
 add-if2 c = search needs
 
--- src/lib.rt:57:33
 mul-if2-2 : tie.Need-mul-if2-2 Inv-loop μ-loop
 mul-if2-2 c = search needs
 
--- src/lib.rt:57:33
 shared-slice-read-if2-2 : tie.Need-shared-slice-read-if2-2 Inv-loop μ-loop
 shared-slice-read-if2-2 c = search needs
 
--- src/lib.rt:60:9
 next-requires : tie.Need-next-requires Inv-loop μ-loop
 next-requires c κs = search needs
 
@@ -81,7 +68,7 @@ module _ (c : tie.Else2 Inv-loop μ-loop) where
 
   other-here : edgeAt (st .args .work .now) (at .loop .r) ≢ edge
   unfolding sameEdge
-  other-here = edge-ne _ edge (c .if2 .left)
+  other-here = same-ne sameEdge edge-refl _ edge (c .if2 .left)
 
   short : dist (st .args .n) (st .args .start) (at .loop .r) + 1 < st .args .n
   short = not-round (st .args .n) (st .args .start) (st .pre .0) (edgeAt (st .args .work .now)) (usesAt (st .args .work .now)) edge (at .loop .r) (at .loop .inv .0) (at .loop .inv .1) used-here other-here (st .pre .3)
@@ -90,22 +77,18 @@ module _ (c : tie.Else2 Inv-loop μ-loop) where
       × Passed (st .args .n) (st .args .start) (edgeAt (st .args .work .now)) (usesAt (st .args .work .now)) edge (nextRow (st .args .n) (at .loop .r))
   on = turn (st .args .n) (st .args .start) (st .pre .0) (edgeAt (st .args .work .now)) (usesAt (st .args .work .now)) edge (at .loop .r) (at .loop .inv .0) (at .loop .inv .1) used-here other-here short
 
--- src/lib.rt:52:5
 loop-less : tie.Need-loop-less Inv-loop μ-loop
 loop-less c = rw (c .next .ensures) (omega (arith, on (c .before) .0, short (c .before)))
 
--- src/lib.rt:52:5
 loop-again : tie.Need-loop-again Inv-loop μ-loop
 loop-again c =
     let s = c .before .before .before .before .before .before .before .before in
     let l = c .before .before .before .before .before .before .loop in
     rw (c .next .ensures) (next-below (s .args .n) (s .args .start) (s .pre .0) (l .r) (l .inv .0), on (c .before) .1)
 
--- src/lib.rt:47:1
 returns : tie.Need-returns Inv-loop μ-loop
 returns c = let l = c .before .before .loop in record { within = l .inv .0; holds = λ u. absurd (omega (arith, none-used _ (c .if1 .taken))); passed = l .inv .1 }
 
--- src/lib.rt:47:1
 returns-2 : tie.Need-returns-2 Inv-loop μ-loop
 unfolding sameEdge
 returns-2 c = let l = c .before .before .before .before .before .loop in record { within = l .inv .0; holds = λ u. edge-eq _ _ (c .if2 .taken); passed = l .inv .1 }

@@ -1,3 +1,4 @@
+-- `edges::gather` meets its contract: the table means the uses of the triangles before i, no more than i of them, and no edge more than i / 3 times each way. So there is always room for three more. Assumes nothing.
 use mathlib.Core.Path.{_≡_, refl}
 use mathlib.Core.List.{List, [], _++_}
 use Prim.Native.Nat.{_+_, _-_, _/_, _≤_, _<_}
@@ -14,9 +15,6 @@ use Rattle.edges.proofs.Triangles.{triangle-within, triangle-length}
 use Rattle.edges.proofs.Within.{within-length, within-le, within-append}
 use Rattle.edges.proofs.gather.Statement.{statement}
 use Rattle.edges.proofs.gather.Tie as tie
-use Rattle.edges.proofs.gather.Reads as reads
-use Rattle.edges.proofs.gather.Lts as lts
-use Rattle.edges.proofs.triangle_by.Reads as triangle-by-reads
 
 abbrev Inv-loop : tie.InvT-loop
 Inv-loop ids work₀ n whole i₀ work i =
@@ -26,47 +24,36 @@ Inv-loop ids work₀ n whole i₀ work i =
 abbrev μ-loop : tie.MeasureT-loop
 μ-loop ids work₀ n whole i₀ work i = length ids - i
 
--- src/lib.rt:158:5
 loop-holds : tie.Need-loop-holds Inv-loop μ-loop
 loop-holds c = (omega arith, refl, ([], refl, omega arith, within-length 0 [] (omega arith), c .before .before .pre .4))
 
--- src/lib.rt:158:11
 add-loop : tie.Need-add-loop Inv-loop μ-loop
 add-loop c = search needs
 
--- src/lib.rt:159:37
 mul-triangle-by : tie.Need-mul-triangle-by Inv-loop μ-loop
 mul-triangle-by c = search needs
 
--- src/lib.rt:159:37
 shared-slice-read-triangle-by : tie.Need-shared-slice-read-triangle-by Inv-loop μ-loop
 shared-slice-read-triangle-by c = search needs
 
--- src/lib.rt:159:49
 add-triangle-by : tie.Need-add-triangle-by Inv-loop μ-loop
 add-triangle-by c = search needs
 
--- src/lib.rt:159:45
 mul-triangle-by-2 : tie.Need-mul-triangle-by-2 Inv-loop μ-loop
 mul-triangle-by-2 c = search needs
 
--- src/lib.rt:159:45
 shared-slice-read-triangle-by-2 : tie.Need-shared-slice-read-triangle-by-2 Inv-loop μ-loop
 shared-slice-read-triangle-by-2 c = search needs
 
--- src/lib.rt:159:61
 add-triangle-by-2 : tie.Need-add-triangle-by-2 Inv-loop μ-loop
 add-triangle-by-2 c = search needs
 
--- src/lib.rt:159:57
 mul-triangle-by-3 : tie.Need-mul-triangle-by-3 Inv-loop μ-loop
 mul-triangle-by-3 c = search needs
 
--- src/lib.rt:159:57
 shared-slice-read-triangle-by-3 : tie.Need-shared-slice-read-triangle-by-3 Inv-loop μ-loop
 shared-slice-read-triangle-by-3 c = search needs
 
--- src/lib.rt:159:9
 triangle-by-requires : tie.Need-triangle-by-requires Inv-loop μ-loop
 triangle-by-requires c κs =
     let s = c .before .before .before .before .before .before .before .before in
@@ -74,15 +61,12 @@ triangle-by-requires c κs =
     let w = l .inv .2 in
     (s .pre .2, omega (arith, s .pre .3, l .inv .1), record { so-far = w .0; rows-left = omega (arith, s .pre .1, w .2); counts-left = within-le (l .i / 3) 65532 (w .0) (omega (arith, s .pre .0)) (w .3); means = w .4 })
 
--- src/lib.rt:160:9
 add-i : tie.Need-add-i Inv-loop μ-loop
 add-i c = search needs
 
--- src/lib.rt:158:5
 loop-less : tie.Need-loop-less Inv-loop μ-loop
 loop-less c = search needs
 
--- src/lib.rt:158:5
 loop-again : tie.Need-loop-again Inv-loop μ-loop
 loop-again c =
     let s = c .before .before .before .before .before .before .before .before .before .before .before in
@@ -104,11 +88,9 @@ loop-again c =
       ),
     )
 
--- src/lib.rt:153:1
 same-length : tie.Need-same-length Inv-loop μ-loop
 same-length c = search needs
 
--- src/lib.rt:153:1
 returns : tie.Need-returns Inv-loop μ-loop
 returns c =
     let s = c .before .before .before .before in

@@ -1,3 +1,4 @@
+-- `edges::one_crowded` meets its contract. Assumes nothing.
 use native.Mathlib.Omega.{arith}
 use borrow.Author.Tests.{lt-ltb, le-ltb}
 use Rattle.ids.specs.Uses.{bit}
@@ -5,15 +6,11 @@ use Rattle.ids.specs.EdgeChain.{crowded}
 use Rattle.table.proofs.Probe.{gate-zero, gate-pos}
 use Rattle.edges.proofs.one_crowded.Statement.{statement}
 use Rattle.edges.proofs.one_crowded.Tie as tie
-use Rattle.edges.proofs.one_crowded.Reads as reads
-use Rattle.edges.proofs.one_crowded.Lts as lts
 
--- src/lib.rt:180:1
 returns : tie.Need-returns
 unfolding crowded bit
 returns c = (rw (gate-pos (c .before .args .uses) _ (omega arith), lt-ltb 2 _ (c .if1 .taken)), omega arith)
 
--- src/lib.rt:180:1
 returns-2 : tie.Need-returns-2
 unfolding crowded bit
 returns-2 c = (rw (le-ltb 2 _ (c .if1 .left), gate-zero), omega arith)

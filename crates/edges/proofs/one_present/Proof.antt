@@ -1,18 +1,15 @@
+-- `edges::one_present` meets its contract. Assumes nothing.
 use native.Mathlib.Omega.{arith}
 use Rattle.ids.specs.Uses.{bit}
 use Rattle.ids.specs.EdgeChain.{present}
 use Rattle.table.proofs.Probe.{gate-none, gate-pos}
 use Rattle.edges.proofs.one_present.Statement.{statement}
 use Rattle.edges.proofs.one_present.Tie as tie
-use Rattle.edges.proofs.one_present.Reads as reads
-use Rattle.edges.proofs.one_present.Lts as lts
 
--- src/lib.rt:168:1
 returns : tie.Need-returns
 unfolding present bit
 returns c = (rw (c .if1 .taken, gate-none), omega arith)
 
--- src/lib.rt:168:1
 returns-2 : tie.Need-returns-2
 unfolding present bit
 returns-2 c = (rw (gate-pos (c .before .args .uses) 1 (omega arith)), omega arith)

@@ -1,3 +1,4 @@
+-- `edges::one_unbalanced` meets its contract: the sum is 0 just where there are as many uses upwards as downwards. Assumes nothing.
 use Prim.Native.Nat.{_+_}
 use native.Mathlib.Omega.{arith}
 use borrow.Author.Tests.{eq-eqb, ne-eqb}
@@ -7,10 +8,7 @@ use Rattle.table.specs.Counts.{magnitude}
 use Rattle.table.proofs.Probe.{gate-zero, gate-pos}
 use Rattle.edges.proofs.one_unbalanced.Statement.{statement}
 use Rattle.edges.proofs.one_unbalanced.Tie as tie
-use Rattle.edges.proofs.one_unbalanced.Reads as reads
-use Rattle.edges.proofs.one_unbalanced.Lts as lts
 
--- src/lib.rt:174:1
 returns : tie.Need-returns
 unfolding unbalanced bit magnitude
 returns c =
@@ -18,7 +16,6 @@ returns c =
     let m = c .before .args .ups + c .before .args .downs in
     (rw (eq-eqb (magnitude m p) 0 (omega arith), gate-zero), omega arith)
 
--- src/lib.rt:174:1
 returns-2 : tie.Need-returns-2
 unfolding unbalanced bit magnitude
 returns-2 c =

@@ -1,3 +1,4 @@
+-- `edges::one_unpaired` meets its contract: two uses have the sum 0 just where one of them is upwards. Assumes nothing.
 use native.Mathlib.Omega.{arith}
 use borrow.Author.Tests.{eq-eqb, ne-eqb}
 use Rattle.ids.specs.Uses.{bit}
@@ -6,15 +7,11 @@ use Rattle.table.specs.Counts.{magnitude}
 use Rattle.table.proofs.Probe.{gate-none, gate-pos}
 use Rattle.edges.proofs.one_unpaired.Statement.{statement}
 use Rattle.edges.proofs.one_unpaired.Tie as tie
-use Rattle.edges.proofs.one_unpaired.Reads as reads
-use Rattle.edges.proofs.one_unpaired.Lts as lts
 
--- src/lib.rt:190:9
 returns : tie.Need-returns
 unfolding unpaired bit
 returns c = (rw (c .if1 .taken, gate-none), omega arith)
 
--- src/lib.rt:194:13
 returns-2 : tie.Need-returns-2
 unfolding unpaired bit magnitude
 returns-2 c =
@@ -22,7 +19,6 @@ returns-2 c =
     let p = c .before .before .before .args .ups in
     (rw (gate-pos u (bit (unpaired u (magnitude u p))) (omega arith), eq-eqb u 2 (omega arith), eq-eqb (magnitude u p) 0 (omega arith)), omega arith)
 
--- src/lib.rt:186:1
 returns-3 : tie.Need-returns-3
 unfolding unpaired bit magnitude
 returns-3 c =
@@ -30,7 +26,6 @@ returns-3 c =
     let p = c .before .before .before .args .ups in
     (rw (gate-pos u (bit (unpaired u (magnitude u p))) (omega arith), eq-eqb u 2 (omega arith), ne-eqb (magnitude u p) 0 (λ z. omega arith)), omega arith)
 
--- src/lib.rt:186:1
 returns-4 : tie.Need-returns-4
 unfolding unpaired bit magnitude
 returns-4 c =

@@ -1,17 +1,14 @@
+-- `edges::proper_triangle` meets its contract: three steps, each with room for those to come. Assumes nothing.
 use mathlib.Core.List.{append-assoc}
 use native.Mathlib.Omega.{arith}
+use borrow.Author.Needs.{needs}
 use Rattle.ids.specs.EdgeChain.{properStep, aroundProper}
 use Rattle.edges.specs.Rows.{Room}
 use Rattle.edges.proofs.Triangles.{step-length}
 use Rattle.edges.proofs.Within.{room-less, room-after}
-use borrow.Author.Needs.{needs}
 use Rattle.edges.proofs.proper_triangle.Statement.{statement}
 use Rattle.edges.proofs.proper_triangle.Tie as tie
-use Rattle.edges.proofs.proper_triangle.Reads as reads
-use Rattle.edges.proofs.proper_triangle.Lts as lts
-use Rattle.edges.proofs.proper_step.Reads as proper-step-reads
 
--- src/lib.rt:125:5
 proper-step-requires : tie.Need-proper-step-requires
 proper-step-requires c κs =
     let s = c .before .before in
@@ -26,31 +23,31 @@ second c =
     let l = step-length (s .args .a) (s .args .b) in
     room-after (s .args .n) (s .args .work .now) (k .last .0) 3 2 (properStep (s .args .a) (s .args .b)) (omega arith) (omega arith) w (k .ensures (w .so-far) (w .means))
 
--- src/lib.rt:126:5
 proper-step-requires-2 : tie.Need-proper-step-requires-2
 proper-step-requires-2 c κs =
-    let s = c .before .before .before .before .before .before in
-    let k = c .before .before .before .proper-step in
-    (s .pre .0, omega (arith, s .pre .1, k .kept), room-less (s .args .n) (k .last .0) 2 1 (omega arith) (second (c .before .before .before)))
+    let first = c .before .before .before in
+    let s = first .before .before .before in
+    let k = first .proper-step in
+    (s .pre .0, omega (arith, s .pre .1, k .kept), room-less (s .args .n) (k .last .0) 2 1 (omega arith) (second first))
 
--- src/lib.rt:127:5
 proper-step-requires-3 : tie.Need-proper-step-requires-3
 proper-step-requires-3 c κs =
-    let s = c .before .before .before .before .before .before .before .before .before .before in
-    let j = c .before .before .before .before .before .before .before .proper-step in
+    let first = c .before .before .before .before .before .before .before in
+    let s = first .before .before .before in
+    let j = first .proper-step in
     let k = c .before .before .before .proper-step2 in
-    let w = second (c .before .before .before .before .before .before .before) in
+    let w = second first in
     let l = step-length (s .args .b) (s .args .c) in
     (s .pre .0, omega (arith, s .pre .1, k .kept, j .kept), room-after (s .args .n) (j .last .0) (k .last .0) 2 1 (properStep (s .args .b) (s .args .c)) (omega arith) (omega arith) w (k .ensures (w .so-far) (w .means)))
 
--- src/lib.rt:121:1
 same-length : tie.Need-same-length
 same-length c = search needs
 
--- src/lib.rt:121:1
 returns : tie.Need-returns
 unfolding aroundProper
-returns c = λ es m. simp append-assoc at (c .before .before .proper-step3 .ensures _ (c .before .before .before .before .before .before .proper-step2 .ensures _ (c .before .before .before .before .before .before .before .before .before .before .proper-step .ensures es m)))
+returns c =
+    let first = c .before .before .before .before .before .before .before .before .before .before in
+    λ es m. simp append-assoc at (c .before .before .proper-step3 .ensures _ (c .before .before .before .before .before .before .proper-step2 .ensures _ (first .proper-step .ensures es m)))
 
 pub proper-triangle-spec : {M : Type 1} → statement M
 proper-triangle-spec =

@@ -1,8 +1,9 @@
 -- `faces::bump` meets its contract: a row with few uses holds one more, so the word does not wrap. Assumes nothing.
+use mathlib.Core.Bool.{true}
 use Prim.Native.Nat.{_<_}
 use native.Mathlib.Omega.{arith}
 use borrow.Author.Needs.{needs}
-use Rattle.table.proofs.Counts.{fits-more}
+use Rattle.table.proofs.Counts.{few-roomy, more-fits}
 use Rattle.faces.specs.Rows.{usesAt}
 use Rattle.faces.proofs.bump.Statement.{statement}
 use Rattle.faces.proofs.bump.Tie as tie
@@ -20,7 +21,7 @@ slice-read-word : tie.Need-slice-read-word
 slice-read-word c = search needs
 
 add-word-2 : tie.Need-add-word-2
-add-word-2 c = let few : usesAt (c .before .args .work .now) (c .before .args .r) < 65535 = omega (arith, c .before .pre .4) in omega (arith, fits-more _ few)
+add-word-2 c = let few : usesAt (c .before .args .work .now) (c .before .args .r) < 65535 = omega (arith, c .before .pre .4) in omega (arith, more-fits _ (few-roomy _ few) true)
 
 cast-work : tie.Need-cast-work
 cast-work c = search needs

@@ -5,13 +5,13 @@ use mathlib.Core.Bool.{true, false}
 use Prim.Native.Nat.{ℕ, _+_, _-_, _*_, _<_}
 use native.Mathlib.Omega.{arith}
 use borrow.Author.Needs.{needs}
-use Rattle.ids.specs.FaceNet.{Face}
+use Rattle.ids.specs.FaceNet.{Face, sameFace}
 use Rattle.table.specs.Rows.{dist, nextRow, Passed}
 use Rattle.table.specs.Counts.{usesIn}
-use Rattle.table.proofs.Counts.{used, uses-zero}
+use Rattle.table.proofs.Counts.{none-used, used}
 use Rattle.table.proofs.Search.{dist-here, dist-below, next-below, not-round, turn}
 use Rattle.faces.specs.Rows.{faceAt, wordAt, usesAt}
-use Rattle.faces.proofs.Faces.{face-eq, face-ne}
+use Rattle.ids.proofs.Same.{face-eq, face-refl, same-ne}
 use Rattle.faces.proofs.find.Statement.{statement}
 use Rattle.faces.proofs.find.Tie as tie
 
@@ -78,7 +78,7 @@ module _ (c : tie.After-same Inv-loop μ-loop) where
       → (dist (st .args .n) (st .args .start) (nextRow (st .args .n) (at .loop .r)) ≡ dist (st .args .n) (st .args .start) (at .loop .r) + 1)
       × Passed (st .args .n) (st .args .start) key mark sought (nextRow (st .args .n) (at .loop .r))
   on differs =
-      let other : key (at .loop .r) ≢ sought = face-ne (key (at .loop .r)) sought (sym (c .same .ensures) ∙ differs) in
+      let other : key (at .loop .r) ≢ sought = same-ne sameFace face-refl (key (at .loop .r)) sought (sym (c .same .ensures) ∙ differs) in
       turn (st .args .n) (st .args .start) (st .pre .1) key mark sought (at .loop .r) (at .loop .inv .0) (at .loop .inv .1) busy other
       (not-round (st .args .n) (st .args .start) (st .pre .1) key mark sought (at .loop .r) (at .loop .inv .0) (at .loop .inv .1) busy other (st .pre .5))
 
@@ -92,7 +92,7 @@ loop-again : tie.Need-loop-again Inv-loop μ-loop
 loop-again c = let s = c .before .before in rw (c .next .ensures) (next-below (st s .args .n) (st s .args .start) (st s .pre .1) (at s .loop .r) (at s .loop .inv .0), on s (c .before .if2 .left) .1)
 
 returns : tie.Need-returns Inv-loop μ-loop
-returns c = let l = c .before .before .loop in record { within = l .inv .0; holds = λ u. absurd (omega (arith, ap usesIn (c .if1 .taken), uses-zero)); passed = l .inv .1 }
+returns c = let l = c .before .before .loop in record { within = l .inv .0; holds = λ u. absurd (omega (arith, none-used _ (c .if1 .taken))); passed = l .inv .1 }
 
 returns-2 : tie.Need-returns-2 Inv-loop μ-loop
 returns-2 c = let l = c .before .before .before .before .before .loop in record { within = l .inv .0; holds = λ u. here (c .before) (c .if2 .taken); passed = l .inv .1 }

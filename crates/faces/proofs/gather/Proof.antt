@@ -43,7 +43,9 @@ loop-again c =
     let w = l .inv .2 in
     let one = triangle ids (l .t) in
     let more : l .t < triangleCount ids = omega arith in
-    (omega arith, omega (arith, c .before .before .triangle .kept, l .inv .1), (w .0 ++ face one, omega (arith, w .1, length-next (w .0) one), next-turn ids (l .t) (w .0) (w .2) more, c .before .before .triangle .ensures (w .0) (w .3)))
+    let k = c .before .before .triangle in
+    let all = next-turn ids (l .t) (w .0) (w .2) more in
+    (omega arith, omega (arith, k .kept, l .inv .1), (w .0 ++ face one, omega (arith, w .1, length-next (w .0) one), all, k .ensures (w .0) (w .3)))
 
 same-length : tie.Need-same-length Inv-loop μ-loop
 same-length c = search needs

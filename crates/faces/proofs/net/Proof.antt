@@ -10,8 +10,8 @@ use Rattle.table.specs.Table.{maxTo}
 use Rattle.table.proofs.Sums.{sumTo-next}
 use Rattle.table.proofs.Largest.{maxTo-next}
 use Rattle.faces.specs.Rows.{rowOff, rowSize}
-use Rattle.faces.proofs.Bits.{byte-bit, byte-small}
-use Rattle.faces.proofs.Answers.{row-size, row-off}
+use Rattle.ids.proofs.Bits.{byte-bit, byte-small}
+use Rattle.faces.proofs.RowSums.{row-size, row-off}
 use Rattle.faces.proofs.net.Statement.{statement}
 use Rattle.faces.proofs.net.Tie as tie
 

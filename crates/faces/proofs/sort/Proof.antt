@@ -53,8 +53,13 @@ greater-requires-3 c κs = search needs
 returns : tie.Need-returns
 unfolding triangle
 returns c =
-    rw (c .before .before .before .lesser2 .ensures, c .before .greater2 .ensures, c .greater3 .ensures, c .before .before .lesser3 .ensures, c .before .before .before .before .before .lesser .ensures, c .before .before .before .before .greater .ensures)
-    (sorted-by (triangle (c .before .before .before .before .before .before .before .before .before .before .args .ids .now) (c .before .before .before .before .before .before .before .before .before .before .args .t)))
+    let s = c .before .before .before .before .before .before .before .before .before .before in
+    let first = c .before .before .before .before .before .lesser .ensures in
+    let last = c .before .before .before .before .greater .ensures in
+    let low = c .before .before .before .lesser2 .ensures in
+    let mid = c .before .greater2 .ensures in
+    let lower = c .before .before .lesser3 .ensures in
+    rw (low, mid, c .greater3 .ensures, lower, first, last) (sorted-by (triangle (s .args .ids .now) (s .args .t)))
 
 pub sort-spec : {M : Type 1} → statement M
 sort-spec =

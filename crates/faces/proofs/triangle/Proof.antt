@@ -1,10 +1,7 @@
 -- `faces::triangle` meets its contract: no use where an id repeats, else the one that `add` adds. Assumes nothing.
-use mathlib.Core.Path.{_≡_}
-use mathlib.Core.List.{[], _∷_}
 use borrow.Author.Needs.{needs}
 use Rattle.ids.specs.Triangles.{triangle}
-use Rattle.ids.specs.FaceNet.{face, faceUse}
-use Rattle.ids.proofs.Triangles.{append-none, repeats-ab, repeats-bc, repeats-ca, repeats-none}
+use Rattle.ids.proofs.Triangles.{repeats-ab, repeats-bc, repeats-ca, repeats-none}
 use Rattle.faces.proofs.Turns.{face-none, face-one}
 use Rattle.faces.proofs.triangle.Statement.{statement}
 use Rattle.faces.proofs.triangle.Tie as tie
@@ -38,15 +35,24 @@ shared-slice-read-c c = search needs
 
 returns : tie.Need-returns
 unfolding triangle
-returns c = let e : face (triangle (c .before .before .before .before .before .before .args .ids .now) (c .before .before .before .before .before .before .args .t)) ≡ [] = face-none (triangle (c .before .before .before .before .before .before .args .ids .now) (c .before .before .before .before .before .before .args .t)) (repeats-ab _ _ _ (c .if1 .taken)) in λ es m. rw (e, append-none) m
+returns c =
+    let s = c .before .before .before .before .before .before in
+    let x = triangle (s .args .ids .now) (s .args .t) in
+    λ es m. rw (face-none es x (repeats-ab (x .a) (x .b) (x .c) (c .if1 .taken))) m
 
 returns-2 : tie.Need-returns-2
 unfolding triangle
-returns-2 c = let e : face (triangle (c .before .before .before .before .before .before .before .args .ids .now) (c .before .before .before .before .before .before .before .args .t)) ≡ [] = face-none (triangle (c .before .before .before .before .before .before .before .args .ids .now) (c .before .before .before .before .before .before .before .args .t)) (repeats-bc _ _ _ (c .before .if1 .left) (c .if2 .taken)) in λ es m. rw (e, append-none) m
+returns-2 c =
+    let s = c .before .before .before .before .before .before .before in
+    let x = triangle (s .args .ids .now) (s .args .t) in
+    λ es m. rw (face-none es x (repeats-bc (x .a) (x .b) (x .c) (c .before .if1 .left) (c .if2 .taken))) m
 
 returns-3 : tie.Need-returns-3
 unfolding triangle
-returns-3 c = let e : face (triangle (c .before .before .before .before .before .before .before .before .args .ids .now) (c .before .before .before .before .before .before .before .before .args .t)) ≡ [] = face-none (triangle (c .before .before .before .before .before .before .before .before .args .ids .now) (c .before .before .before .before .before .before .before .before .args .t)) (repeats-ca _ _ _ (c .before .before .if1 .left) (c .before .if2 .left) (c .if3 .taken)) in λ es m. rw (e, append-none) m
+returns-3 c =
+    let s = c .before .before .before .before .before .before .before .before in
+    let x = triangle (s .args .ids .now) (s .args .t) in
+    λ es m. rw (face-none es x (repeats-ca (x .a) (x .b) (x .c) (c .before .before .if1 .left) (c .before .if2 .left) (c .if3 .taken))) m
 
 add-requires : tie.Need-add-requires
 add-requires c κs = search needs
@@ -56,7 +62,11 @@ same-length c = search needs
 
 returns-4 : tie.Need-returns-4
 unfolding triangle
-returns-4 c = let e : face (triangle (c .before .before .before .before .before .before .before .before .before .before .before .before .args .ids .now) (c .before .before .before .before .before .before .before .before .before .before .before .before .args .t)) ≡ faceUse (triangle (c .before .before .before .before .before .before .before .before .before .before .before .before .args .ids .now) (c .before .before .before .before .before .before .before .before .before .before .before .before .args .t)) ∷ [] = face-one (triangle (c .before .before .before .before .before .before .before .before .before .before .before .before .args .ids .now) (c .before .before .before .before .before .before .before .before .before .before .before .before .args .t)) (repeats-none _ _ _ (c .before .before .before .before .before .before .if1 .left) (c .before .before .before .before .before .if2 .left) (c .before .before .before .before .if3 .left)) in λ es m. rw e (c .before .before .add .ensures es m)
+returns-4 c =
+    let s = c .before .before .before .before .before .before .before .before .before .before .before .before in
+    let x = triangle (s .args .ids .now) (s .args .t) in
+    let tests = c .before .before .before .before in
+    λ es m. rw (face-one es x (repeats-none (x .a) (x .b) (x .c) (tests .before .before .if1 .left) (tests .before .if2 .left) (tests .if3 .left))) (c .before .before .add .ensures es m)
 
 pub triangle-spec : {M : Type 1} → statement M
 triangle-spec =

@@ -2,7 +2,7 @@
 use native.Mathlib.Omega.{arith}
 use borrow.Author.Needs.{needs}
 use Rattle.ids.specs.Triangles.{triangle}
-use Rattle.faces.proofs.Bits.{fallen-small, weight-even, weight-odd}
+use Rattle.faces.proofs.Parity.{fallen-small, weight-even, weight-odd}
 use Rattle.faces.proofs.weight.Statement.{statement}
 use Rattle.faces.proofs.weight.Tie as tie
 

@@ -1,5 +1,5 @@
--- Tests as numbers in the code are the `bit`s of the definitions; so a triangle's weight goes by the parity of its falling pairs. Assumes nothing.
-use mathlib.Core.Path.{_≡_, refl}
+-- The weight of a triangle by the parity of its falling pairs, which the code counts as the definition does. Assumes nothing.
+use mathlib.Core.Path.{_≡_}
 use mathlib.Core.Bool.{Bool, true, false, cond}
 use Prim.Native.Nat.{ℕ, _+_, _%_, _≤_}
 use native.Mathlib.Omega.{arith}
@@ -7,20 +7,15 @@ use borrow.Author.Tests.{eq-eqb, ne-eqb}
 use lib.Dec.{ltb}
 use mir.Val.{boolByte}
 use Rattle.ids.specs.Triangles.{Triangle}
-use Rattle.ids.specs.Uses.{bit}
 use Rattle.ids.specs.FaceNet.{falls, faceUse}
+use Rattle.ids.proofs.Bits.{byte-bit, byte-small}
 
-pub byte-bit : (b : Bool) → boolByte b ≡ bit b
-unfolding bit
-byte-bit true = refl
-byte-bit false = refl
+pub weight-small : (b : Bool) → cond b 65536 1 ≤ 65536
+weight-small true = omega arith
+weight-small false = omega arith
 
-pub byte-small : (b : Bool) → boolByte b ≤ 1
-byte-small true = omega arith
-byte-small false = omega arith
-
--- the falling pairs, as the code counts them
 module _ (t : Triangle) where
+  -- the pairs that fall, as the code counts them
   abbrev pub fallen : ℕ
   fallen = boolByte (ltb (t .b) (t .a)) + (boolByte (ltb (t .c) (t .b)) + boolByte (ltb (t .c) (t .a)))
 
@@ -38,7 +33,3 @@ module _ (t : Triangle) where
   pub weight-odd : (fallen % 2 ≡ 0 → ⊥) → _≡_ {A = ℕ} 1 (cond (faceUse t .up) 65536 1)
   unfolding faceUse
   weight-odd o = rw (ne-eqb (falls t % 2) 0 (λ e. o (omega (arith, fallen-falls))))
-
-pub weight-small : (b : Bool) → cond b 65536 1 ≤ 65536
-weight-small true = omega arith
-weight-small false = omega arith

@@ -1,0 +1,42 @@
+-- A face net that was given leaves room for its number. Assumes nothing.
+use mathlib.Core.Path.{_≡_, refl, sym, ap, _∙_, subst}
+use mathlib.Core.List.{List}
+use Prim.Native.Nat.{ℕ, zero, suc, _*_, _≤_, _<_}
+use native.Mathlib.Omega.{arith}
+use native.Mathlib.Decide.{decLe}
+use borrow.Author.Tests.{lt-ltb}
+use lib.ListN.{length}
+use Rattle.ids.specs.Triangles.{triangleCount}
+use Rattle.ids.specs.FaceNet.{maxAbs, allCancel}
+use Rattle.ids.specs.Lent.{refusal, unlessRefused}
+use Rattle.ids.proofs.Uses.{max-abs-below}
+use Rattle.chain.specs.Answers.{FaceNetGiven}
+use Rattle.chain.specs.Numbers.{Small}
+use Rattle.chain.specs.declared.FaceNet.{FaceNet}
+use Rattle.chain.specs.declared.FaceNet.the-variants.{Answer, Refused}
+
+module _ (ids area : List ℕ) where
+  abbrev answer : ℕ → FaceNet
+  answer k = unlessRefused k Refused (Answer (maxAbs ids) (allCancel ids))
+
+  -- refused, it has no magnitude
+  refused-small : (k : ℕ) → 0 < k → Small (answer k)
+  unfolding Small unlessRefused
+  refused-small zero l = absurd (omega arith)
+  refused-small (suc k) l = tt
+
+  either-small : maxAbs ids ≤ 98304 → (k : ℕ) → Small (answer k)
+  unfolding Small unlessRefused
+  either-small l zero = l
+  either-small l (suc k) = tt
+
+  given-small : (k : ℕ) → k ≡ refusal (length ids) (4 * triangleCount ids) (length area) → Small (answer k)
+  unfolding refusal
+  given-small k e =
+      elim (decLe (length ids) 98304) [
+        | yes few ↦ either-small (omega (arith, max-abs-below ids)) k
+        | no many ↦ (let one : k ≡ 1 = rw (lt-ltb 98304 (length ids) (omega arith)) at e in refused-small k (omega (arith, one)))
+      ]
+
+  pub net-small : (r : FaceNet) (after : List ℕ) → FaceNetGiven ids area r after → Small r
+  net-small r after g = subst Small (sym (g .answers)) (given-small (refusal (length ids) (4 * triangleCount ids) (length area)) refl)

@@ -1,9 +1,11 @@
 // The id routines under the names of the C interface: each is the routine of `chain` or `pieces`, and its answer as a number.
 ghost use mathlib.Core.Path.{_≡_};
 ghost use Rattle.chain.specs.Numbers.{edgeChainNumber, faceNetNumber, verdictNumber, Small, EdgeChainNumbered, FaceNetNumbered, ClosedManifoldNumbered, WindingCoherentNumbered};
+ghost use Rattle.pieces.specs.Numbers.{pieceCountNumber, PiecesNumbered};
 use chain::EdgeChain;
 use chain::FaceNet;
 use chain::Verdict;
+use pieces::PieceCount;
 
 // What a refusal is counted from.
 const REFUSED: u32 = 0x8000_0000;
@@ -44,6 +46,15 @@ fn verdict_number(answer: Verdict) -> u32
     }
 }
 
+fn piece_count_number(answer: PieceCount) -> u32
+    ensures { λ r. ⌜ r ≡ pieceCountNumber answer ⌝ }
+{
+    match answer {
+        PieceCount::Answer(n) => n,
+        PieceCount::Refused(n) => REFUSED + n as u32,
+    }
+}
+
 // ---- the routines
 
 #[no_mangle]
@@ -72,4 +83,11 @@ pub extern "C" fn mf_winding_coherent(ids: &[u32], work: &mut [u32]) -> u32
     ensures { λ r. ⌜ WindingCoherentNumbered (now (ids .entry)) (now (work .entry)) r (now (work .exit)) ⌝ }
 {
     verdict_number(chain::winding_coherent(ids, work))
+}
+
+#[no_mangle]
+pub extern "C" fn mf_pieces(ids: &[u32], work: &mut [u32]) -> u32
+    ensures { λ r. ⌜ PiecesNumbered (now (ids .entry)) (now (work .entry)) r (now (work .exit)) ⌝ }
+{
+    piece_count_number(pieces::pieces(ids, work))
 }

@@ -1,11 +1,11 @@
 -- What the groups are: the classes of the relation that the joins generate. This is what `pieces` counts, in the usual words; `groups-are-classes` proves it.
 use mathlib.Core.Path.{_≡_}
-use mathlib.Core.Bool.{Bool, true, false}
+use mathlib.Core.Bool.{Bool, true}
 use mathlib.Core.List.{List, [], _∷_}
-use Prim.Native.Nat.{ℕ, _+_}
+use Prim.Native.Nat.{ℕ}
 use lib.Dec.{eqb}
 use Rattle.ids.specs.Uses.{bit, sumBy}
-use Rattle.pieces.specs.Groups.{any, groups}
+use Rattle.pieces.specs.Groups.{any}
 
 -- x stands in the list
 abbrev pub mem : ℕ → List ℕ → Bool

@@ -1,6 +1,6 @@
 -- Pieces: the groups of distinct-id triangles, joined wherever two share an id. What joins two triangles is a parameter of `pieces`.
 use Prim.Native.Nat.{ℕ, zero, suc}
-use mathlib.Core.Bool.{Bool, true, false, cond, _||_}
+use mathlib.Core.Bool.{Bool, false, cond, _||_}
 use mathlib.Core.List.{List, [], _∷_, _++_}
 use lib.Dec.{eqb}
 use lib.ListN.{length}

@@ -1,0 +1,3 @@
+pub mod Words
+pub mod Labels
+pub mod Roots

@@ -1,0 +1,159 @@
+-- The row that a search of the slots gave for a corner: it is the only one with the corner's key, so joining with it, or filling it, is all that there is
+-- to do. Assumes nothing.
+use mathlib.Core.Path.{_≡_, refl, sym, ap, _∙_, subst, fun-ext}
+use mathlib.Core.Logic.{_≢_}
+use mathlib.Core.Bool.{Bool, true, false, true≢false}
+use mathlib.Core.List.{List}
+use Prim.Native.Nat.{ℕ, _+_, _-_, _*_, _/_, _≤_, _<_}
+use native.Mathlib.Omega.{arith}
+use native.Mathlib.Decide.{ℕ-discrete, decLt}
+use lib.ListN.{length, length-set}
+use Rattle.table.specs.Rows.{dist}
+use Rattle.table.proofs.Search.{dist-here, other, Written, spread-step}
+use Rattle.forest.specs.Words.{slotIn, withSlot}
+use Rattle.forest.specs.Labels.{merged, Joined}
+use Rattle.forest.proofs.Words.{slot-here, slot-else, parents-stay}
+use Rattle.forest.proofs.Labels.{merged-joins}
+use Rattle.pieces.specs.Groups.{solid}
+use Rattle.pieces.specs.Joins.{Linked, Grown}
+use Rattle.pieces.specs.Slots.{keyOf, homeOf, keyIn, AllFree, Sought, Slots, Has, Followed, Entered}
+use Rattle.pieces.proofs.Shared.{share-key}
+use Rattle.pieces.proofs.Joins.{more-joined, grown-joined, more-none, good-kept}
+use Rattle.pieces.proofs.Search.{home-below}
+
+-- what holds of slots holds of equal ones
+pub along : (P : (ℕ → ℕ) → Type 0) (t u : List ℕ) → ((i : ℕ) → slotIn u i ≡ slotIn t i) → P (slotIn t) → P (slotIn u)
+along P t u same p = subst P (fun-ext (λ i. sym (same i))) p
+
+-- free slots are in order
+pub slots-free : (ids : List ℕ) (odd limit n : ℕ) (s : ℕ → ℕ) → AllFree n s → Slots ids odd limit n s
+slots-free ids odd limit n s free =
+    record {
+      corners = λ r l. omega (arith, free r l);
+      spread = record { one = λ i j li ui lj uj e. absurd (omega (arith, free i li)); reach = λ i j li ui lj d. absurd (omega (arith, free i li)) };
+      near = λ r l u. absurd (omega (arith, free r l));
+      solids = λ r l u. absurd (omega (arith, free r l));
+    }
+
+module _ (ids : List ℕ) (odd limit n : ℕ) (s : ℕ → ℕ) (z : Slots ids odd limit n s) (c r : ℕ)
+    (q : Sought n limit (homeOf odd n (keyOf ids c)) (keyIn ids s) s (keyOf ids c) r) where
+  -- a row in use with the corner's key is the one found
+  pub row-is : (x : ℕ) → x < n → 0 < s x → keyIn ids s x ≡ keyOf ids c → x ≡ r
+  row-is x lx used e = go (decLt r n) (ℕ-discrete x r)
+    where
+      go : Dec (r < n) → Dec (x ≡ r) → x ≡ r
+      go d (yes p) = p
+      go (yes l) (no ne) = absurd (other n (homeOf odd n) (keyIn ids s) s (keyOf ids c) r (home-below odd n (keyOf ids c) (omega arith)) (z .spread) (q .found l) x lx used ne e)
+      go (no l) (no ne) =
+          let w : r ≡ n = omega (arith, q .within) in
+          absurd (q .none w x lx (subst (λ (k : ℕ). dist n (homeOf odd n k) x < limit) e (z .near x lx used)) .1 e)
+
+  -- its corner and c are of linked triangles
+  pub row-linked : r < n → 0 < s r → c < 3 * n → solid ids (c / 3) ≡ true → Linked ids n ((s r - 1) / 3) (c / 3)
+  row-linked lr used lc sc =
+      record { within = (omega (arith, z .corners r lr), omega arith); solids = (z .solids r lr used, sc); share = share-key ids (s r - 1) c (q .found lr .holds used) }
+
+  -- where no row was found, or a free one, no row has the key
+  pub followed-past : r ≡ n → (f : ℕ → ℕ) → Followed ids n s c f
+  followed-past e f sc x lx used k = absurd (omega (arith, row-is x lx used k))
+
+  pub followed-free : s r ≡ 0 → (f : ℕ → ℕ) → Followed ids n s c f
+  followed-free e f sc x lx used k = absurd (omega (arith, ap s (row-is x lx used k)))
+
+  pub followed-here : (f : ℕ → ℕ) → f ((s r - 1) / 3) ≡ f (c / 3) → Followed ids n s c f
+  followed-here f e sc x lx used k = ap (λ (y : ℕ). f ((s y - 1) / 3)) (row-is x lx used k) ∙ e
+
+-- a corner of a triangle whose ids are not distinct asks for nothing
+pub followed-not : (ids : List ℕ) (n : ℕ) (s : ℕ → ℕ) (c : ℕ) → solid ids (c / 3) ≡ false → (f : ℕ → ℕ) → Followed ids n s c f
+followed-not ids n s c no-solid f sc = absurd (true≢false (sym sc ∙ no-solid))
+
+-- nothing is changed
+pub entered-same : (ids : List ℕ) (odd limit spare c : ℕ) (t : List ℕ) (entered : Bool) → Slots ids odd limit (length t) (slotIn t)
+    → (entered ≡ true → solid ids (c / 3) ≡ true → ⊥) → (AllFree (length t) (slotIn t) → 0 < spare → entered ≡ true) → Entered ids odd limit (length t) spare c t t entered
+entered-same ids odd limit spare c t entered z no-corner fresh =
+    record { slots = z; rows = λ r l u. refl; more = λ f g. more-none ids t f _ g (λ e sc. absurd (no-corner e sc)); fresh = fresh }
+
+-- in free slots a search finds a row
+pub never-past : (ids : List ℕ) (odd limit n : ℕ) (s : ℕ → ℕ) (c r : ℕ) → 0 < limit → 0 < n → Sought n limit (homeOf odd n (keyOf ids c)) (keyIn ids s) s (keyOf ids c) r → AllFree n s → r ≡ n → ⊥
+never-past ids odd limit n s c r l some q free e =
+    let h : ℕ = homeOf odd n (keyOf ids c) in
+    let lh : h < n = home-below odd n (keyOf ids c) some in
+    omega (arith, free h lh, q .none e h lh (rw (dist-here n h lh) l) .0)
+
+module _ (ids t u : List ℕ) (odd limit spare c r : ℕ) (z : Slots ids odd limit (length t) (slotIn t))
+    (q : Sought (length t) limit (homeOf odd (length t) (keyOf ids c)) (keyIn ids (slotIn t)) (slotIn t) (keyOf ids c) r)
+    (lr : r < length t) (lc : c < 3 * length t) (sc : solid ids (c / 3) ≡ true) (s : ℕ) (is : s ≡ slotIn t r) where
+  -- the row's corner and c were joined
+  module _ (long : length u ≡ length t) (used : s ≢ 0) (j : Joined t u ((s - 1) / 3) (c / 3)) where
+    in-use : 0 < slotIn t r
+    in-use = omega arith
+
+    link : Linked ids (length t) ((s - 1) / 3) (c / 3)
+    link = rw is (row-linked ids odd limit (length t) (slotIn t) z c r q lr in-use lc sc)
+
+    one-label : (f : ℕ → ℕ) → merged f ((s - 1) / 3) (c / 3) ((slotIn t r - 1) / 3) ≡ merged f ((s - 1) / 3) (c / 3) (c / 3)
+    one-label f = ap (λ (x : ℕ). merged f ((s - 1) / 3) (c / 3) ((x - 1) / 3)) (sym is) ∙ merged-joins f ((s - 1) / 3) (c / 3)
+
+    pub grown-row : Grown ids t u (Followed ids (length t) (slotIn t) c)
+    grown-row = grown-joined ids t u _ _ long link j _ (λ f. followed-here ids odd limit (length t) (slotIn t) z c r q (merged f ((s - 1) / 3) (c / 3)) (one-label f))
+
+    pub entered-joined : Entered ids odd limit (length t) spare c t u true
+    entered-joined =
+        record {
+          slots = along (Slots ids odd limit (length t)) t u (j .slots) z;
+          rows = λ x l h. j .slots x;
+          more = more-joined ids t u _ _ long link j _ (λ f e s′. along (λ (o : ℕ → ℕ). Has ids (length t) o (merged f ((s - 1) / 3) (c / 3)) c) t u (j .slots) (r, lr, in-use, q .found lr .holds in-use, one-label f));
+          fresh = λ free l. refl;
+        }
+
+  -- the row was free, and holds c
+  module _ (free : s ≡ 0) where
+    v : List ℕ
+    v = withSlot t r (c + 1)
+
+    here : slotIn v r ≡ c + 1
+    unfolding v
+    here = slot-here t r (c + 1) lr
+
+    else : (i : ℕ) → i ≢ r → slotIn v i ≡ slotIn t i
+    unfolding v
+    else i ne = slot-else t r (c + 1) lr i ne
+
+    key-here : keyIn ids (slotIn v) r ≡ keyOf ids c
+    key-here = ap (λ (x : ℕ). keyOf ids (x - 1)) here ∙ ap (keyOf ids) (omega arith)
+
+    corner-here : (slotIn v r - 1) / 3 ≡ c / 3
+    corner-here = ap (λ (x : ℕ). (x - 1) / 3) here ∙ ap (λ (x : ℕ). x / 3) (omega arith)
+
+    by : (i : ℕ) (P : ℕ → Type 0) → P r → (i ≢ r → P i) → P i
+    by i P a b = elim (ℕ-discrete i r) [ yes e ↦ subst P (sym e) a | no ne ↦ b ne ]
+
+    written : Written (length t) r (keyOf ids c) (keyIn ids (slotIn t)) (keyIn ids (slotIn v)) (slotIn t) (slotIn v)
+    written = record { key-at = key-here; mark-at = omega (arith, here); key-off = λ i l ne. ap (λ (x : ℕ). keyOf ids (x - 1)) (else i ne); mark-off = λ i l ne. else i ne }
+
+    slots-held : Slots ids odd limit (length t) (slotIn v)
+    slots-held =
+        record {
+          corners = λ i l. by i (λ x. slotIn v x ≤ 3 * length t) (omega (arith, here)) (λ ne. omega (arith, else i ne, z .corners i l));
+          spread = spread-step (length t) (homeOf odd (length t)) (keyIn ids (slotIn t)) (slotIn t) (keyOf ids c) r (home-below odd (length t) (keyOf ids c) (omega arith)) (z .spread) (q .found lr) (keyIn ids (slotIn v)) (slotIn v) written;
+          near = λ i l. by i (λ x. 0 < slotIn v x → dist (length t) (homeOf odd (length t) (keyIn ids (slotIn v) x)) x < limit)
+              (λ h. subst (λ (k : ℕ). dist (length t) (homeOf odd (length t) k) r < limit) (sym key-here) (q .near lr))
+              (λ ne. subst (λ (x : ℕ). 0 < x → dist (length t) (homeOf odd (length t) (keyOf ids (x - 1))) i < limit) (sym (else i ne)) (z .near i l));
+          solids = λ i l. by i (λ x. 0 < slotIn v x → solid ids ((slotIn v x - 1) / 3) ≡ true) (λ h. ap (solid ids) corner-here ∙ sc)
+              (λ ne. subst (λ (x : ℕ). 0 < x → solid ids ((x - 1) / 3) ≡ true) (sym (else i ne)) (z .solids i l));
+        }
+
+    pub entered-held : u ≡ withSlot t r (c + 1) → Entered ids odd limit (length t) spare c t u true
+    unfolding v
+    entered-held e = subst (λ (w : List ℕ). Entered ids odd limit (length t) spare c t w true) (sym e) (
+        record {
+          slots = slots-held;
+          rows = λ x l h. else x (λ e. omega (arith, ap (slotIn t) e));
+          more = λ f g. record {
+            label = f;
+            good = good-kept ids t v (length-set t r _) (parents-stay t r (c + 1) lr) f g;
+            keeps = λ x y e. e;
+            holds = λ e s′. (r, lr, omega (arith, here), key-here, ap f corner-here);
+          };
+          fresh = λ free l. refl;
+        })

@@ -1,0 +1,98 @@
+-- `pieces::fill` meets its contract. Assumes nothing.
+use mathlib.Core.Path.{_≡_, refl}
+use Prim.Native.Nat.{_-_, _*_}
+use native.Mathlib.Omega.{arith}
+use borrow.Author.Tests.{not-true, not-false}
+use borrow.Author.Needs.{needs}
+use lib.ListN.{length}
+use Rattle.pieces.proofs.Passes.{Filling, filling-none, filling-labelled, filling-next, filled-short, filled-all}
+use Rattle.pieces.proofs.fill.Statement.{statement}
+use Rattle.pieces.proofs.fill.Tie as tie
+
+abbrev Inv-loop : tie.InvT-loop
+Inv-loop ids work₀ odd limit from n spare₀ c₀ work spare c = (length work ≡ length work₀) × Filling ids odd limit (length work₀) from c spare work₀ work
+
+abbrev μ-loop : tie.MeasureT-loop
+μ-loop ids work₀ odd limit from n spare₀ c₀ work spare c = 3 * length work₀ - c
+
+mul-spare : tie.Need-mul-spare Inv-loop μ-loop
+mul-spare c = search needs
+
+add-spare : tie.Need-add-spare Inv-loop μ-loop
+add-spare c = search needs
+
+loop-holds : tie.Need-loop-holds Inv-loop μ-loop
+loop-holds c =
+    let s = c .before .before in
+    let ids = s .args .ids .now in
+    let t = s .args .work .now in
+    (refl, filling-none ids (s .args .odd) (s .args .limit) (length t) (s .args .from) _ t (s .pre .1) (s .pre .3) (omega arith))
+
+mul-loop : tie.Need-mul-loop Inv-loop μ-loop
+mul-loop c = search needs
+
+enter-requires : tie.Need-enter-requires Inv-loop μ-loop
+enter-requires c κs =
+    let s = c .before .before .before .before .before in
+    let ids = s .args .ids .now in
+    let t = s .args .work .now in
+    let l = c .before .before .loop in
+    let k = l .inv .0 in
+    ((omega arith, s .pre .0 .1), omega arith, (s .pre .2 .0, omega arith), rw k (l .inv .1 .slots), filling-labelled ids (s .args .odd) (s .args .limit) (length t) (s .args .from) (l .spare) t (l .c) (l .work) (l .inv .1) (s .pre .4))
+
+same-length : tie.Need-same-length Inv-loop μ-loop
+same-length c = search needs
+
+returns : tie.Need-returns Inv-loop μ-loop
+returns c =
+    let s = c .before .before .before .before .before .before .before .before .before .before in
+    let ids = s .args .ids .now in
+    let t = s .args .work .now in
+    let l = c .before .before .before .before .before .before .before .loop in
+    let w = rw (l .inv .0) at (c .before .before .before .before .enter .ensures) in
+    filled-short ids (s .args .odd) (s .args .limit) (length t) (s .args .from) (l .spare) t (l .c) (l .work) _ (l .inv .1) (c .before .before .before .before .enter .result .entered) w (not-true (c .before .before .before .before .enter .result .entered) (c .if1 .taken))
+
+add-c : tie.Need-add-c Inv-loop μ-loop
+add-c c = search needs
+
+loop-less : tie.Need-loop-less Inv-loop μ-loop
+loop-less c = search needs
+
+loop-again : tie.Need-loop-again Inv-loop μ-loop
+loop-again c =
+    let s = c .before .before .before .before .before .before .before .before .before .before in
+    let ids = s .args .ids .now in
+    let t = s .args .work .now in
+    let l = c .before .before .before .before .before .before .before .loop in
+    let w = rw (l .inv .0) at (c .before .before .before .before .enter .ensures) in
+    (omega (arith, c .before .before .before .before .enter .kept, l .inv .0), filling-next ids (s .args .odd) (s .args .limit) (length t) (s .args .from) (l .spare) t (l .c) (l .work) _ (l .inv .1) (c .before .before .before .before .enter .result .entered) w (c .before .before .before .before .enter .result .spare) (omega arith) (not-false (c .before .before .before .before .enter .result .entered) (c .if1 .left)))
+
+same-length-2 : tie.Need-same-length-2 Inv-loop μ-loop
+same-length-2 c = search needs
+
+returns-2 : tie.Need-returns-2 Inv-loop μ-loop
+returns-2 c =
+    let s = c .before .before .before .before in
+    let ids = s .args .ids .now in
+    let t = s .args .work .now in
+    let l = c .before .loop in
+    filled-all ids (s .args .odd) (s .args .limit) (length t) (s .args .from) (l .spare) t (l .c) (l .work) (l .inv .1) (omega arith)
+
+pub fill-spec : {M : Type 1} → statement M
+fill-spec =
+    tie.close
+    (tie.spec
+    Inv-loop
+    μ-loop
+    mul-spare
+    add-spare
+    loop-holds
+    mul-loop
+    enter-requires
+    same-length
+    returns
+    add-c
+    loop-less
+    loop-again
+    same-length-2
+    returns-2)

@@ -1,0 +1,90 @@
+-- `pieces::join_all` meets its contract. Assumes nothing.
+use mathlib.Core.Path.{_≡_, refl}
+use Prim.Native.Nat.{_-_, _*_}
+use native.Mathlib.Omega.{arith}
+use borrow.Author.Needs.{needs}
+use lib.ListN.{length}
+use Rattle.pieces.proofs.Joins.{good-planted}
+use Rattle.pieces.proofs.Passes.{Joining, joining-none, joining-next, joined-all}
+use Rattle.pieces.proofs.join_all.Statement.{statement}
+use Rattle.pieces.proofs.join_all.Tie as tie
+
+abbrev Inv-loop : tie.InvT-loop
+Inv-loop ids work₀ corners c₀ work c = (length work ≡ length work₀) × Joining ids work (length work₀) c
+
+abbrev μ-loop : tie.MeasureT-loop
+μ-loop ids work₀ corners c₀ work c = 3 * length work₀ - c
+
+plant-requires : tie.Need-plant-requires Inv-loop μ-loop
+plant-requires c κs = search needs
+
+mul-corners : tie.Need-mul-corners Inv-loop μ-loop
+mul-corners c = search needs
+
+loop-holds : tie.Need-loop-holds Inv-loop μ-loop
+loop-holds c =
+    let s = c .before .before .before .before .before .before in
+    let ids = s .args .ids .now in
+    let t = s .args .work .now in
+    let u = c .before .before .plant .last .0 in
+    let lu : length u ≡ length t = c .before .before .plant .kept .0 in
+    (refl, joining-none ids u (length u) _ (good-planted ids u (rw lu (c .before .before .plant .ensures))))
+
+pass-requires : tie.Need-pass-requires Inv-loop μ-loop
+pass-requires c κs =
+    let s = c .before .before .before .before .before .before .before .before .before in
+    let ids = s .args .ids .now in
+    let t = s .args .work .now in
+    let u = c .before .before .before .before .before .plant .last .0 in
+    let lu : length u ≡ length t = c .before .before .before .before .before .plant .kept .0 in
+    let l = c .before .before .loop in
+    ((omega arith, s .pre .1), omega arith, (l .inv .1 .label, l .inv .1 .good))
+
+loop-less : tie.Need-loop-less Inv-loop μ-loop
+loop-less c =
+    let s = c .before .before .before .before .before .before .before .before .before .before .before .before in
+    let ids = s .args .ids .now in
+    let t = s .args .work .now in
+    let u = c .before .before .before .before .before .before .before .before .plant .last .0 in
+    let lu : length u ≡ length t = c .before .before .before .before .before .before .before .before .plant .kept .0 in
+    let l = c .before .before .before .before .before .loop in
+    omega (arith, l .inv .0, c .before .before .pass .ensures .ahead, c .before .before .pass .ensures .within)
+
+loop-again : tie.Need-loop-again Inv-loop μ-loop
+loop-again c =
+    let s = c .before .before .before .before .before .before .before .before .before .before .before .before in
+    let ids = s .args .ids .now in
+    let t = s .args .work .now in
+    let u = c .before .before .before .before .before .before .before .before .plant .last .0 in
+    let lu : length u ≡ length t = c .before .before .before .before .before .before .before .before .plant .kept .0 in
+    let l = c .before .before .before .before .before .loop in
+    let w = rw (l .inv .0) at (c .before .before .pass .ensures) in
+    (omega (arith, c .before .before .pass .kept, l .inv .0), joining-next ids (l .work) _ (length u) (l .c) (c .before .before .pass .result) (l .inv .1) w)
+
+same-length : tie.Need-same-length Inv-loop μ-loop
+same-length c = search needs
+
+returns : tie.Need-returns Inv-loop μ-loop
+returns c =
+    let s = c .before .before .before .before .before .before .before .before in
+    let ids = s .args .ids .now in
+    let t = s .args .work .now in
+    let u = c .before .before .before .before .plant .last .0 in
+    let lu : length u ≡ length t = c .before .before .before .before .plant .kept .0 in
+    let l = c .before .loop in
+    joined-all ids (l .work) (length u) (l .c) (l .inv .0) (l .inv .1) (omega arith)
+
+pub join-all-spec : {M : Type 1} → statement M
+join-all-spec =
+    tie.close
+    (tie.spec
+    Inv-loop
+    μ-loop
+    plant-requires
+    mul-corners
+    loop-holds
+    pass-requires
+    loop-less
+    loop-again
+    same-length
+    returns)

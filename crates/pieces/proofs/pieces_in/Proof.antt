@@ -1,0 +1,33 @@
+-- `pieces::pieces_in` meets its contract. Assumes nothing.
+use mathlib.Core.Path.{_≡_, _∙_}
+use borrow.Author.Needs.{needs}
+use lib.ListN.{length}
+use Rattle.ids.proofs.Lent.{cleared-all}
+use Rattle.pieces.proofs.Roots.{answers}
+use Rattle.pieces.proofs.pieces_in.Statement.{statement}
+use Rattle.pieces.proofs.pieces_in.Tie as tie
+
+join-all-requires : tie.Need-join-all-requires
+join-all-requires c κs = search needs
+
+count-requires : tie.Need-count-requires
+count-requires c κs = search needs
+
+clear-requires : tie.Need-clear-requires
+clear-requires c κs = search needs
+
+same-length : tie.Need-same-length
+same-length c = search needs
+
+returns : tie.Need-returns
+returns c =
+    let s = c .before .before .before .before .before .before .before .before .before .before .before .before in
+    let ids = s .args .ids .now in
+    let t = s .args .work .now in
+    let u = c .before .before .before .before .before .before .before .before .join-all .last .1 .0 in
+    let lu : length u ≡ length (t) = c .before .before .before .before .before .before .before .before .join-all .kept .1 .0 in
+    (c .before .before .before .before .count .ensures ∙ answers ids u (lu ∙ s .pre .0) (c .before .before .before .before .before .before .before .before .join-all .ensures), c .before .before .clear .ensures ∙ rw (lu ∙ s .pre .0) (cleared-all _ u (lu ∙ s .pre .0)))
+
+pub pieces-in-spec : {M : Type 1} → statement M
+pieces-in-spec =
+    tie.close (tie.spec join-all-requires count-requires clear-requires same-length returns)

@@ -1,0 +1,55 @@
+-- Labels of the triangles while they are joined: never coarser than the joins ask, and at the end as coarse. Internal: the parts of the piece count keep this.
+use mathlib.Core.Path.{_≡_}
+use mathlib.Core.Bool.{Bool, true, _&&_}
+use mathlib.Core.List.{List}
+use Prim.Native.Nat.{ℕ, _/_, _≤_, _<_}
+use lib.Dec.{eqb}
+use lib.ListN.{length}
+use Rattle.ids.specs.Triangles.{triangle}
+use Rattle.forest.specs.Words.{parentIn, slotIn}
+use Rattle.forest.specs.Labels.{Means}
+use Rattle.pieces.specs.Groups.{solid, shareId}
+
+-- one word a triangle, for as many ids as are not refused
+abbrev pub Sized : List ℕ → List ℕ → Type 0
+Sized ids t = (length t ≡ length ids / 3) × (length ids ≤ 98304)
+
+-- two distinct-id triangles of n that share an id
+pub record Linked (ids : List ℕ) (n x y : ℕ) : Type 0 where
+  pub within : (x < n) × (y < n)
+  pub solids : (solid ids x ≡ true) × (solid ids y ≡ true)
+  pub share : shareId (triangle ids x) (triangle ids y) ≡ true
+
+-- f is no coarser than the joins ask: what gives linked triangles one label gives a triangle and its f one
+abbrev pub Inner : List ℕ → ℕ → (ℕ → ℕ) → Type 0
+Inner ids n f = (h : ℕ → ℕ) → ((x y : ℕ) → Linked ids n x y → h x ≡ h y) → (x : ℕ) → x < n → h (f x) ≡ h x
+
+-- the labels of the forest in t are f, and no coarser than the joins ask
+pub record Good (ids t : List ℕ) (f : ℕ → ℕ) : Type 0 where
+  pub means : Means (length t) (parentIn t) f
+  pub inner : Inner ids (length t) f
+
+abbrev pub Labelled : List ℕ → List ℕ → Type 0
+Labelled ids t = (f : ℕ → ℕ) × Good ids t f
+
+-- labels of u that give one label to whatever f gives one, with Q
+pub record More (ids u : List ℕ) (f : ℕ → ℕ) (Q : (ℕ → ℕ) → Type 0) : Type 0 where
+  pub label : ℕ → ℕ
+  pub good : Good ids u label
+  pub keeps : (x y : ℕ) → f x ≡ f y → label x ≡ label y
+  pub holds : Q label
+
+-- what a routine that only joins does from t to u: the slots stay, and Q holds of the labels behind it
+pub record Grown (ids t u : List ℕ) (Q : (ℕ → ℕ) → Type 0) : Type 0 where
+  pub slots : (i : ℕ) → slotIn u i ≡ slotIn t i
+  pub more : (f : ℕ → ℕ) → Good ids t f → More ids u f Q
+
+-- when all is joined: labels that are as coarse as the joins ask, and no coarser
+pub record Whole (ids t : List ℕ) : Type 0 where
+  pub label : ℕ → ℕ
+  pub good : Good ids t label
+  pub follows : (x y : ℕ) → Linked ids (length t) x y → label x ≡ label y
+
+-- triangle i has distinct ids and hangs on itself
+unfoldable pub isRoot : List ℕ → List ℕ → ℕ → Bool
+isRoot ids t i = solid ids i && eqb (parentIn t i) i

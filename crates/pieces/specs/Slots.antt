@@ -1,0 +1,87 @@
+-- The slots of a pass: a table of corners by their ids. A corner is a place in the list of ids, of triangle c / 3; a slot holds one more than its corner,
+-- or 0. Internal: what a search in the slots finds, and what a pass over the corners does.
+use mathlib.Core.Path.{_≡_}
+use mathlib.Core.Logic.{_≢_}
+use mathlib.Core.Bool.{Bool, true}
+use mathlib.Core.List.{List}
+use Prim.Native.Nat.{ℕ, _-_, _*_, _/_, _%_, _≤_, _<_}
+use lib.ListN.{getD}
+use Rattle.table.specs.Rows.{homeRow, dist, Found, Spread}
+use Rattle.forest.specs.Words.{slotIn}
+use Rattle.pieces.specs.Groups.{solid}
+use Rattle.pieces.specs.Joins.{Good, More}
+
+-- what corner c is looked up by: its id
+unfoldable pub keyOf : List ℕ → ℕ → ℕ
+keyOf ids c = getD ids c 0
+
+-- the row of n at which a search for key k starts, in a pass with this odd number
+unfoldable pub homeOf : ℕ → ℕ → ℕ → ℕ
+homeOf odd n k = homeRow n ((k * odd) % 4294967296)
+
+-- the key of the corner that row r holds, for slots s
+abbrev pub keyIn : List ℕ → (ℕ → ℕ) → ℕ → ℕ
+keyIn ids s r = keyOf ids (s r - 1)
+
+-- how many rows a search looks at
+abbrev pub Limited : ℕ → ℕ → Type 0
+Limited limit n = (0 < limit) × (limit ≤ n)
+
+-- each of n slots is free or holds a corner of n triangles
+abbrev pub Corners : ℕ → (ℕ → ℕ) → Type 0
+Corners n s = (r : ℕ) → r < n → s r ≤ 3 * n
+
+abbrev pub AllFree : ℕ → (ℕ → ℕ) → Type 0
+AllFree n s = (r : ℕ) → r < n → s r ≡ 0
+
+-- what a search for k from row `at` on finds: a row as `Found` has it, among the first `limit`; or n, where all of these hold other keys
+pub record Sought (n limit at : ℕ) (key mark : ℕ → ℕ) (k r : ℕ) : Type 0 where
+  pub within : r ≤ n
+  pub found : r < n → Found n at key mark k r
+  pub near : r < n → dist n at r < limit
+  pub none : r ≡ n → (j : ℕ) → j < n → dist n at j < limit → (0 < mark j) × (key j ≢ k)
+
+-- n slots as a pass keeps them: a search finds each key, within the limit, and they hold corners of distinct-id triangles
+pub record Slots (ids : List ℕ) (odd limit n : ℕ) (s : ℕ → ℕ) : Type 0 where
+  pub corners : Corners n s
+  pub spread : Spread n (homeOf odd n) (keyIn ids s) s
+  pub near : (r : ℕ) → r < n → 0 < s r → dist n (homeOf odd n (keyIn ids s r)) r < limit
+  pub solids : (r : ℕ) → r < n → 0 < s r → solid ids ((s r - 1) / 3) ≡ true
+
+-- some row holds corner i's key, and the row's corner and corner i have one label
+abbrev pub Has : List ℕ → ℕ → (ℕ → ℕ) → (ℕ → ℕ) → ℕ → Type 0
+Has ids n s f i = (r : ℕ) × (r < n) × (0 < s r) × (keyIn ids s r ≡ keyOf ids i) × (f ((s r - 1) / 3) ≡ f (i / 3))
+
+-- this is so for each corner of a distinct-id triangle from a on below b
+abbrev pub Covered : List ℕ → ℕ → (ℕ → ℕ) → (ℕ → ℕ) → ℕ → ℕ → Type 0
+Covered ids n s f a b = (i : ℕ) → a ≤ i → i < b → solid ids (i / 3) ≡ true → Has ids n s f i
+
+-- whichever row holds corner i's key, the row's corner and corner i have one label
+abbrev pub Followed : List ℕ → ℕ → (ℕ → ℕ) → ℕ → (ℕ → ℕ) → Type 0
+Followed ids n s i f = solid ids (i / 3) ≡ true → (r : ℕ) → r < n → 0 < s r → keyIn ids s r ≡ keyOf ids i → f ((s r - 1) / 3) ≡ f (i / 3)
+
+-- what trying to enter corner c does, from t to u with n slots, and whether it is entered
+pub record Entered (ids : List ℕ) (odd limit n spare c : ℕ) (t u : List ℕ) (entered : Bool) : Type 0 where
+  pub slots : Slots ids odd limit n (slotIn u)
+  -- a slot in use stays
+  pub rows : (r : ℕ) → r < n → 0 < slotIn t r → slotIn u r ≡ slotIn t r
+  pub more : (f : ℕ → ℕ) → Good ids t f → More ids u f (λ g. (entered ≡ true → solid ids (c / 3) ≡ true → Has ids n (slotIn u) g c))
+  -- the first corner is entered
+  pub fresh : AllFree n (slotIn t) → 0 < spare → entered ≡ true
+
+-- what entering the corners from `from` on below `next` does
+pub record Filled (ids : List ℕ) (odd limit n from next : ℕ) (t u : List ℕ) : Type 0 where
+  pub within : next ≤ 3 * n
+  pub ahead : from < 3 * n → from < next
+  pub slots : Slots ids odd limit n (slotIn u)
+  pub more : (f : ℕ → ℕ) → Good ids t f → More ids u f (λ g. Covered ids n (slotIn u) g from next)
+
+-- each corner from a on below b has one label with all corners behind it that have its key, where their triangles have distinct ids
+abbrev pub Settled : List ℕ → ℕ → ℕ → ℕ → (ℕ → ℕ) → Type 0
+Settled ids n a b f = (i j : ℕ) → a ≤ i → i < b → i ≤ j → j < 3 * n → solid ids (i / 3) ≡ true → solid ids (j / 3) ≡ true → keyOf ids i ≡ keyOf ids j → f (i / 3) ≡ f (j / 3)
+
+-- what a pass does
+pub record Swept (ids : List ℕ) (n from next : ℕ) (t u : List ℕ) : Type 0 where
+  pub within : next ≤ 3 * n
+  pub ahead : from < next
+  pub more : (f : ℕ → ℕ) → Good ids t f → More ids u f (Settled ids n from next)

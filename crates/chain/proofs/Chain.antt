@@ -5,7 +5,7 @@ use mathlib.Core.List.{List, []}
 use Prim.Native.Nat.{ℕ}
 use lib.ListN.{length}
 use Rattle.ids.specs.Triangles.{overTriangles}
-use Rattle.ids.specs.EdgeChain.{around, enough, chain}
+use Rattle.ids.specs.EdgeChain.{enough, chain}
 use Rattle.edges.specs.Tests.{edgesOf}
 
 pub chain-all : (ids : List ℕ) → enough (length ids) ≡ true → chain ids ≡ overTriangles (edgesOf true) ids

@@ -120,13 +120,10 @@ fn net_in(ids: &[u32], part: &mut [u32]) -> FaceNet
 pub fn edge_chain(ids: &[u32], work: &mut [u32]) -> EdgeChain
     ensures { λ r. ⌜ EdgeChainGiven (now (ids .entry)) (now (work .entry)) r (now (work .exit)) ⌝ }
 {
-    let n = ids.len();
-    if 98304 < n {
-        return EdgeChain::Refused(1);
-    }
-    let m = 4 * n;
-    if work.len() < m {
-        return EdgeChain::Refused(3);
+    let m = 4 * ids.len();
+    let refusal = table::refusal(ids.len(), m, work.len());
+    if 0 < refusal {
+        return EdgeChain::Refused(refusal);
     }
     chain_in(ids, &mut work[0..m])
 }
@@ -135,13 +132,10 @@ pub fn edge_chain(ids: &[u32], work: &mut [u32]) -> EdgeChain
 pub fn is_closed_manifold(ids: &[u32], work: &mut [u32]) -> Verdict
     ensures { λ r. ⌜ ClosedManifoldGiven (now (ids .entry)) (now (work .entry)) r (now (work .exit)) ⌝ }
 {
-    let n = ids.len();
-    if 98304 < n {
-        return Verdict::Refused(1);
-    }
-    let m = 4 * n;
-    if work.len() < m {
-        return Verdict::Refused(3);
+    let m = 4 * ids.len();
+    let refusal = table::refusal(ids.len(), m, work.len());
+    if 0 < refusal {
+        return Verdict::Refused(refusal);
     }
     Verdict::Answer(manifold_in(ids, &mut work[0..m]))
 }
@@ -150,13 +144,10 @@ pub fn is_closed_manifold(ids: &[u32], work: &mut [u32]) -> Verdict
 pub fn winding_coherent(ids: &[u32], work: &mut [u32]) -> Verdict
     ensures { λ r. ⌜ WindingCoherentGiven (now (ids .entry)) (now (work .entry)) r (now (work .exit)) ⌝ }
 {
-    let n = ids.len();
-    if 98304 < n {
-        return Verdict::Refused(1);
-    }
-    let m = 4 * n;
-    if work.len() < m {
-        return Verdict::Refused(3);
+    let m = 4 * ids.len();
+    let refusal = table::refusal(ids.len(), m, work.len());
+    if 0 < refusal {
+        return Verdict::Refused(refusal);
     }
     Verdict::Answer(coherent_in(ids, &mut work[0..m]))
 }
@@ -165,13 +156,10 @@ pub fn winding_coherent(ids: &[u32], work: &mut [u32]) -> Verdict
 pub fn face_net(ids: &[u32], work: &mut [u32]) -> FaceNet
     ensures { λ r. ⌜ FaceNetGiven (now (ids .entry)) (now (work .entry)) r (now (work .exit)) ⌝ }
 {
-    let n = ids.len();
-    if 98304 < n {
-        return FaceNet::Refused(1);
-    }
-    let m = 4 * (n / 3);
-    if work.len() < m {
-        return FaceNet::Refused(3);
+    let m = 4 * (ids.len() / 3);
+    let refusal = table::refusal(ids.len(), m, work.len());
+    if 0 < refusal {
+        return FaceNet::Refused(refusal);
     }
     net_in(ids, &mut work[0..m])
 }

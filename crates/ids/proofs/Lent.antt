@@ -1,11 +1,11 @@
--- A contract `Gives` leaves one answer and one area; and what it says by the number of ids and of words. Assumes nothing.
+-- A contract `Gives` leaves one answer and one area; and how a routine meets it, by what it refuses. Assumes nothing.
 use mathlib.Core.Path.{_≡_, refl, sym, ap, _∙_}
-use mathlib.Core.List.{List, [], _++_, append-assoc}
-use Prim.Native.Nat.{ℕ, zero, suc, _+_, _≤_, _<_}
+use mathlib.Core.List.{List, []}
+use Prim.Native.Nat.{ℕ, zero, suc, _≤_, _<_}
 use native.Mathlib.Omega.{arith}
+use native.Mathlib.Decide.{decLt}
 use borrow.Author.Tests.{lt-ltb, le-ltb}
-use lib.ListN.{length, take, drop, replicate, length-replicate, drop-of-length-le, replicate-append-replicate}
-use lib.Seq.{take-at, drop-append-add, drop-drop}
+use lib.ListN.{length, drop, replicate, drop-of-length-le}
 use Rattle.ids.specs.Lent.{refusal, unlessRefused, cleared, areaAfter, Gives}
 use Rattle.ids.proofs.Triangles.{append-none}
 
@@ -14,18 +14,39 @@ pub gives-one : {A : Type 0} (needed : ℕ) (refused : ℕ → A) (answer : A) (
     → Gives needed refused answer ids area r after → Gives needed refused answer ids area r′ after′ → (r ≡ r′) × (after ≡ after′)
 gives-one needed refused answer ids area r r′ after after′ g h = (g .answers ∙ sym (h .answers), g .leaves ∙ sym (h .leaves))
 
+-- k is the refusal's number, and it is none: there are not too many ids, and the area has the words needed
+pub refusal-none : (k i needed lent : ℕ) → k ≡ refusal i needed lent → k ≤ 0 → (i ≤ 98304) × (needed ≤ lent)
+unfolding refusal
+refusal-none k i needed lent e z =
+    elim (decLt 98304 i) [
+      | yes many ↦ (let one : k ≡ 1 = rw (lt-ltb 98304 i many) at e in absurd (omega (arith, one)))
+      | no few ↦ elim (decLt lent needed) [
+        | yes short ↦ (let three : k ≡ 3 = rw (le-ltb 98304 i (omega arith), lt-ltb lent needed short) at e in absurd (omega (arith, three)))
+        | no room ↦ (omega arith, omega arith)
+      ]
+    ]
+
 module _ {A : Type 0} (needed : ℕ) (refused : ℕ → A) (answer : A) (ids area : List ℕ) where
-  pub refused-1 : 98304 < length ids → Gives needed refused answer ids area (refused 1) area
-  unfolding refusal unlessRefused areaAfter
-  refused-1 many = record { answers = rw (lt-ltb 98304 (length ids) many); leaves = rw (lt-ltb 98304 (length ids) many) }
+  -- a routine that refuses, with the refusal's number, and has changed nothing
+  pub gives-refusal : (k : ℕ) → k ≡ refusal (length ids) needed (length area) → 0 < k → Gives needed refused answer ids area (refused k) area
+  unfolding unlessRefused areaAfter
+  gives-refusal k e some = record {
+    answers = ap refused e ∙ by-cases (refusal (length ids) needed (length area)) (omega (arith, e));
+    leaves = kept (refusal (length ids) needed (length area)) (omega (arith, e));
+  }
+    where
+      by-cases : (n : ℕ) → 0 < n → refused n ≡ unlessRefused n refused answer
+      by-cases zero some = absurd (omega arith)
+      by-cases (suc n) some = refl
 
-  pub refused-3 : length ids ≤ 98304 → length area < needed → Gives needed refused answer ids area (refused 3) area
-  unfolding refusal unlessRefused areaAfter
-  refused-3 few short = let few′ = le-ltb 98304 (length ids) few in let short′ = lt-ltb (length area) needed short in record { answers = rw (few′, short′); leaves = rw (few′, short′) }
+      kept : (n : ℕ) → 0 < n → area ≡ areaAfter n needed area
+      kept zero some = absurd (omega arith)
+      kept (suc n) some = refl
 
-  pub answered : length ids ≤ 98304 → needed ≤ length area → Gives needed refused answer ids area answer (cleared needed area)
-  unfolding refusal unlessRefused areaAfter
-  answered few room = let few′ = le-ltb 98304 (length ids) few in let room′ = le-ltb (length area) needed room in record { answers = rw (few′, room′); leaves = rw (few′, room′) }
+  -- a routine that answers, and has cleared the words that it needs
+  pub gives-answer : (k : ℕ) → k ≡ refusal (length ids) needed (length area) → k ≤ 0 → Gives needed refused answer ids area answer (cleared needed area)
+  unfolding unlessRefused areaAfter
+  gives-answer k e z = let none : refusal (length ids) needed (length area) ≡ 0 = omega (arith, e) in record { answers = rw none; leaves = rw none }
 
 -- an area that is cleared whole
 pub cleared-all : (n : ℕ) (t : List ℕ) → length t ≡ n → cleared n t ≡ replicate n 0

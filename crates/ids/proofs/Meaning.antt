@@ -2,15 +2,15 @@
 use mathlib.Core.Path.{_≡_, refl, sym, ap, _∙_}
 use mathlib.Core.Bool.{Bool, true, false, not, _&&_, true≢false, false≢true}
 use mathlib.Core.List.{List}
-use Prim.Native.Nat.{ℕ, zero, suc, _+_, _≤_, _<_}
+use Prim.Native.Nat.{ℕ, zero, suc, _<_}
 use native.Mathlib.Omega.{arith}
 use native.Mathlib.Decide.{decLt}
 use borrow.Author.Tests.{lt-ltb, le-ltb, eq-eqb, eqb-true}
 use lib.Dec.{ltb, eqb}
 use lib.IntN.{ℤ, pos, negsuc, natAbs}
-use Rattle.ids.specs.Uses.{Use, bit, uses, signed, keys, sumBy, keysThat, largest}
-use Rattle.ids.specs.EdgeChain.{Edge, sameEdge, chain, enough, present, unbalanced, crowded, unpaired, properEdges, boundaryFree, overIncident, closedManifold}
-use Rattle.ids.specs.FaceNet.{Face, sameFace, faces, maxAbs, allCancel}
+use Rattle.ids.specs.Uses.{Use, bit, uses, signed, keys, keysThat, largest}
+use Rattle.ids.specs.EdgeChain.{Edge, sameEdge, chain, present, unbalanced, crowded, unpaired, properEdges, boundaryFree, overIncident, closedManifold}
+use Rattle.ids.specs.FaceNet.{sameFace, faces, maxAbs, allCancel}
 use Rattle.ids.specs.Meaning.{Tells, BoundaryFree, OverIncident, ClosedManifold, AllCancel, LargestFaceSum}
 use Rattle.ids.proofs.Same.{both, edge-eq, edge-refl, face-eq, face-refl}
 use Rattle.ids.proofs.Keys.{none-each, each-none, some-key, max-each, max-reached, unused-zero}

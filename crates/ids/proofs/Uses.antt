@@ -1,13 +1,13 @@
 -- How large a signed sum can be: at most as large as there are uses, and a face's at most as large as there are ids. Assumes nothing.
 use mathlib.Core.Bool.{Bool, true, false, cond}
-use mathlib.Core.List.{List, [], _∷_, _++_}
+use mathlib.Core.List.{List, [], _∷_}
 use Prim.Native.Nat.{ℕ, zero, suc, _+_, _≤_}
 use native.Mathlib.Omega.{arith}
 use lib.IntN.{ℤ, pos, negsuc, sucℤ, predℤ, natAbs}
 use lib.ListN.{length, length-append}
 use Rattle.ids.specs.Triangles.{Triangle, distinct, overTriangles}
 use Rattle.ids.specs.Uses.{Use, counting, signed, keys, maxBy, largest}
-use Rattle.ids.specs.FaceNet.{Face, sameFace, faceUse, face, faces, maxAbs}
+use Rattle.ids.specs.FaceNet.{sameFace, faceUse, face, faces, maxAbs}
 
 suc-size : (z : ℤ) → natAbs (sucℤ z) ≤ natAbs z + 1
 suc-size (pos a) = omega arith

@@ -3,9 +3,9 @@ use mathlib.Core.Path.{_≡_}
 use mathlib.Core.Bool.{Bool, true}
 use mathlib.Core.List.{List}
 use Prim.Native.Nat.{ℕ, _≤_, _<_}
-use lib.IntN.{ℤ, pos, natAbs}
+use lib.IntN.{pos, natAbs}
 use lib.ListN.{length}
-use Rattle.ids.specs.Uses.{Use, uses, signed}
+use Rattle.ids.specs.Uses.{uses, signed}
 use Rattle.ids.specs.EdgeChain.{Edge, sameEdge, chain, enough, properEdges}
 use Rattle.ids.specs.FaceNet.{Face, sameFace, faces}
 

@@ -1,16 +1,17 @@
 -- What the groups are: none is empty, each element is in the groups as often as in the list, a chain of joined elements leads between any two of a group, and
--- none leads out of one. So too for the pieces. Assumes nothing.
+-- none leads out of one. `pieces` counts these classes of the distinct-id triangles. Assumes nothing.
 use mathlib.Core.Path.{_≡_, refl, sym, _∙_, subst}
 use mathlib.Core.Bool.{Bool, true, false, cond, false≢true}
 use mathlib.Core.List.{List, [], _∷_, _++_}
 use Prim.Native.Nat.{ℕ}
 use borrow.Author.Tests.{eq-eqb, eqb-true}
 use lib.Dec.{eqb}
+use lib.ListN.{length}
 use Rattle.ids.specs.Uses.{bit}
 use Rattle.ids.specs.Triangles.{triangle}
-use Rattle.pieces.specs.Groups.{any, touched, groups, shareId, solids}
-use Rattle.pieces.specs.Classes.{mem, Chain, Each, AreClasses}
-use Rattle.pieces.specs.Classes.Chain.{here, step}
+use Rattle.ids.specs.Pieces.{any, touched, groups, shareId, solids, pieces}
+use Rattle.ids.specs.Classes.{mem, Chain, Each, AreClasses}
+use Rattle.ids.specs.Classes.Chain.{here, step}
 use Rattle.pieces.proofs.Groups.{Group, total, witness, mem-append, or-cases, or-left, or-right, each-apart, each-map, part-mem, are-groups}
 use Rattle.pieces.proofs.Shared.{share-both}
 
@@ -74,6 +75,11 @@ module _ (joined : ℕ → ℕ → Bool) (both : (x y : ℕ) → joined x y ≡ 
   pub groups-are-classes : (ts : List ℕ) → AreClasses joined ts (groups joined ts)
   groups-are-classes ts = record { some = some-of ts; once = λ x. total (λ y. bit (eqb x y)) joined ts; tied = tied ts; closed = chained ts }
 
--- the pieces are the classes of the distinct-id triangles that a chain of shared ids ties together
-pub pieces-are-classes : (ids : List ℕ) → AreClasses (λ s t. shareId (triangle ids s) (triangle ids t)) (solids ids) (groups (λ s t. shareId (triangle ids s) (triangle ids t)) (solids ids))
-pieces-are-classes ids = groups-are-classes (λ s t. shareId (triangle ids s) (triangle ids t)) (λ x y h. share-both (triangle ids x) (triangle ids y) h) (solids ids)
+-- do triangles s and t share an id?
+abbrev pub sharing : List ℕ → ℕ → ℕ → Bool
+sharing ids s t = shareId (triangle ids s) (triangle ids t)
+
+-- the classes of the distinct-id triangles that chains of shared ids make; `pieces` counts them
+pub pieces-are-classes : (ids : List ℕ) → AreClasses (sharing ids) (solids ids) (groups (sharing ids) (solids ids)) × (pieces shareId ids ≡ length (groups (sharing ids) (solids ids)))
+unfolding pieces
+pieces-are-classes ids = (groups-are-classes (sharing ids) (λ x y h. share-both (triangle ids x) (triangle ids y) h) (solids ids), refl)

@@ -10,8 +10,8 @@ use borrow.Author.Tests.{eq-eqb, eqb-true}
 use lib.Dec.{eqb}
 use lib.ListN.{length}
 use Rattle.ids.specs.Uses.{bit, sumBy}
-use Rattle.pieces.specs.Groups.{any, touched, apart, groups}
-use Rattle.pieces.specs.Classes.{mem, Each, times}
+use Rattle.ids.specs.Pieces.{any, touched, apart, groups}
+use Rattle.ids.specs.Classes.{mem, Each, times}
 
 -- ---- members
 

@@ -7,7 +7,7 @@ use native.Mathlib.Omega.{arith}
 use native.Mathlib.Decide.{ℕ-discrete, decLt}
 use lib.ListN.{length}
 use Rattle.forest.specs.Words.{slotIn, Freed}
-use Rattle.pieces.specs.Groups.{solid}
+use Rattle.ids.specs.Pieces.{solid}
 use Rattle.pieces.specs.Joins.{Linked, Good, Labelled, More, Grown, Whole}
 use Rattle.pieces.specs.Slots.{keyOf, AllFree, Slots, Has, Covered, Followed, Entered, Filled, Settled, Swept}
 use Rattle.pieces.proofs.Shared.{key-share}

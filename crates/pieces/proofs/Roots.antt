@@ -13,8 +13,8 @@ use Rattle.ids.specs.Triangles.{triangle}
 use Rattle.table.specs.Rows.{sumTo}
 use Rattle.forest.specs.Words.{parentIn}
 use Rattle.forest.specs.Labels.{Means}
-use Rattle.pieces.specs.Groups.{any, groups, shareId, those, solid, solids, pieces}
-use Rattle.pieces.specs.Classes.{mem, times}
+use Rattle.ids.specs.Pieces.{any, groups, shareId, those, solid, solids, pieces}
+use Rattle.ids.specs.Classes.{mem, times}
 use Rattle.pieces.specs.Joins.{Linked, Whole, isRoot}
 use Rattle.pieces.proofs.Groups.{counted}
 use Rattle.pieces.proofs.Shared.{share-both}

@@ -14,12 +14,12 @@ use Rattle.forest.specs.Words.{slotIn, withSlot}
 use Rattle.forest.specs.Labels.{merged, Joined}
 use Rattle.forest.proofs.Words.{slot-here, slot-else, parents-stay}
 use Rattle.forest.proofs.Labels.{merged-joins}
-use Rattle.pieces.specs.Groups.{solid}
+use Rattle.ids.specs.Pieces.{solid}
 use Rattle.pieces.specs.Joins.{Linked, Grown}
 use Rattle.pieces.specs.Slots.{keyOf, homeOf, keyIn, AllFree, Sought, Slots, Has, Followed, Entered}
 use Rattle.pieces.proofs.Shared.{share-key}
 use Rattle.pieces.proofs.Joins.{more-joined, grown-joined, more-none, good-kept}
-use Rattle.pieces.proofs.Search.{home-below}
+use Rattle.pieces.proofs.Search.{home-in}
 
 -- what holds of slots holds of equal ones
 pub along : (P : (ℕ → ℕ) → Type 0) (t u : List ℕ) → ((i : ℕ) → slotIn u i ≡ slotIn t i) → P (slotIn t) → P (slotIn u)
@@ -43,7 +43,7 @@ module _ (ids : List ℕ) (odd limit n : ℕ) (s : ℕ → ℕ) (z : Slots ids o
     where
       go : Dec (r < n) → Dec (x ≡ r) → x ≡ r
       go d (yes p) = p
-      go (yes l) (no ne) = absurd (other n (homeOf odd n) (keyIn ids s) s (keyOf ids c) r (home-below odd n (keyOf ids c) (omega arith)) (z .spread) (q .found l) x lx used ne e)
+      go (yes l) (no ne) = absurd (other n (homeOf odd n) (keyIn ids s) s (keyOf ids c) r (home-in odd n (keyOf ids c) (omega arith)) (z .spread) (q .found l) x lx used ne e)
       go (no l) (no ne) =
           let w : r ≡ n = omega (arith, q .within) in
           absurd (q .none w x lx (subst (λ (k : ℕ). dist n (homeOf odd n k) x < limit) e (z .near x lx used)) .1 e)
@@ -77,7 +77,7 @@ entered-same ids odd limit spare c t entered z no-corner fresh =
 pub never-past : (ids : List ℕ) (odd limit n : ℕ) (s : ℕ → ℕ) (c r : ℕ) → 0 < limit → 0 < n → Sought n limit (homeOf odd n (keyOf ids c)) (keyIn ids s) s (keyOf ids c) r → AllFree n s → r ≡ n → ⊥
 never-past ids odd limit n s c r l some q free e =
     let h : ℕ = homeOf odd n (keyOf ids c) in
-    let lh : h < n = home-below odd n (keyOf ids c) some in
+    let lh : h < n = home-in odd n (keyOf ids c) some in
     omega (arith, free h lh, q .none e h lh (rw (dist-here n h lh) l) .0)
 
 module _ (ids t u : List ℕ) (odd limit spare c r : ℕ) (z : Slots ids odd limit (length t) (slotIn t))
@@ -135,7 +135,7 @@ module _ (ids t u : List ℕ) (odd limit spare c r : ℕ) (z : Slots ids odd lim
     slots-held =
         record {
           corners = λ i l. by i (λ x. slotIn v x ≤ 3 * length t) (omega (arith, here)) (λ ne. omega (arith, else i ne, z .corners i l));
-          spread = spread-step (length t) (homeOf odd (length t)) (keyIn ids (slotIn t)) (slotIn t) (keyOf ids c) r (home-below odd (length t) (keyOf ids c) (omega arith)) (z .spread) (q .found lr) (keyIn ids (slotIn v)) (slotIn v) written;
+          spread = spread-step (length t) (homeOf odd (length t)) (keyIn ids (slotIn t)) (slotIn t) (keyOf ids c) r (home-in odd (length t) (keyOf ids c) (omega arith)) (z .spread) (q .found lr) (keyIn ids (slotIn v)) (slotIn v) written;
           near = λ i l. by i (λ x. 0 < slotIn v x → dist (length t) (homeOf odd (length t) (keyIn ids (slotIn v) x)) x < limit)
               (λ h. subst (λ (k : ℕ). dist (length t) (homeOf odd (length t) k) r < limit) (sym key-here) (q .near lr))
               (λ ne. subst (λ (x : ℕ). 0 < x → dist (length t) (homeOf odd (length t) (keyOf ids (x - 1))) i < limit) (sym (else i ne)) (z .near i l));

@@ -2,18 +2,14 @@
 use mathlib.Core.Path.{_≡_}
 use mathlib.Core.Logic.{_≢_}
 use Prim.Native.Nat.{ℕ, _+_, _-_, _*_, _%_, _≤_, _<_}
-use native.Mathlib.Nat.{mul-le-mul-right}
 use native.Mathlib.Omega.{arith}
-use Rattle.table.specs.Rows.{homeRow, nextRow, dist, Passed}
-use Rattle.table.proofs.Search.{next-below, through, turn}
+use Rattle.table.specs.Rows.{nextRow, dist, Passed}
+use Rattle.table.proofs.Search.{home-below, next-below, through, turn}
 use Rattle.pieces.specs.Slots.{homeOf, Sought}
 
-pub home-below : (odd n k : ℕ) → 0 < n → homeOf odd n k < n
-unfolding homeOf homeRow
-home-below odd n k some =
-    let h : ℕ = (k * odd) % 4294967296 in
-    let m : h * n ≤ 4294967295 * n = mul-le-mul-right n (omega arith) in
-    omega (arith, m)
+pub home-in : (odd n k : ℕ) → 0 < n → homeOf odd n k < n
+unfolding homeOf
+home-in odd n k some = home-below n ((k * odd) % 4294967296) some (omega arith)
 
 -- a turn at row r, with so many rows left
 module _ (n limit at : ℕ) (home : at < n) (key mark : ℕ → ℕ) (k r left : ℕ) (lr : r < n) (e : dist n at r + left ≡ limit) (some : 0 < left) (p : Passed n at key mark k r) where

@@ -9,7 +9,7 @@ use borrow.Author.Tests.{eq-eqb, eqb-true}
 use lib.Dec.{eqb}
 use lib.ListN.{getD}
 use Rattle.ids.specs.Triangles.{Triangle, triangle}
-use Rattle.pieces.specs.Groups.{has, shareId}
+use Rattle.ids.specs.Pieces.{has, shareId}
 use Rattle.pieces.specs.Slots.{keyOf}
 use Rattle.pieces.proofs.Groups.{or-cases, or-left, or-right}
 

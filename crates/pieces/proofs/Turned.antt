@@ -10,8 +10,8 @@ use borrow.Author.Tests.{eq-eqb, ne-eqb}
 use lib.Dec.{eqb}
 use lib.ListN.{length}
 use Rattle.ids.specs.Triangles.{Triangle, triangle, distinct}
-use Rattle.pieces.specs.Groups.{any, touched, apart, groups, shareId, those, solid, solids, pieces}
-use Rattle.pieces.specs.Classes.{mem, Each}
+use Rattle.ids.specs.Pieces.{any, touched, apart, groups, shareId, those, solid, solids, pieces}
+use Rattle.ids.specs.Classes.{mem, Each}
 use Rattle.pieces.proofs.Groups.{or-left, or-right, Group, part-mem, are-groups}
 use Rattle.pieces.proofs.Shared.{flip, share-flipped, share-both}
 use Rattle.pieces.proofs.Roots.{those-mem}

@@ -8,7 +8,7 @@ use lib.ListN.{length}
 use Rattle.ids.specs.Triangles.{triangle}
 use Rattle.forest.specs.Words.{parentIn, slotIn}
 use Rattle.forest.specs.Labels.{Means}
-use Rattle.pieces.specs.Groups.{solid, shareId}
+use Rattle.ids.specs.Pieces.{solid, shareId}
 
 -- one word a triangle, for as many ids as are not refused
 abbrev pub Sized : List ℕ → List ℕ → Type 0

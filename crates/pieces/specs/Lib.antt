@@ -1,7 +1,5 @@
--- Pieces, from document 01: Groups, what they are in the usual words (Classes), and the complete answer (Answer). Joins and Slots are of no document: they are
+-- The complete answer of the piece count (Answer) and its number (Numbers); what pieces are is defined in `ids`. Joins and Slots are of no document: they are
 -- what the contracts of the routine's own parts speak of.
-pub mod Groups
-pub mod Classes
 pub mod Answer
 pub mod Numbers
 pub mod Joins

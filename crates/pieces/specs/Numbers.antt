@@ -3,7 +3,7 @@ use Prim.Native.Nat.{ℕ, _+_}
 use mathlib.Core.List.{List}
 use Rattle.ids.specs.Triangles.{triangleCount}
 use Rattle.ids.specs.Lent.{Gives}
-use Rattle.pieces.specs.Groups.{shareId, pieces}
+use Rattle.ids.specs.Pieces.{shareId, pieces}
 use Rattle.pieces.specs.declared.PieceCount.{PieceCount}
 use Rattle.pieces.specs.declared.PieceCount.the-variants.{Answer, Refused}
 

@@ -8,7 +8,7 @@ use Prim.Native.Nat.{ℕ, _-_, _*_, _/_, _%_, _≤_, _<_}
 use lib.ListN.{getD}
 use Rattle.table.specs.Rows.{homeRow, dist, Found, Spread}
 use Rattle.forest.specs.Words.{slotIn}
-use Rattle.pieces.specs.Groups.{solid}
+use Rattle.ids.specs.Pieces.{solid}
 use Rattle.pieces.specs.Joins.{Good, More}
 
 -- what corner c is looked up by: its id

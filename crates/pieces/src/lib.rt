@@ -1,21 +1,22 @@
 // Pieces: the number of groups of distinct-id triangles, joined wherever two share an id, over one lent word a triangle.
 //
-// A corner is a place in the list of ids. The slots are a table of corners by their ids, the first corner of an id in
-// it, and each later corner with the id is joined to that one's triangle. There are as many slots as triangles, and up
-// to three times as many ids, so the corners are gone through several times: a pass fills the slots from some corner on
-// until they are full enough, then only looks the corners behind up, and the next pass starts where this one stopped
-// filling. Each pass has another hash, and looks at no more than `limit` rows for a corner.
+// A corner is a place in the list of ids. The slots are a table of corners by their ids: the first corner with an id is
+// entered, and each later one is joined to that one's triangle. There are as many slots as triangles, and up to three
+// times as many ids, so the corners are gone through several times: a pass enters corners from some corner on until the
+// slots are full enough, then only looks the corners behind up, and the next pass starts where this one stopped
+// entering. Each pass has another hash, and looks at no more than `limit` rows for a corner.
 ghost use mathlib.Core.Path.{_≡_};
-ghost use Prim.Native.Nat.{ℕ, _+_, _*_, _/_, _≤_, _<_, min};
+ghost use Prim.Native.Nat.{ℕ, _*_, _/_, _≤_, _<_, min};
 ghost use lib.ListN.{length, replicate};
 ghost use Rattle.ids.specs.Uses.{bit};
 ghost use Rattle.table.specs.Rows.{sumTo};
 ghost use Rattle.forest.specs.Words.{slotIn};
-ghost use Rattle.pieces.specs.Groups.{solid as isSolid, shareId, pieces as piecesOf};
+ghost use Rattle.ids.specs.Pieces.{solid as isSolid, shareId, pieces as piecesOf};
 ghost use Rattle.pieces.specs.Joins.{Sized, Labelled, Grown, Whole, isRoot};
 ghost use Rattle.pieces.specs.Slots.{keyOf, homeOf, keyIn, Limited, Corners, AllFree, Sought, Slots, Followed, Entered, Filled, Swept};
 ghost use Rattle.pieces.specs.Answer.{PiecesGiven};
 
+// The number of pieces, or the number of the refusal.
 pub enum PieceCount {
     Answer(u32),
     Refused(u8),
@@ -102,9 +103,9 @@ fn seek(ids: &[u32], work: &[u32], odd: u32, limit: usize, c: usize) -> usize
 // ---- a pass
 
 // What entering a corner gave: whether it is entered, and how many more slots may be filled.
-pub struct Entry {
-    pub entered: bool,
-    pub spare: usize,
+struct Entry {
+    entered: bool,
+    spare: usize,
 }
 
 // Enters corner c: joins it to the corner that its row holds, or fills the row.
@@ -269,13 +270,10 @@ fn pieces_in(ids: &[u32], work: &mut [u32]) -> u32
 pub fn pieces(ids: &[u32], work: &mut [u32]) -> PieceCount
     ensures { λ r. ⌜ PiecesGiven (now (ids .entry)) (now (work .entry)) r (now (work .exit)) ⌝ }
 {
-    let i = ids.len();
-    if 98304 < i {
-        return PieceCount::Refused(1);
-    }
-    let n = i / 3;
-    if work.len() < n {
-        return PieceCount::Refused(3);
+    let n = ids.len() / 3;
+    let refusal = table::refusal(ids.len(), n, work.len());
+    if 0 < refusal {
+        return PieceCount::Refused(refusal);
     }
     PieceCount::Answer(pieces_in(ids, &mut work[0..n]))
 }

@@ -1,19 +1,17 @@
 -- A table by open addressing, for any key: what one more use does to what the table means. Assumes nothing.
 use mathlib.Core.Path.{_≡_, refl, sym, ap, _∙_, subst}
-use mathlib.Core.Logic.{_≢_, _⊎_, inl, inr, ⊎-elim}
-use mathlib.Core.Bool.{Bool, true, false, cond, not, _&&_, true≢false}
+use mathlib.Core.Logic.{_≢_}
+use mathlib.Core.Bool.{Bool, true, false, not, true≢false}
 use mathlib.Core.List.{List, [], _∷_, _++_}
-use Prim.Native.Nat.{ℕ, zero, suc, _+_, _-_, _*_, _≤_, _<_, min}
+use Prim.Native.Nat.{ℕ, zero, suc, _+_, _<_}
 use native.Mathlib.Omega.{arith}
-use native.Mathlib.Nat.{add-zero, zero-add}
-use native.Mathlib.Decide.{ℕ-discrete, decLe, decLt}
-use borrow.Author.Tests.{le-leb, lt-leb}
-use lib.ListN.{length, length-append}
+use native.Mathlib.Decide.{ℕ-discrete, decLt}
+use lib.ListN.{length-append}
 use Rattle.ids.specs.Uses.{Use, uses, keys, sumBy, bit}
-use Rattle.table.specs.Rows.{sumTo, dist, Found, Spread}
+use Rattle.table.specs.Rows.{sumTo, Found}
 use Rattle.table.specs.Table.{gate, ups, Rows, Means}
 use Rattle.table.proofs.Search.{Written, other, spread-step}
-use Rattle.table.proofs.Sums.{sumTo-same, sumTo-more, sumTo-pos, uses-more, ups-more, ups-le, uses-le, new, new-pos, keys-more}
+use Rattle.table.proofs.Sums.{sumTo-more, uses-more, ups-more, ups-le, new, keys-more}
 
 pub gate-pos : (c x : ℕ) → 0 < c → gate c x ≡ x
 unfolding gate

@@ -8,7 +8,6 @@ use lib.IntN.{ℤ, pos, negsuc, sucℤ, predℤ, natAbs}
 use Rattle.ids.specs.Uses.{Use, uses, signed, counting, bit}
 use Rattle.table.specs.Counts.{magnitude}
 use Rattle.table.specs.Table.{ups}
-use Rattle.table.proofs.Sums.{ups-le}
 
 -- z is u - (n - u), with u ≤ n
 Twice : ℤ → ℕ → ℕ → Type 0

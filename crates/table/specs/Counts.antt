@@ -1,5 +1,5 @@
 -- The word in which a row counts the uses of its key: 65536 for each use upwards, 1 for each downwards. It is 0 in a free row.
-use Prim.Native.Nat.{ℕ, _+_, _-_, _*_, _/_, _%_}
+use Prim.Native.Nat.{ℕ, _+_, _-_, _/_, _%_}
 
 unfoldable pub upsIn : ℕ → ℕ
 upsIn w = w / 65536

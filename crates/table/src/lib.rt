@@ -1,9 +1,19 @@
-// Tables in lent words: what those of edges, faces and vertices share. Internal.
+// Lent areas and tables in them: what the routines on ids share. Internal.
 ghost use mathlib.Core.Path.{_≡_};
 ghost use Prim.Native.Nat.{_≤_, _<_};
 ghost use lib.ListN.{length};
-ghost use Rattle.ids.specs.Lent.{cleared};
+ghost use Rattle.ids.specs.Lent.{cleared, refusal as refusalOf};
 ghost use Rattle.table.specs.Rows.{homeRow, nextRow};
+
+// What a routine that needs so many words refuses: the refusal's number, or 0.
+pub fn refusal(ids: usize, needed: usize, lent: usize) -> u8
+    ensures { λ r. ⌜ r ≡ refusalOf ids needed lent ⌝ }
+{
+    if 98304 < ids {
+        return 1;
+    }
+    if lent < needed { 3 } else { 0 }
+}
 
 // Zeroes the first n words.
 pub fn clear(work: &mut [u32], n: usize)

@@ -1,6 +1,6 @@
-use mathlib.Core.Path.{_≡_, refl, sym, ap, _∙_}
-use Prim.Native.Nat.{ℕ, _*_}
-use lib.ListN.{length, replicate}
+use mathlib.Core.Path.{_≡_, _∙_}
+use Prim.Native.Nat.{_*_}
+use lib.ListN.{length}
 use Rattle.ids.proofs.Lent.{cleared-all}
 use Rattle.edges.proofs.Tally.{zero-table, table-tally}
 use Rattle.ids.specs.EdgeChain.{chain, edgesThat, present, unbalanced, crowded, boundaryFree, overIncident}
@@ -9,26 +9,16 @@ use native.Mathlib.Omega.{arith}
 use borrow.Author.Needs.{needs}
 use Rattle.chain.proofs.chain_in.Statement.{statement}
 use Rattle.chain.proofs.chain_in.Tie as tie
-use Rattle.chain.proofs.chain_in.Reads as reads
-use Rattle.chain.proofs.chain_in.Lts as lts
-use Rattle.chain.proofs.gather_chain.Reads as gather-chain-reads
-use Rattle.edges.proofs.count.Reads as count-reads
-use Rattle.edges.proofs.rows.Reads as rows-reads
-use Rattle.table.proofs.clear.Reads as clear-reads
 
--- src/lib.rt:59:13
 mul-m : tie.Need-mul-m
 mul-m c = search needs
 
--- src/lib.rt:60:9
 rows-requires : tie.Need-rows-requires
 rows-requires c κs = search needs
 
--- src/lib.rt:61:5
 clear-requires : tie.Need-clear-requires
 clear-requires c κs = search needs
 
--- src/lib.rt:62:5
 gather-chain-requires : tie.Need-gather-chain-requires
 gather-chain-requires c κs =
     let s = c .before .before .before .before .before .before .before .before in
@@ -36,27 +26,21 @@ gather-chain-requires c κs =
     let n = c .before .before .before .before .before .rows in
     (s .pre .0, omega (arith, n .ensures), omega (arith, n .ensures, s .pre .0), omega (arith, n .ensures, s .pre .1, k .kept), rw (k .ensures, cleared-all _ _ (s .pre .1)) (zero-table (n .result) (4 * length (s .args .ids .now)) (omega (arith, n .ensures))))
 
--- src/lib.rt:63:9
 count-requires : tie.Need-count-requires
 count-requires c κs = search needs
 
--- src/lib.rt:64:9
 count-requires-2 : tie.Need-count-requires-2
 count-requires-2 c κs = search needs
 
--- src/lib.rt:65:9
 count-requires-3 : tie.Need-count-requires-3
 count-requires-3 c κs = search needs
 
--- src/lib.rt:66:5
 clear-requires-2 : tie.Need-clear-requires-2
 clear-requires-2 c κs = search needs
 
--- src/lib.rt:54:1
 same-length : tie.Need-same-length
 same-length c = search needs
 
--- src/lib.rt:54:1
 returns : tie.Need-returns
 unfolding testOf boundaryFree overIncident
 returns c =

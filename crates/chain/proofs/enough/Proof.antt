@@ -2,10 +2,7 @@ use mathlib.Core.Path.{refl}
 use Rattle.ids.specs.EdgeChain.{enough}
 use Rattle.chain.proofs.enough.Statement.{statement}
 use Rattle.chain.proofs.enough.Tie as tie
-use Rattle.chain.proofs.enough.Reads as reads
-use Rattle.chain.proofs.enough.Lts as lts
 
--- src/lib.rt:37:1
 returns : tie.Need-returns
 unfolding enough
 returns c = refl

@@ -1,37 +1,24 @@
-use mathlib.Core.Path.{_≡_, refl, sym, ap, _∙_}
-use Prim.Native.Nat.{ℕ, _*_}
-use lib.ListN.{length, replicate}
+use mathlib.Core.Path.{_≡_, _∙_}
+use Prim.Native.Nat.{_*_}
+use lib.ListN.{length}
 use Rattle.ids.proofs.Lent.{cleared-all}
 use Rattle.edges.proofs.Tally.{zero-table, table-tally}
-use mathlib.Core.Bool.{false}
-use Rattle.ids.specs.Triangles.{overTriangles}
 use Rattle.ids.specs.EdgeChain.{properEdges, edgesThat, unpaired, closedManifold}
 use Rattle.edges.specs.Tests.{testOf, edgesOf}
 use native.Mathlib.Omega.{arith}
 use borrow.Author.Needs.{needs}
 use Rattle.chain.proofs.manifold_in.Statement.{statement}
 use Rattle.chain.proofs.manifold_in.Tie as tie
-use Rattle.chain.proofs.manifold_in.Reads as reads
-use Rattle.chain.proofs.manifold_in.Lts as lts
-use Rattle.chain.proofs.enough.Reads as enough-reads
-use Rattle.edges.proofs.count.Reads as count-reads
-use Rattle.edges.proofs.gather.Reads as gather-reads
-use Rattle.edges.proofs.rows.Reads as rows-reads
-use Rattle.table.proofs.clear.Reads as clear-reads
 
--- src/lib.rt:77:13
 mul-m : tie.Need-mul-m
 mul-m c = search needs
 
--- src/lib.rt:78:9
 rows-requires : tie.Need-rows-requires
 rows-requires c κs = search needs
 
--- src/lib.rt:79:5
 clear-requires : tie.Need-clear-requires
 clear-requires c κs = search needs
 
--- src/lib.rt:80:5
 gather-requires : tie.Need-gather-requires
 gather-requires c κs =
     let s = c .before .before .before .before .before .before .before .before in
@@ -39,23 +26,18 @@ gather-requires c κs =
     let n = c .before .before .before .before .before .rows in
     (s .pre .0, omega (arith, n .ensures), omega (arith, n .ensures, s .pre .0), omega (arith, n .ensures, s .pre .1, k .kept), rw (k .ensures, cleared-all _ _ (s .pre .1)) (zero-table (n .result) (4 * length (s .args .ids .now)) (omega (arith, n .ensures))))
 
--- src/lib.rt:81:9
 count-requires : tie.Need-count-requires
 count-requires c κs = search needs
 
--- src/lib.rt:82:5
 clear-requires-2 : tie.Need-clear-requires-2
 clear-requires-2 c κs = search needs
 
--- src/lib.rt:83:5
 enough-requires : tie.Need-enough-requires
 enough-requires c κs = search needs
 
--- src/lib.rt:73:1
 same-length : tie.Need-same-length
 same-length c = search needs
 
--- src/lib.rt:73:1
 returns : tie.Need-returns
 unfolding testOf edgesOf closedManifold
 returns c =

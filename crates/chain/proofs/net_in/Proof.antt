@@ -1,6 +1,6 @@
-use mathlib.Core.Path.{_≡_, refl, sym, ap, _∙_}
-use Prim.Native.Nat.{ℕ, _*_}
-use lib.ListN.{length, replicate}
+use mathlib.Core.Path.{_∙_}
+use Prim.Native.Nat.{_*_}
+use lib.ListN.{length}
 use Prim.Native.Nat.{_/_}
 use Rattle.ids.proofs.Lent.{cleared-all}
 use Rattle.faces.proofs.Rows.{zero-table}
@@ -9,25 +9,16 @@ use native.Mathlib.Omega.{arith}
 use borrow.Author.Needs.{needs}
 use Rattle.chain.proofs.net_in.Statement.{statement}
 use Rattle.chain.proofs.net_in.Tie as tie
-use Rattle.chain.proofs.net_in.Reads as reads
-use Rattle.chain.proofs.net_in.Lts as lts
-use Rattle.faces.proofs.gather.Reads as gather-reads
-use Rattle.faces.proofs.net.Reads as net-reads
-use Rattle.table.proofs.clear.Reads as clear-reads
 
--- src/lib.rt:105:13
 mul-n : tie.Need-mul-n
 mul-n c = search needs
 
--- src/lib.rt:106:13
 mul-m : tie.Need-mul-m
 mul-m c = search needs
 
--- src/lib.rt:107:5
 clear-requires : tie.Need-clear-requires
 clear-requires c κs = search needs
 
--- src/lib.rt:108:5
 gather-requires : tie.Need-gather-requires
 gather-requires c κs =
     let s = c .before .before .before .before .before .before .before in
@@ -35,19 +26,15 @@ gather-requires c κs =
     let k = c .before .before .before .clear in
     (s .pre .0, omega arith, omega (arith, s .pre .0), omega (arith, s .pre .1, k .kept), rw (k .ensures, cleared-all (4 * (length ids / 3)) (s .args .part .now) (omega (arith, s .pre .1))) (zero-table ids (2 * (length ids / 3)) (4 * (length ids / 3)) (omega arith) (λ l. omega arith)))
 
--- src/lib.rt:109:9
 net-requires : tie.Need-net-requires
 net-requires c κs = search needs
 
--- src/lib.rt:110:5
 clear-requires-2 : tie.Need-clear-requires-2
 clear-requires-2 c κs = search needs
 
--- src/lib.rt:100:1
 same-length : tie.Need-same-length
 same-length c = search needs
 
--- src/lib.rt:100:1
 returns : tie.Need-returns
 returns c =
     let s = c .before .before .before .before .before .before .before .before .before .before .before .before .before .before .before .before .before in

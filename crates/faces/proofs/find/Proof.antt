@@ -1,5 +1,5 @@
 -- `faces::find` meets its contract. The invariant: every row that was passed is used by another face. It ends, since some row is free. Assumes nothing.
-use mathlib.Core.Path.{_≡_, sym, ap, _∙_}
+use mathlib.Core.Path.{_≡_, sym, _∙_}
 use mathlib.Core.Logic.{_≢_}
 use mathlib.Core.Bool.{true, false}
 use Prim.Native.Nat.{ℕ, _+_, _-_, _*_, _<_}
@@ -7,7 +7,6 @@ use native.Mathlib.Omega.{arith}
 use borrow.Author.Needs.{needs}
 use Rattle.ids.specs.FaceNet.{Face, sameFace}
 use Rattle.table.specs.Rows.{dist, nextRow, Passed}
-use Rattle.table.specs.Counts.{usesIn}
 use Rattle.table.proofs.Counts.{none-used, used}
 use Rattle.table.proofs.Search.{dist-here, dist-below, next-below, not-round, turn}
 use Rattle.faces.specs.Rows.{faceAt, wordAt, usesAt}

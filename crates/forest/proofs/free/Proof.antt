@@ -1,4 +1,4 @@
--- `forest::free` meets its contract. Assumes nothing.
+-- `forest::free` meets its contract. The first i slots are free, and the parents are as they were. Assumes nothing.
 use mathlib.Core.Path.{_≡_, refl}
 use Prim.Native.Nat.{_-_, _≤_}
 use native.Mathlib.Omega.{arith}

@@ -1,4 +1,4 @@
--- `forest::join` meets its contract. Assumes nothing.
+-- `forest::join` meets its contract. Of the two roots the larger hangs on the smaller. Assumes nothing.
 use mathlib.Core.Path.{_∙_}
 use native.Mathlib.Omega.{arith}
 use borrow.Author.Needs.{needs}
@@ -17,25 +17,39 @@ root-requires-2 c κs =
 
 hang-requires : tie.Need-hang-requires
 hang-requires c κs =
-    let z = roots (c .before .before .before .before .before .before .before .before .before .before .before .args .work .now) (c .before .before .before .before .before .before .before .before .root .last .0) (c .before .before .before .before .root2 .last .0) (c .before .before .before .before .before .before .before .before .before .before .before .args .work .now) (c .before .before .before .before .before .before .before .before .before .before .before .args .a) (c .before .before .before .before .before .before .before .before .before .before .before .args .b) (c .before .before .before .before .before .before .before .before .root .result) (c .before .before .before .before .root2 .result) (c .before .before .before .before .before .before .before .before .before .before .before .pre .0) (c .before .before .before .before .before .before .before .before .before .before .before .pre .1) (c .before .before .before .before .before .before .before .before .root .kept .0) (c .before .before .before .before .root2 .kept .0 ∙ c .before .before .before .before .before .before .before .before .root .kept .0) (c .before .before .before .before .before .before .before .before .before .before .before .pre .2) (c .before .before .before .before .before .before .before .before .root .ensures) (c .before .before .before .before .root2 .ensures) (c .before .before .before .before .before .before .before .before .before .before .before .pre .3) in
-    (omega (arith, c .before .before .before .before .before .before .before .before .root .kept .0, c .before .before .before .before .root2 .kept .0), omega arith)
+    let s = c .before .before .before .before .before .before .before .before .before .before .before in
+    let root = c .before .before .before .before .before .before .before .before .root in
+    let root2 = c .before .before .before .before .root2 in
+    let z = roots (s .args .work .now) (root .last .0) (root2 .last .0) (s .args .work .now) (s .args .a) (s .args .b) (root .result) (root2 .result) (s .pre .0) (s .pre .1) (root .kept .0) (root2 .kept .0 ∙ root .kept .0) (s .pre .2) (root .ensures) (root2 .ensures) (s .pre .3) in
+    (omega (arith, root .kept .0, root2 .kept .0), omega arith)
 
 hang-requires-2 : tie.Need-hang-requires-2
 hang-requires-2 c κs =
-    let z = roots (c .before .before .before .before .before .before .before .before .before .before .before .args .work .now) (c .before .before .before .before .before .before .before .before .root .last .0) (c .before .before .before .before .root2 .last .0) (c .before .before .before .before .before .before .before .before .before .before .before .args .work .now) (c .before .before .before .before .before .before .before .before .before .before .before .args .a) (c .before .before .before .before .before .before .before .before .before .before .before .args .b) (c .before .before .before .before .before .before .before .before .root .result) (c .before .before .before .before .root2 .result) (c .before .before .before .before .before .before .before .before .before .before .before .pre .0) (c .before .before .before .before .before .before .before .before .before .before .before .pre .1) (c .before .before .before .before .before .before .before .before .root .kept .0) (c .before .before .before .before .root2 .kept .0 ∙ c .before .before .before .before .before .before .before .before .root .kept .0) (c .before .before .before .before .before .before .before .before .before .before .before .pre .2) (c .before .before .before .before .before .before .before .before .root .ensures) (c .before .before .before .before .root2 .ensures) (c .before .before .before .before .before .before .before .before .before .before .before .pre .3) in
-    (omega (arith, c .before .before .before .before .before .before .before .before .root .kept .0, c .before .before .before .before .root2 .kept .0), omega arith)
+    let s = c .before .before .before .before .before .before .before .before .before .before .before in
+    let root = c .before .before .before .before .before .before .before .before .root in
+    let root2 = c .before .before .before .before .root2 in
+    let z = roots (s .args .work .now) (root .last .0) (root2 .last .0) (s .args .work .now) (s .args .a) (s .args .b) (root .result) (root2 .result) (s .pre .0) (s .pre .1) (root .kept .0) (root2 .kept .0 ∙ root .kept .0) (s .pre .2) (root .ensures) (root2 .ensures) (s .pre .3) in
+    (omega (arith, root .kept .0, root2 .kept .0), omega arith)
 
 same-length : tie.Need-same-length
 same-length c = search needs
 
 returns : tie.Need-returns
-returns c = joined-up (c .before .before .before .before .before .before .before .before .before .before .before .before .before .before .args .work .now) (c .before .before .before .before .before .before .before .before .before .before .before .root .last .0) (c .before .before .before .before .before .before .before .root2 .last .0) _ (c .before .before .before .before .before .before .before .before .before .before .before .before .before .before .args .a) (c .before .before .before .before .before .before .before .before .before .before .before .before .before .before .args .b) (c .before .before .before .before .before .before .before .before .before .before .before .root .result) (c .before .before .before .before .before .before .before .root2 .result) (c .before .before .before .before .before .before .before .before .before .before .before .before .before .before .pre .0) (c .before .before .before .before .before .before .before .before .before .before .before .before .before .before .pre .1) (c .before .before .before .before .before .before .before .before .before .before .before .root .kept .0) (c .before .before .before .before .before .before .before .root2 .kept .0 ∙ c .before .before .before .before .before .before .before .before .before .before .before .root .kept .0) (c .before .before .before .before .before .before .before .before .before .before .before .before .before .before .pre .2) (c .before .before .before .before .before .before .before .before .before .before .before .root .ensures) (c .before .before .before .before .before .before .before .root2 .ensures) (c .before .before .before .before .before .before .before .before .before .before .before .before .before .before .pre .3) (c .before .before .before .before .if1 .taken) (c .before .before .hang .ensures)
+returns c =
+    let s = c .before .before .before .before .before .before .before .before .before .before .before .before .before .before in
+    let root = c .before .before .before .before .before .before .before .before .before .before .before .root in
+    let root2 = c .before .before .before .before .before .before .before .root2 in
+    joined-up (s .args .work .now) (root .last .0) (root2 .last .0) _ (s .args .a) (s .args .b) (root .result) (root2 .result) (s .pre .0) (s .pre .1) (root .kept .0) (root2 .kept .0 ∙ root .kept .0) (s .pre .2) (root .ensures) (root2 .ensures) (s .pre .3) (c .before .before .before .before .if1 .taken) (c .before .before .hang .ensures)
 
 same-length-2 : tie.Need-same-length-2
 same-length-2 c = search needs
 
 returns-2 : tie.Need-returns-2
-returns-2 c = joined-down (c .before .before .before .before .before .before .before .before .before .before .before .before .before .before .args .work .now) (c .before .before .before .before .before .before .before .before .before .before .before .root .last .0) (c .before .before .before .before .before .before .before .root2 .last .0) _ (c .before .before .before .before .before .before .before .before .before .before .before .before .before .before .args .a) (c .before .before .before .before .before .before .before .before .before .before .before .before .before .before .args .b) (c .before .before .before .before .before .before .before .before .before .before .before .root .result) (c .before .before .before .before .before .before .before .root2 .result) (c .before .before .before .before .before .before .before .before .before .before .before .before .before .before .pre .0) (c .before .before .before .before .before .before .before .before .before .before .before .before .before .before .pre .1) (c .before .before .before .before .before .before .before .before .before .before .before .root .kept .0) (c .before .before .before .before .before .before .before .root2 .kept .0 ∙ c .before .before .before .before .before .before .before .before .before .before .before .root .kept .0) (c .before .before .before .before .before .before .before .before .before .before .before .before .before .before .pre .2) (c .before .before .before .before .before .before .before .before .before .before .before .root .ensures) (c .before .before .before .before .before .before .before .root2 .ensures) (c .before .before .before .before .before .before .before .before .before .before .before .before .before .before .pre .3) (c .before .before .before .before .if1 .left) (c .before .before .hang2 .ensures)
+returns-2 c =
+    let s = c .before .before .before .before .before .before .before .before .before .before .before .before .before .before in
+    let root = c .before .before .before .before .before .before .before .before .before .before .before .root in
+    let root2 = c .before .before .before .before .before .before .before .root2 in
+    joined-down (s .args .work .now) (root .last .0) (root2 .last .0) _ (s .args .a) (s .args .b) (root .result) (root2 .result) (s .pre .0) (s .pre .1) (root .kept .0) (root2 .kept .0 ∙ root .kept .0) (s .pre .2) (root .ensures) (root2 .ensures) (s .pre .3) (c .before .before .before .before .if1 .left) (c .before .before .hang2 .ensures)
 
 pub join-spec : {M : Type 1} → statement M
 join-spec =

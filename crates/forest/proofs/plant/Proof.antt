@@ -1,4 +1,4 @@
--- `forest::plant` meets its contract. Assumes nothing.
+-- `forest::plant` meets its contract. The first i words are planted. Assumes nothing.
 use mathlib.Core.Path.{_≡_, refl}
 use Prim.Native.Nat.{_-_, _≤_}
 use native.Mathlib.Omega.{arith}

@@ -1,4 +1,4 @@
--- `forest::root` meets its contract. Assumes nothing.
+-- `forest::root` meets its contract. The loop climbs: the labels stay, and x has the label that t has. The measure is x, since no parent is larger than its child. Assumes nothing.
 use mathlib.Core.Path.{refl}
 use native.Mathlib.Omega.{arith}
 use borrow.Author.Needs.{needs}
@@ -16,25 +16,45 @@ loop-holds : tie.Need-loop-holds Inv-loop μ-loop
 loop-holds c = record { inside = c .before .pre .0; long = refl; means = λ f m. m; label = λ f m. refl; slots = λ i. refl }
 
 parent-requires : tie.Need-parent-requires Inv-loop μ-loop
-parent-requires c κs = omega (arith, c .before .loop .inv .inside, c .before .loop .inv .long)
+parent-requires c κs =
+    let l = c .before .loop in
+    omega (arith, l .inv .inside, l .inv .long)
 
 same-length : tie.Need-same-length Inv-loop μ-loop
 same-length c = search needs
 
 returns : tie.Need-returns Inv-loop μ-loop
-returns c = climbed-out (c .before .before .before .before .before .args .work .now) (c .before .before .before .loop .work) (c .before .before .before .before .before .args .t) (c .before .before .before .loop .x) (c .before .before .before .loop .inv) (c .before .before .before .before .before .pre .2) (c .before .parent .result) (c .before .parent .ensures) (c .if1 .taken)
+returns c =
+    let s = c .before .before .before .before .before in
+    let l = c .before .before .before .loop in
+    let parent = c .before .parent in
+    climbed-out (s .args .work .now) (l .work) (s .args .t) (l .x) (l .inv) (s .pre .2) (parent .result) (parent .ensures) (c .if1 .taken)
 
 parent-requires-2 : tie.Need-parent-requires-2 Inv-loop μ-loop
-parent-requires-2 c κs = omega (arith, c .before .before .before .before .loop .inv .long, next-inside (c .before .before .before .before .before .before .args .work .now) (c .before .before .before .before .loop .work) (c .before .before .before .before .before .before .args .t) (c .before .before .before .before .loop .x) (c .before .before .before .before .loop .inv) (c .before .before .before .before .before .before .pre .2) (c .before .before .parent .result) (c .before .before .parent .ensures))
+parent-requires-2 c κs =
+    let s = c .before .before .before .before .before .before in
+    let l = c .before .before .before .before .loop in
+    let parent = c .before .before .parent in
+    omega (arith, l .inv .long, next-inside (s .args .work .now) (l .work) (s .args .t) (l .x) (l .inv) (s .pre .2) (parent .result) (parent .ensures))
 
 hang-requires : tie.Need-hang-requires Inv-loop μ-loop
 hang-requires c κs = search needs
 
 loop-less : tie.Need-loop-less Inv-loop μ-loop
-loop-less c = climbed (c .before .before .before .before .before .before .before .before .before .before .before .args .work .now) (c .before .before .before .before .before .before .before .before .before .loop .work) (c .before .before .before .before .before .before .before .before .before .before .before .args .t) (c .before .before .before .before .before .before .before .before .before .loop .x) (c .before .before .before .before .before .before .before .before .before .loop .inv) (c .before .before .before .before .before .before .before .before .before .before .before .pre .2) _ (c .before .before .before .before .before .before .before .parent .result) (c .before .before .before .before .parent2 .result) (c .before .before .before .before .before .before .before .parent .ensures) (c .before .before .before .before .before .before .if1 .left) (c .before .before .before .before .parent2 .ensures) (c .before .before .hang .ensures) (c .before .before .before .before .before .before .before .before .before .before .before .pre .1) .0
+loop-less c =
+    let s = c .before .before .before .before .before .before .before .before .before .before .before in
+    let l = c .before .before .before .before .before .before .before .before .before .loop in
+    let parent = c .before .before .before .before .before .before .before .parent in
+    let parent2 = c .before .before .before .before .parent2 in
+    climbed (s .args .work .now) (l .work) (s .args .t) (l .x) (l .inv) (s .pre .2) _ (parent .result) (parent2 .result) (parent .ensures) (c .before .before .before .before .before .before .if1 .left) (parent2 .ensures) (c .before .before .hang .ensures) (s .pre .1) .0
 
 loop-again : tie.Need-loop-again Inv-loop μ-loop
-loop-again c = climbed (c .before .before .before .before .before .before .before .before .before .before .before .args .work .now) (c .before .before .before .before .before .before .before .before .before .loop .work) (c .before .before .before .before .before .before .before .before .before .before .before .args .t) (c .before .before .before .before .before .before .before .before .before .loop .x) (c .before .before .before .before .before .before .before .before .before .loop .inv) (c .before .before .before .before .before .before .before .before .before .before .before .pre .2) _ (c .before .before .before .before .before .before .before .parent .result) (c .before .before .before .before .parent2 .result) (c .before .before .before .before .before .before .before .parent .ensures) (c .before .before .before .before .before .before .if1 .left) (c .before .before .before .before .parent2 .ensures) (c .before .before .hang .ensures) (c .before .before .before .before .before .before .before .before .before .before .before .pre .1) .1
+loop-again c =
+    let s = c .before .before .before .before .before .before .before .before .before .before .before in
+    let l = c .before .before .before .before .before .before .before .before .before .loop in
+    let parent = c .before .before .before .before .before .before .before .parent in
+    let parent2 = c .before .before .before .before .parent2 in
+    climbed (s .args .work .now) (l .work) (s .args .t) (l .x) (l .inv) (s .pre .2) _ (parent .result) (parent2 .result) (parent .ensures) (c .before .before .before .before .before .before .if1 .left) (parent2 .ensures) (c .before .before .hang .ensures) (s .pre .1) .1
 
 pub root-spec : {M : Type 1} → statement M
 root-spec =

@@ -1,4 +1,4 @@
--- `pieces::count` meets its contract. Assumes nothing.
+-- `pieces::count` meets its contract. The loop has counted the roots below t. Assumes nothing.
 use mathlib.Core.Path.{_≡_, refl, ap, _∙_}
 use Prim.Native.Nat.{_-_, _≤_}
 use native.Mathlib.Omega.{arith}
@@ -37,9 +37,10 @@ loop-less c = search needs
 
 loop-again : tie.Need-loop-again Inv-loop μ-loop
 loop-again c =
+    let one-root = c .one-root in
     let s = c .before .before .before .before .before in
     let l = c .before .before .loop in
-    (omega arith, omega (arith, sumTo-next (λ i. bit (isRoot (s .args .ids .now) (s .args .work .now) i)) (l .t), c .one-root .ensures .0), omega (arith, c .one-root .ensures .1))
+    (omega arith, omega (arith, sumTo-next (λ i. bit (isRoot (s .args .ids .now) (s .args .work .now) i)) (l .t), one-root .ensures .0), omega (arith, one-root .ensures .1))
 
 returns : tie.Need-returns Inv-loop μ-loop
 returns c =

@@ -1,4 +1,4 @@
--- `pieces::enter` meets its contract. Assumes nothing.
+-- `pieces::enter` meets its contract. A corner of a repeated-id triangle asks for nothing; a row found is joined, a free one filled. Assumes nothing.
 use mathlib.Core.Path.{_≡_, refl, sym, _∙_}
 use mathlib.Core.Bool.{true, false, true≢false}
 use Prim.Native.Nat.{_/_, _<_}
@@ -7,7 +7,7 @@ use borrow.Author.Tests.{not-true, not-false}
 use borrow.Author.Needs.{needs}
 use lib.ListN.{length}
 use Rattle.forest.specs.Words.{slotIn}
-use Rattle.pieces.specs.Groups.{solid}
+use Rattle.ids.specs.Pieces.{solid}
 use Rattle.pieces.proofs.Joins.{good-forest}
 use Rattle.pieces.proofs.Rows.{entered-same, never-past, entered-joined, entered-held}
 use Rattle.pieces.proofs.enter.Statement.{statement}
@@ -18,10 +18,11 @@ solid-requires c κs = search needs
 
 returns : tie.Need-returns
 returns c =
+    let solid-call = c .before .solid in
     let s = c .before .before .before .before in
     let ids = s .args .ids .now in
     let t = s .args .work .now in
-    let flat : solid ids (s .args .c / 3) ≡ false = sym (c .before .solid .ensures) ∙ not-true (c .before .solid .result) (c .if1 .taken) in
+    let flat : solid ids (s .args .c / 3) ≡ false = sym (solid-call .ensures) ∙ not-true (solid-call .result) (c .if1 .taken) in
     entered-same ids (s .args .odd) (s .args .limit) (s .args .spare) (s .args .c) t true (s .pre .3) (λ e y. true≢false (sym y ∙ flat)) (λ free some. refl)
 
 seek-requires : tie.Need-seek-requires
@@ -32,10 +33,11 @@ same-length c = search needs
 
 returns-2 : tie.Need-returns-2
 returns-2 c =
+    let seek = c .before .seek in
     let s = c .before .before .before .before .before .before .before in
     let ids = s .args .ids .now in
     let t = s .args .work .now in
-    entered-same ids (s .args .odd) (s .args .limit) (s .args .spare) (s .args .c) t false (s .pre .3) (λ e y. true≢false (sym e)) (λ free some. absurd (never-past ids (s .args .odd) (s .args .limit) (length t) (slotIn t) (s .args .c) (c .before .seek .result) (s .pre .2 .0) (omega arith) (c .before .seek .ensures) free (c .if2 .taken)))
+    entered-same ids (s .args .odd) (s .args .limit) (s .args .spare) (s .args .c) t false (s .pre .3) (λ e y. true≢false (sym e)) (λ free some. absurd (never-past ids (s .args .odd) (s .args .limit) (length t) (slotIn t) (s .args .c) (seek .result) (s .pre .2 .0) (omega arith) (seek .ensures) free (c .if2 .taken)))
 
 slot-requires : tie.Need-slot-requires
 slot-requires c κs = search needs
@@ -45,25 +47,30 @@ sub-join c = search needs
 
 join-requires : tie.Need-join-requires
 join-requires c κs =
+    let seek = c .before .before .before .before .before .seek in
     let s = c .before .before .before .before .before .before .before .before .before .before .before in
     let ids = s .args .ids .now in
     let t = s .args .work .now in
-    let q = c .before .before .before .before .before .seek .ensures in
-    let lr : c .before .before .before .before .before .seek .result < length t = omega (arith, q .within, c .before .before .before .before .if2 .left) in
-    (omega (arith, c .before .before .slot .ensures, c .before .if3 .taken, s .pre .3 .corners (c .before .before .before .before .before .seek .result) lr), omega arith, omega arith, good-forest ids t (s .pre .4))
+    let q = seek .ensures in
+    let lr : seek .result < length t = omega (arith, q .within, c .before .before .before .before .if2 .left) in
+    (omega (arith, c .before .before .slot .ensures, c .before .if3 .taken, s .pre .3 .corners (seek .result) lr), omega arith, omega arith, good-forest ids t (s .pre .4))
 
 same-length-2 : tie.Need-same-length-2
 same-length-2 c = search needs
 
 returns-3 : tie.Need-returns-3
 returns-3 c =
+    let solid-call = c .before .before .before .before .before .before .before .before .before .before .before .solid in
+    let seek = c .before .before .before .before .before .before .before .before .seek in
+    let slot = c .before .before .before .before .before .slot in
+    let join = c .before .before .join in
     let s = c .before .before .before .before .before .before .before .before .before .before .before .before .before .before in
     let ids = s .args .ids .now in
     let t = s .args .work .now in
-    let sc : solid ids (s .args .c / 3) ≡ true = sym (c .before .before .before .before .before .before .before .before .before .before .before .solid .ensures) ∙ not-false (c .before .before .before .before .before .before .before .before .before .before .before .solid .result) (c .before .before .before .before .before .before .before .before .before .before .if1 .left) in
-    let q = c .before .before .before .before .before .before .before .before .seek .ensures in
-    let lr : c .before .before .before .before .before .before .before .before .seek .result < length t = omega (arith, q .within, c .before .before .before .before .before .before .before .if2 .left) in
-    entered-joined ids t _ (s .args .odd) (s .args .limit) (s .args .spare) (s .args .c) (c .before .before .before .before .before .before .before .before .seek .result) (s .pre .3) q lr (s .pre .1) sc (c .before .before .before .before .before .slot .result) (c .before .before .before .before .before .slot .ensures) (c .before .before .join .kept .0) (c .before .before .before .before .if3 .taken) (c .before .before .join .ensures)
+    let sc : solid ids (s .args .c / 3) ≡ true = sym (solid-call .ensures) ∙ not-false (solid-call .result) (c .before .before .before .before .before .before .before .before .before .before .if1 .left) in
+    let q = seek .ensures in
+    let lr : seek .result < length t = omega (arith, q .within, c .before .before .before .before .before .before .before .if2 .left) in
+    entered-joined ids t _ (s .args .odd) (s .args .limit) (s .args .spare) (s .args .c) (seek .result) (s .pre .3) q lr (s .pre .1) sc (slot .result) (slot .ensures) (join .kept .0) (c .before .before .before .before .if3 .taken) (join .ensures)
 
 same-length-3 : tie.Need-same-length-3
 same-length-3 c = search needs
@@ -89,13 +96,16 @@ same-length-4 c = search needs
 
 returns-5 : tie.Need-returns-5
 returns-5 c =
+    let solid-call = c .before .before .before .before .before .before .before .before .before .before .before .before .solid in
+    let seek = c .before .before .before .before .before .before .before .before .before .seek in
+    let slot = c .before .before .before .before .before .before .slot in
     let s = c .before .before .before .before .before .before .before .before .before .before .before .before .before .before .before in
     let ids = s .args .ids .now in
     let t = s .args .work .now in
-    let sc : solid ids (s .args .c / 3) ≡ true = sym (c .before .before .before .before .before .before .before .before .before .before .before .before .solid .ensures) ∙ not-false (c .before .before .before .before .before .before .before .before .before .before .before .before .solid .result) (c .before .before .before .before .before .before .before .before .before .before .before .if1 .left) in
-    let q = c .before .before .before .before .before .before .before .before .before .seek .ensures in
-    let lr : c .before .before .before .before .before .before .before .before .before .seek .result < length t = omega (arith, q .within, c .before .before .before .before .before .before .before .before .if2 .left) in
-    entered-held ids t _ (s .args .odd) (s .args .limit) (s .args .spare) (s .args .c) (c .before .before .before .before .before .before .before .before .before .seek .result) (s .pre .3) q lr (s .pre .1) sc (c .before .before .before .before .before .before .slot .result) (c .before .before .before .before .before .before .slot .ensures) (c .before .before .before .before .before .if3 .left) (c .before .before .hold .ensures)
+    let sc : solid ids (s .args .c / 3) ≡ true = sym (solid-call .ensures) ∙ not-false (solid-call .result) (c .before .before .before .before .before .before .before .before .before .before .before .if1 .left) in
+    let q = seek .ensures in
+    let lr : seek .result < length t = omega (arith, q .within, c .before .before .before .before .before .before .before .before .if2 .left) in
+    entered-held ids t _ (s .args .odd) (s .args .limit) (s .args .spare) (s .args .c) (seek .result) (s .pre .3) q lr (s .pre .1) sc (slot .result) (slot .ensures) (c .before .before .before .before .before .if3 .left) (c .before .before .hold .ensures)
 
 pub enter-spec : {M : Type 1} → statement M
 enter-spec =

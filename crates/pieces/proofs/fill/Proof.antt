@@ -1,4 +1,4 @@
--- `pieces::fill` meets its contract. Assumes nothing.
+-- `pieces::fill` meets its contract. The corners from `from` on below c are entered. The first one always is, so a pass gets ahead. Assumes nothing.
 use mathlib.Core.Path.{_≡_, refl}
 use Prim.Native.Nat.{_-_, _*_}
 use native.Mathlib.Omega.{arith}
@@ -45,12 +45,13 @@ same-length c = search needs
 
 returns : tie.Need-returns Inv-loop μ-loop
 returns c =
+    let enter = c .before .before .before .before .enter in
     let s = c .before .before .before .before .before .before .before .before .before .before in
     let ids = s .args .ids .now in
     let t = s .args .work .now in
     let l = c .before .before .before .before .before .before .before .loop in
-    let w = rw (l .inv .0) at (c .before .before .before .before .enter .ensures) in
-    filled-short ids (s .args .odd) (s .args .limit) (length t) (s .args .from) (l .spare) t (l .c) (l .work) _ (l .inv .1) (c .before .before .before .before .enter .result .entered) w (not-true (c .before .before .before .before .enter .result .entered) (c .if1 .taken))
+    let w = rw (l .inv .0) at (enter .ensures) in
+    filled-short ids (s .args .odd) (s .args .limit) (length t) (s .args .from) (l .spare) t (l .c) (l .work) _ (l .inv .1) (enter .result .entered) w (not-true (enter .result .entered) (c .if1 .taken))
 
 add-c : tie.Need-add-c Inv-loop μ-loop
 add-c c = search needs
@@ -60,12 +61,13 @@ loop-less c = search needs
 
 loop-again : tie.Need-loop-again Inv-loop μ-loop
 loop-again c =
+    let enter = c .before .before .before .before .enter in
     let s = c .before .before .before .before .before .before .before .before .before .before in
     let ids = s .args .ids .now in
     let t = s .args .work .now in
     let l = c .before .before .before .before .before .before .before .loop in
-    let w = rw (l .inv .0) at (c .before .before .before .before .enter .ensures) in
-    (omega (arith, c .before .before .before .before .enter .kept, l .inv .0), filling-next ids (s .args .odd) (s .args .limit) (length t) (s .args .from) (l .spare) t (l .c) (l .work) _ (l .inv .1) (c .before .before .before .before .enter .result .entered) w (c .before .before .before .before .enter .result .spare) (omega arith) (not-false (c .before .before .before .before .enter .result .entered) (c .if1 .left)))
+    let w = rw (l .inv .0) at (enter .ensures) in
+    (omega (arith, enter .kept, l .inv .0), filling-next ids (s .args .odd) (s .args .limit) (length t) (s .args .from) (l .spare) t (l .c) (l .work) _ (l .inv .1) (enter .result .entered) w (enter .result .spare) (omega arith) (not-false (enter .result .entered) (c .if1 .left)))
 
 same-length-2 : tie.Need-same-length-2 Inv-loop μ-loop
 same-length-2 c = search needs

@@ -1,4 +1,4 @@
--- `pieces::find` meets its contract. Assumes nothing.
+-- `pieces::find` meets its contract. Each row passed is used by another key, and the rows passed and those left make the limit. Assumes nothing.
 use mathlib.Core.Path.{_≡_, sym, ap, _∙_}
 use Prim.Native.Nat.{ℕ, _+_, _-_, _<_}
 use native.Mathlib.Omega.{arith}
@@ -60,12 +60,13 @@ sub-left c = search needs
 
 returns-3 : tie.Need-returns-3 Inv-loop μ-loop
 returns-3 c =
+    let slot = c .before .before .before .before .slot in
     let s = c .before .before .before .before .before .before .before .before in
     let l = c .before .before .before .before .before .loop in
     let ids = s .args .ids .now in
     let work = s .args .work .now in
-    let used : 0 < slotIn work (l .r) = omega (arith, c .before .before .before .before .slot .ensures, c .before .before .before .if1 .left) in
-    sought-none (length work) (s .args .limit) (s .args .at) (s .pre .1) (keyIn ids (slotIn work)) (slotIn work) (s .args .k) (l .r) (l .left) (l .inv .0) (l .inv .1) (l .inv .2) (l .inv .3) used (λ e. c .before .if2 .left (c .before .before .key .ensures ∙ ap (λ (x : ℕ). keyOf ids (x - 1)) (c .before .before .before .before .slot .ensures) ∙ e)) (omega arith)
+    let used : 0 < slotIn work (l .r) = omega (arith, slot .ensures, c .before .before .before .if1 .left) in
+    sought-none (length work) (s .args .limit) (s .args .at) (s .pre .1) (keyIn ids (slotIn work)) (slotIn work) (s .args .k) (l .r) (l .left) (l .inv .0) (l .inv .1) (l .inv .2) (l .inv .3) used (λ e. c .before .if2 .left (c .before .before .key .ensures ∙ ap (λ (x : ℕ). keyOf ids (x - 1)) (slot .ensures) ∙ e)) (omega arith)
 
 next-requires : tie.Need-next-requires Inv-loop μ-loop
 next-requires c κs = search needs
@@ -75,12 +76,13 @@ loop-less c = search needs
 
 loop-again : tie.Need-loop-again Inv-loop μ-loop
 loop-again c =
+    let slot = c .before .before .before .before .before .slot in
     let s = c .before .before .before .before .before .before .before .before .before in
     let l = c .before .before .before .before .before .before .loop in
     let ids = s .args .ids .now in
     let work = s .args .work .now in
-    let used : 0 < slotIn work (l .r) = omega (arith, c .before .before .before .before .before .slot .ensures, c .before .before .before .before .if1 .left) in
-    let w = sought-on (length work) (s .args .limit) (s .args .at) (s .pre .1) (keyIn ids (slotIn work)) (slotIn work) (s .args .k) (l .r) (l .left) (l .inv .0) (l .inv .1) (l .inv .2) (l .inv .3) (s .pre .2 .1) used (λ e. c .before .before .if2 .left (c .before .before .before .key .ensures ∙ ap (λ (x : ℕ). keyOf ids (x - 1)) (c .before .before .before .before .before .slot .ensures) ∙ e)) (omega arith) in
+    let used : 0 < slotIn work (l .r) = omega (arith, slot .ensures, c .before .before .before .before .if1 .left) in
+    let w = sought-on (length work) (s .args .limit) (s .args .at) (s .pre .1) (keyIn ids (slotIn work)) (slotIn work) (s .args .k) (l .r) (l .left) (l .inv .0) (l .inv .1) (l .inv .2) (l .inv .3) (s .pre .2 .1) used (λ e. c .before .before .if2 .left (c .before .before .before .key .ensures ∙ ap (λ (x : ℕ). keyOf ids (x - 1)) (slot .ensures) ∙ e)) (omega arith) in
     rw (c .next .ensures) (w .0, w .1, omega arith, w .2)
 
 pub find-spec : {M : Type 1} → statement M

@@ -1,4 +1,4 @@
--- `pieces::follow` meets its contract. Assumes nothing.
+-- `pieces::follow` meets its contract. The corners from `from` on below c are looked up. Assumes nothing.
 use mathlib.Core.Path.{_≡_, refl, sym}
 use Prim.Native.Nat.{ℕ, _-_, _*_}
 use native.Mathlib.Omega.{arith}
@@ -47,15 +47,16 @@ loop-less c = search needs
 
 loop-again : tie.Need-loop-again Inv-loop μ-loop
 loop-again c =
+    let follow-one = c .before .before .follow-one in
     let s = c .before .before .before .before .before .before .before .before in
     let ids = s .args .ids .now in
     let t = s .args .work .now in
     let l = c .before .before .before .before .before .loop in
     let g = l .inv .1 in
-    let v = c .before .before .follow-one .last .1 .0 in
-    let w = rw (l .inv .0) at (c .before .before .follow-one .ensures) in
+    let v = follow-one .last .1 .0 in
+    let w = rw (l .inv .0) at (follow-one .ensures) in
     let n = along (λ (o : ℕ → ℕ). Grown ids (l .work) v (Followed ids (length t) o (l .c))) (l .work) t (λ i. sym (g .slots i)) w in
-    (omega (arith, c .before .before .follow-one .kept, l .inv .0), grown-then ids t (l .work) v _ _ _ g n (λ p h a keeps b. followed-next ids (length t) (slotIn t) (s .args .from) (l .c) p h a keeps b))
+    (omega (arith, follow-one .kept, l .inv .0), grown-then ids t (l .work) v _ _ _ g n (λ p h a keeps b. followed-next ids (length t) (slotIn t) (s .args .from) (l .c) p h a keeps b))
 
 same-length : tie.Need-same-length Inv-loop μ-loop
 same-length c = search needs

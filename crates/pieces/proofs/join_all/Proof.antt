@@ -1,4 +1,4 @@
--- `pieces::join_all` meets its contract. Assumes nothing.
+-- `pieces::join_all` meets its contract. The corners before c are settled; each pass gets ahead. Assumes nothing.
 use mathlib.Core.Path.{_≡_, refl}
 use Prim.Native.Nat.{_-_, _*_}
 use native.Mathlib.Omega.{arith}
@@ -23,54 +23,61 @@ mul-corners c = search needs
 
 loop-holds : tie.Need-loop-holds Inv-loop μ-loop
 loop-holds c =
+    let plant = c .before .before .plant in
     let s = c .before .before .before .before .before .before in
     let ids = s .args .ids .now in
     let t = s .args .work .now in
-    let u = c .before .before .plant .last .0 in
-    let lu : length u ≡ length t = c .before .before .plant .kept .0 in
-    (refl, joining-none ids u (length u) _ (good-planted ids u (rw lu (c .before .before .plant .ensures))))
+    let u = plant .last .0 in
+    let lu : length u ≡ length t = plant .kept .0 in
+    (refl, joining-none ids u (length u) _ (good-planted ids u (rw lu (plant .ensures))))
 
 pass-requires : tie.Need-pass-requires Inv-loop μ-loop
 pass-requires c κs =
+    let plant = c .before .before .before .before .before .plant in
     let s = c .before .before .before .before .before .before .before .before .before in
     let ids = s .args .ids .now in
     let t = s .args .work .now in
-    let u = c .before .before .before .before .before .plant .last .0 in
-    let lu : length u ≡ length t = c .before .before .before .before .before .plant .kept .0 in
+    let u = plant .last .0 in
+    let lu : length u ≡ length t = plant .kept .0 in
     let l = c .before .before .loop in
     ((omega arith, s .pre .1), omega arith, (l .inv .1 .label, l .inv .1 .good))
 
 loop-less : tie.Need-loop-less Inv-loop μ-loop
 loop-less c =
+    let plant = c .before .before .before .before .before .before .before .before .plant in
+    let pass = c .before .before .pass in
     let s = c .before .before .before .before .before .before .before .before .before .before .before .before in
     let ids = s .args .ids .now in
     let t = s .args .work .now in
-    let u = c .before .before .before .before .before .before .before .before .plant .last .0 in
-    let lu : length u ≡ length t = c .before .before .before .before .before .before .before .before .plant .kept .0 in
+    let u = plant .last .0 in
+    let lu : length u ≡ length t = plant .kept .0 in
     let l = c .before .before .before .before .before .loop in
-    omega (arith, l .inv .0, c .before .before .pass .ensures .ahead, c .before .before .pass .ensures .within)
+    omega (arith, l .inv .0, pass .ensures .ahead, pass .ensures .within)
 
 loop-again : tie.Need-loop-again Inv-loop μ-loop
 loop-again c =
+    let plant = c .before .before .before .before .before .before .before .before .plant in
+    let pass = c .before .before .pass in
     let s = c .before .before .before .before .before .before .before .before .before .before .before .before in
     let ids = s .args .ids .now in
     let t = s .args .work .now in
-    let u = c .before .before .before .before .before .before .before .before .plant .last .0 in
-    let lu : length u ≡ length t = c .before .before .before .before .before .before .before .before .plant .kept .0 in
+    let u = plant .last .0 in
+    let lu : length u ≡ length t = plant .kept .0 in
     let l = c .before .before .before .before .before .loop in
-    let w = rw (l .inv .0) at (c .before .before .pass .ensures) in
-    (omega (arith, c .before .before .pass .kept, l .inv .0), joining-next ids (l .work) _ (length u) (l .c) (c .before .before .pass .result) (l .inv .1) w)
+    let w = rw (l .inv .0) at (pass .ensures) in
+    (omega (arith, pass .kept, l .inv .0), joining-next ids (l .work) _ (length u) (l .c) (pass .result) (l .inv .1) w)
 
 same-length : tie.Need-same-length Inv-loop μ-loop
 same-length c = search needs
 
 returns : tie.Need-returns Inv-loop μ-loop
 returns c =
+    let plant = c .before .before .before .before .plant in
     let s = c .before .before .before .before .before .before .before .before in
     let ids = s .args .ids .now in
     let t = s .args .work .now in
-    let u = c .before .before .before .before .plant .last .0 in
-    let lu : length u ≡ length t = c .before .before .before .before .plant .kept .0 in
+    let u = plant .last .0 in
+    let lu : length u ≡ length t = plant .kept .0 in
     let l = c .before .loop in
     joined-all ids (l .work) (length u) (l .c) (l .inv .0) (l .inv .1) (omega arith)
 

@@ -1,21 +1,21 @@
--- `pieces::pieces` meets its contract. Assumes nothing.
+-- `pieces::pieces` meets its contract: it gives the one refusal, or the answer over the words lent. Assumes nothing.
 use mathlib.Core.Path.{ap, _∙_}
 use Prim.Native.Nat.{_/_}
-use native.Mathlib.Omega.{arith}
-use borrow.Rule.Slice.PartMut.{post-is}
-use borrow.Author.Needs.{needs}
 use lib.ListN.{length}
+use borrow.Rule.Slice.PartMut.{post-is}
 use Rattle.ids.specs.Lent.{cleared}
-use Rattle.ids.proofs.Lent.{refused-1, refused-3, answered}
+use Rattle.ids.proofs.Lent.{refusal-none, gives-refusal, gives-answer}
 use Rattle.pieces.specs.declared.PieceCount.the-variants.{Answer}
+use native.Mathlib.Omega.{arith}
+use borrow.Author.Needs.{needs}
 use Rattle.pieces.proofs.pieces.Statement.{statement}
 use Rattle.pieces.proofs.pieces.Tie as tie
 
-returns : tie.Need-returns
-returns c = refused-1 _ _ _ _ _ (c .if1 .taken)
+refusal-requires : tie.Need-refusal-requires
+refusal-requires c κs = search needs
 
-returns-2 : tie.Need-returns-2
-returns-2 c = refused-3 _ _ _ _ _ (c .before .if1 .left) (c .if2 .taken)
+returns : tie.Need-returns
+returns c = gives-refusal _ _ _ _ _ (c .before .refusal .result) (c .before .refusal .ensures) (c .if1 .taken)
 
 sub-pieces-in : tie.Need-sub-pieces-in
 sub-pieces-in c = search needs
@@ -24,33 +24,33 @@ part-pieces-in-start : tie.Need-part-pieces-in-start
 part-pieces-in-start c = search needs
 
 part-pieces-in-end : tie.Need-part-pieces-in-end
-part-pieces-in-end c = search needs
+part-pieces-in-end c = omega (arith, refusal-none _ _ _ _ (c .before .refusal .ensures) (c .if1 .left) .1)
 
 pieces-in-requires : tie.Need-pieces-in-requires
-pieces-in-requires c κs = search needs
+pieces-in-requires c κs = let fine = refusal-none _ _ _ _ (c .before .before .refusal .ensures) (c .before .if1 .left) in (omega (arith, fine .1), fine .0)
 
 same-length : tie.Need-same-length
 same-length c = search needs
 
-returns-3 : tie.Need-returns-3
+returns-2 : tie.Need-returns-2
 unfolding cleared
-returns-3 c =
+returns-2 c =
     let s = c .before .before .before .before .before .before .before .before in
     let ids = s .args .ids .now in
     let t = s .args .work .now in
     let k = c .before .before .pieces-in in
-    let a = answered (length ids / 3) _ _ ids t (omega arith) (omega arith) in
+    let a = gives-answer (length ids / 3) _ _ ids t _ (c .before .before .before .before .before .refusal .ensures) (c .before .before .before .before .if1 .left) in
     record { answers = ap Answer (k .ensures .0) ∙ a .answers; leaves = rw (k .ensures .1, post-is 0 (length ids / 3) t (omega arith)) (a .leaves) }
 
 pub pieces-spec : {M : Type 1} → statement M
 pieces-spec =
     tie.close
     (tie.spec
+    refusal-requires
     returns
-    returns-2
     sub-pieces-in
     part-pieces-in-start
     part-pieces-in-end
     pieces-in-requires
     same-length
-    returns-3)
+    returns-2)

@@ -21,12 +21,13 @@ same-length c = search needs
 
 returns : tie.Need-returns
 returns c =
+    let join-all = c .before .before .before .before .before .before .before .before .join-all in
     let s = c .before .before .before .before .before .before .before .before .before .before .before .before in
     let ids = s .args .ids .now in
     let t = s .args .work .now in
-    let u = c .before .before .before .before .before .before .before .before .join-all .last .1 .0 in
-    let lu : length u ≡ length (t) = c .before .before .before .before .before .before .before .before .join-all .kept .1 .0 in
-    (c .before .before .before .before .count .ensures ∙ answers ids u (lu ∙ s .pre .0) (c .before .before .before .before .before .before .before .before .join-all .ensures), c .before .before .clear .ensures ∙ rw (lu ∙ s .pre .0) (cleared-all _ u (lu ∙ s .pre .0)))
+    let u = join-all .last .1 .0 in
+    let lu : length u ≡ length (t) = join-all .kept .1 .0 in
+    (c .before .before .before .before .count .ensures ∙ answers ids u (lu ∙ s .pre .0) (join-all .ensures), c .before .before .clear .ensures ∙ rw (lu ∙ s .pre .0) (cleared-all _ u (lu ∙ s .pre .0)))
 
 pub pieces-in-spec : {M : Type 1} → statement M
 pieces-in-spec =

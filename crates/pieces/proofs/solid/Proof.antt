@@ -2,7 +2,7 @@
 use mathlib.Core.Path.{refl}
 use borrow.Author.Needs.{needs}
 use Rattle.ids.specs.Triangles.{distinct, triangle}
-use Rattle.pieces.specs.Groups.{solid}
+use Rattle.ids.specs.Pieces.{solid}
 use Rattle.pieces.proofs.solid.Statement.{statement}
 use Rattle.pieces.proofs.solid.Tie as tie
 

@@ -1,18 +1,14 @@
-use mathlib.Core.Path.{_≡_, refl}
-use Prim.Native.Nat.{ℕ, _*_, _≤_, _<_}
+use mathlib.Core.Path.{refl}
+use Prim.Native.Nat.{_*_, _≤_}
 use native.Mathlib.Omega.{arith}
 use native.Mathlib.Nat.{mul-le-mul-right}
 use Rattle.table.specs.Rows.{homeRow}
 use Rattle.table.proofs.home.Statement.{statement}
 use Rattle.table.proofs.home.Tie as tie
-use Rattle.table.proofs.home.Reads as reads
-use Rattle.table.proofs.home.Lts as lts
 
--- src/lib.rt:25:6
 mul-result : tie.Need-mul-result
 mul-result c = let m : c .args .hash * c .args .n ≤ 4294967295 * c .args .n = mul-le-mul-right (c .args .n) (omega (arith, c .fits .hash .fits)) in omega (arith, m, c .pre .1)
 
--- src/lib.rt:21:1
 returns : tie.Need-returns
 unfolding homeRow
 returns c = let m : c .args .hash * c .args .n ≤ 4294967295 * c .args .n = mul-le-mul-right (c .args .n) (omega (arith, c .fits .hash .fits)) in (refl, omega (arith, m, c .pre .0))

@@ -3,19 +3,14 @@ use borrow.Author.Tests.{eq-eqb, ne-eqb}
 use Rattle.table.specs.Rows.{nextRow}
 use Rattle.table.proofs.next.Statement.{statement}
 use Rattle.table.proofs.next.Tie as tie
-use Rattle.table.proofs.next.Reads as reads
-use Rattle.table.proofs.next.Lts as lts
 
--- src/lib.rt:33:13
 add-s : tie.Need-add-s
 add-s c = search needs
 
--- src/lib.rt:29:1
 returns : tie.Need-returns
 unfolding nextRow
 returns c = rw (eq-eqb _ _ (c .if1 .taken))
 
--- src/lib.rt:29:1
 returns-2 : tie.Need-returns-2
 unfolding nextRow
 returns-2 c = rw (ne-eqb _ _ (c .if1 .left))

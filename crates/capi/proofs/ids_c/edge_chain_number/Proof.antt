@@ -4,47 +4,35 @@ use Rattle.chain.specs.Numbers.{edgeChainNumber}
 use borrow.Author.Needs.{needs}
 use Rattle.capi.proofs.ids_c.edge_chain_number.Statement.{statement}
 use Rattle.capi.proofs.ids_c.edge_chain_number.Tie as tie
-use Rattle.capi.proofs.ids_c.edge_chain_number.Reads as reads
-use Rattle.capi.proofs.ids_c.edge_chain_number.Lts as lts
 
--- src/ids_c.rt:18:13
 enum-known-answer : tie.Need-enum-known-answer
 enum-known-answer c = search needs
 
--- src/ids_c.rt:20:14
 cast-result : tie.Need-cast-result
 cast-result c = search needs
 
--- src/ids_c.rt:20:41
 cast-result-2 : tie.Need-cast-result-2
 cast-result-2 c = search needs
 
--- src/ids_c.rt:20:37
 mul-result : tie.Need-mul-result
 mul-result c = omega (arith, byte-small (c .before .answer .given .0 .1 .0))
 
--- src/ids_c.rt:20:14
 add-result : tie.Need-add-result
 add-result c = omega (arith, byte-small (c .before .answer .given .0 .0), byte-small (c .before .answer .given .0 .1 .0))
 
--- src/ids_c.rt:21:28
 enum-known-answer-2 : tie.Need-enum-known-answer-2
 enum-known-answer-2 c = search needs
 
--- src/ids_c.rt:21:44
 cast-result-3 : tie.Need-cast-result-3
 cast-result-3 c = search needs
 
--- src/ids_c.rt:21:34
 add-result-2 : tie.Need-add-result-2
 add-result-2 c = search needs
 
--- src/ids_c.rt:13:1
 returns : tie.Need-returns
 unfolding edgeChainNumber
 returns c = rw (c .before .answer .given .1, byte-bit (c .before .answer .given .0 .0), byte-bit (c .before .answer .given .0 .1 .0))
 
--- src/ids_c.rt:13:1
 returns-2 : tie.Need-returns-2
 unfolding edgeChainNumber
 returns-2 c = rw (c .before .answer2 .given .1)

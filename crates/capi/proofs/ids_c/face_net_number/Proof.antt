@@ -8,7 +8,6 @@ use Rattle.capi.proofs.ids_c.face_net_number.Tie as tie
 use Rattle.capi.proofs.ids_c.face_net_number.Reads as reads
 use Rattle.capi.proofs.ids_c.face_net_number.Lts as lts
 
--- src/ids_c.rt:31:13
 enum-known-answer : tie.Need-enum-known-answer
 enum-known-answer c = search needs
 
@@ -16,36 +15,28 @@ small : (c : lts.After-known-told reads.Pre reads.Post) → c .before .answer .g
 unfolding Small
 small c = rw (c .before .answer .given .1) at (c .before .before .before .pre)
 
--- src/ids_c.rt:33:14
 mul-result : tie.Need-mul-result
 mul-result c = omega (arith, small c)
 
--- src/ids_c.rt:33:28
 cast-result : tie.Need-cast-result
 cast-result c = search needs
 
--- src/ids_c.rt:33:14
 add-result : tie.Need-add-result
 add-result c = omega (arith, small c, byte-small (c .before .answer .given .0 .1 .0))
 
--- src/ids_c.rt:34:26
 enum-known-answer-2 : tie.Need-enum-known-answer-2
 enum-known-answer-2 c = search needs
 
--- src/ids_c.rt:34:42
 cast-result-2 : tie.Need-cast-result-2
 cast-result-2 c = search needs
 
--- src/ids_c.rt:34:32
 add-result-2 : tie.Need-add-result-2
 add-result-2 c = search needs
 
--- src/ids_c.rt:25:1
 returns : tie.Need-returns
 unfolding faceNetNumber
 returns c = rw (c .before .answer .given .1, byte-bit (c .before .answer .given .0 .1 .0))
 
--- src/ids_c.rt:25:1
 returns-2 : tie.Need-returns-2
 unfolding faceNetNumber
 returns-2 c = rw (c .before .answer2 .given .1)

@@ -3,24 +3,16 @@ use Rattle.chain.specs.Numbers.{verdictNumber}
 use borrow.Author.Needs.{needs}
 use Rattle.capi.proofs.ids_c.mf_is_closed_manifold.Statement.{statement}
 use Rattle.capi.proofs.ids_c.mf_is_closed_manifold.Tie as tie
-use Rattle.capi.proofs.ids_c.mf_is_closed_manifold.Reads as reads
-use Rattle.capi.proofs.ids_c.mf_is_closed_manifold.Lts as lts
-use Rattle.capi.proofs.ids_c.verdict_number.Reads as verdict-number-reads
-use Rattle.chain.proofs.is_closed_manifold.Reads as is-closed-manifold-reads
 
--- src/ids_c.rt:67:20
 is-closed-manifold-requires : tie.Need-is-closed-manifold-requires
 is-closed-manifold-requires c κs = search needs
 
--- src/ids_c.rt:67:5
 verdict-number-requires : tie.Need-verdict-number-requires
 verdict-number-requires c κs = search needs
 
--- src/ids_c.rt:63:1
 same-length : tie.Need-same-length
 same-length c = search needs
 
--- src/ids_c.rt:63:1
 returns : tie.Need-returns
 returns c = rw (c .verdict-number .ensures) (gives-turned verdictNumber _ _ _ _ _ _ _ (c .before .before .before .is-closed-manifold .ensures))
 

@@ -3,24 +3,16 @@ use Rattle.chain.specs.Numbers.{verdictNumber}
 use borrow.Author.Needs.{needs}
 use Rattle.capi.proofs.ids_c.mf_winding_coherent.Statement.{statement}
 use Rattle.capi.proofs.ids_c.mf_winding_coherent.Tie as tie
-use Rattle.capi.proofs.ids_c.mf_winding_coherent.Reads as reads
-use Rattle.capi.proofs.ids_c.mf_winding_coherent.Lts as lts
-use Rattle.capi.proofs.ids_c.verdict_number.Reads as verdict-number-reads
-use Rattle.chain.proofs.winding_coherent.Reads as winding-coherent-reads
 
--- src/ids_c.rt:74:20
 winding-coherent-requires : tie.Need-winding-coherent-requires
 winding-coherent-requires c κs = search needs
 
--- src/ids_c.rt:74:5
 verdict-number-requires : tie.Need-verdict-number-requires
 verdict-number-requires c κs = search needs
 
--- src/ids_c.rt:70:1
 same-length : tie.Need-same-length
 same-length c = search needs
 
--- src/ids_c.rt:70:1
 returns : tie.Need-returns
 returns c = rw (c .verdict-number .ensures) (gives-turned verdictNumber _ _ _ _ _ _ _ (c .before .before .before .winding-coherent .ensures))
 

@@ -2,31 +2,23 @@ use Rattle.pieces.specs.Numbers.{pieceCountNumber}
 use borrow.Author.Needs.{needs}
 use Rattle.capi.proofs.ids_c.piece_count_number.Statement.{statement}
 use Rattle.capi.proofs.ids_c.piece_count_number.Tie as tie
-use Rattle.capi.proofs.ids_c.piece_count_number.Reads as reads
-use Rattle.capi.proofs.ids_c.piece_count_number.Lts as lts
 
--- src/ids_c.rt:53:28
 enum-known-answer : tie.Need-enum-known-answer
 enum-known-answer c = search needs
 
--- src/ids_c.rt:54:29
 enum-known-answer-2 : tie.Need-enum-known-answer-2
 enum-known-answer-2 c = search needs
 
--- src/ids_c.rt:54:45
 cast-result : tie.Need-cast-result
 cast-result c = search needs
 
--- src/ids_c.rt:54:35
 add-result : tie.Need-add-result
 add-result c = search needs
 
--- src/ids_c.rt:49:1
 returns : tie.Need-returns
 unfolding pieceCountNumber
 returns c = rw (c .before .answer .given .1)
 
--- src/ids_c.rt:49:1
 returns-2 : tie.Need-returns-2
 unfolding pieceCountNumber
 returns-2 c = rw (c .before .answer2 .given .1)

@@ -3,35 +3,26 @@ use Rattle.chain.specs.Numbers.{verdictNumber}
 use borrow.Author.Needs.{needs}
 use Rattle.capi.proofs.ids_c.verdict_number.Statement.{statement}
 use Rattle.capi.proofs.ids_c.verdict_number.Tie as tie
-use Rattle.capi.proofs.ids_c.verdict_number.Reads as reads
-use Rattle.capi.proofs.ids_c.verdict_number.Lts as lts
 
--- src/ids_c.rt:42:25
 enum-known-answer : tie.Need-enum-known-answer
 enum-known-answer c = search needs
 
--- src/ids_c.rt:42:33
 cast-result : tie.Need-cast-result
 cast-result c = search needs
 
--- src/ids_c.rt:43:26
 enum-known-answer-2 : tie.Need-enum-known-answer-2
 enum-known-answer-2 c = search needs
 
--- src/ids_c.rt:43:42
 cast-result-2 : tie.Need-cast-result-2
 cast-result-2 c = search needs
 
--- src/ids_c.rt:43:32
 add-result : tie.Need-add-result
 add-result c = search needs
 
--- src/ids_c.rt:38:1
 returns : tie.Need-returns
 unfolding verdictNumber
 returns c = rw (c .before .answer .given .1, byte-bit (c .before .answer .given .0 .0))
 
--- src/ids_c.rt:38:1
 returns-2 : tie.Need-returns-2
 unfolding verdictNumber
 returns-2 c = rw (c .before .answer2 .given .1)

@@ -4,8 +4,8 @@ use mathlib.Core.Bool.{Bool, true}
 use mathlib.Core.List.{List, [], _∷_}
 use Prim.Native.Nat.{ℕ}
 use lib.Dec.{eqb}
 use Rattle.ids.specs.Uses.{bit, sumBy}
-use Rattle.pieces.specs.Groups.{any}
+use Rattle.ids.specs.Pieces.{any}
 
 -- x stands in the list
 abbrev pub mem : ℕ → List ℕ → Bool

@@ -1,7 +1,7 @@
 // `EdgeChain`, `FaceNet`, `is_closed_manifold` and `winding_coherent`: what the verdict closed or open rests on. Each takes ids and a lent area,
 // and either refuses, with nothing changed, or answers and leaves zero in the words that it needs.
 ghost use mathlib.Core.Path.{_≡_};
-ghost use Prim.Native.Nat.{_+_, _*_, _/_, _≤_};
+ghost use Prim.Native.Nat.{_*_, _≤_};
 ghost use lib.ListN.{length, replicate};
 ghost use mathlib.Core.List.{[]};
 ghost use Rattle.ids.specs.Triangles.{triangleCount};
@@ -60,9 +60,9 @@ fn chain_in(ids: &[u32], part: &mut [u32]) -> EdgeChain
     let n = edges::rows(ids.len());
     table::clear(part, m);
     gather_chain(ids, part, n);
-    let present = edges::count(part, n, 0);
-    let unbalanced = edges::count(part, n, 1);
-    let crowded = edges::count(part, n, 2);
+    let present = edges::count(part, n, edges::PRESENT);
+    let unbalanced = edges::count(part, n, edges::UNBALANCED);
+    let crowded = edges::count(part, n, edges::CROWDED);
     table::clear(part, m);
     EdgeChain::Answer {
         boundary_free: (0 < present) & (unbalanced == 0),
@@ -78,7 +78,7 @@ fn manifold_in(ids: &[u32], part: &mut [u32]) -> bool
     let n = edges::rows(ids.len());
     table::clear(part, m);
     edges::gather(ids, part, n, false);
-    let unpaired = edges::count(part, n, 3);
+    let unpaired = edges::count(part, n, edges::UNPAIRED);
     table::clear(part, m);
     enough(ids.len()) & (unpaired == 0)
 }
@@ -91,8 +91,8 @@ fn coherent_in(ids: &[u32], part: &mut [u32]) -> bool
     let n = edges::rows(ids.len());
     table::clear(part, m);
     edges::gather(ids, part, n, false);
-    let present = edges::count(part, n, 0);
-    let incoherent = edges::count(part, n, 4);
+    let present = edges::count(part, n, edges::PRESENT);
+    let incoherent = edges::count(part, n, edges::INCOHERENT);
     table::clear(part, m);
     enough(ids.len()) & ((0 < present) & (50 * incoherent <= present))
 }

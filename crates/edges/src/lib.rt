@@ -2,7 +2,7 @@
 ghost use mathlib.Core.Path.{_≡_};
 ghost use mathlib.Core.Bool.{cond};
 ghost use mathlib.Core.List.{List, [], _∷_, _++_};
-ghost use Prim.Native.Nat.{_+_, _*_, _/_, _≤_, _<_, min, max};
+ghost use Prim.Native.Nat.{_+_, _*_, _/_, _≤_, _<_};
 ghost use lib.Dec.{ltb};
 ghost use lib.ListN.{length};
 ghost use Rattle.ids.specs.Triangles.{overTriangles};
@@ -15,18 +15,6 @@ ghost use Rattle.edges.specs.Rows.{edgeAt, wordAt, usesAt, put, hashOf, 
 ghost use Rattle.edges.specs.Tests.{testOf, edgesOf};
 
 // ---- one edge
-
-fn lesser(u: u32, v: u32) -> u32
-    ensures { λ r. ⌜ r ≡ min u v ⌝ }
-{
-    if u < v { u } else { v }
-}
-
-fn greater(u: u32, v: u32) -> u32
-    ensures { λ r. ⌜ r ≡ max u v ⌝ }
-{
-    if u < v { v } else { u }
-}
 
 // What a step from u to v adds to the word that counts its edge: 65536 upwards, 1 downwards.
 fn weight(u: u32, v: u32) -> u32
@@ -78,8 +66,8 @@ fn walk(work: &mut [u32], n: usize, u: u32, v: u32)
     requires { ⌜ (n ≤ 131072) × (3 * n ≤ length (now work)) × Room n (now work) 1 ⌝ }
     ensures { λ _. ⌜ ((es : List (Use Edge)) → EdgeTable n (now (work .entry)) es → EdgeTable n (now (work .exit)) (es ++ stepUse u v ∷ [])) ⌝ }
 {
-    let low = lesser(u, v);
-    let high = greater(u, v);
+    let low = table::lesser(u, v);
+    let high = table::greater(u, v);
     let start = table::home(hash(low, high), n);
     let r = find(work, n, low, high, start);
     bump(work, r, low, high, weight(u, v));
@@ -163,6 +151,18 @@ pub fn gather(ids: &[u32], work: &mut [u32], n: usize, whole: bool)
 
 // ---- tests on the edges
 
+// Their numbers, as `testOf` has them: any edge; a sum other than 0; more than two uses; not used twice, once each way; neither that nor used
+// once.
+pub const PRESENT: u8 = 0;
+
+pub const UNBALANCED: u8 = 1;
+
+pub const CROWDED: u8 = 2;
+
+pub const UNPAIRED: u8 = 3;
+
+pub const INCOHERENT: u8 = 4;
+
 // One function a test: 1 for a used row whose edge passes it, else 0, by how often the edge is used, upwards and downwards.
 
 fn one_present(uses: u32) -> usize
@@ -213,16 +213,16 @@ fn passes(word: u32, test: u8) -> usize
     let ups = word / 65536;
     let downs = word % 65536;
     let uses = ups + downs;
-    if test == 0 {
+    if test == PRESENT {
         return one_present(uses);
     }
-    if test == 1 {
+    if test == UNBALANCED {
         return one_unbalanced(ups, downs);
     }
-    if test == 2 {
+    if test == CROWDED {
         return one_crowded(uses);
     }
-    if test == 3 {
+    if test == UNPAIRED {
         return one_unpaired(uses, ups);
     }
     one_incoherent(uses, ups)

@@ -1,3 +1,4 @@
+-- From a written row to the table of all faces, and from its rows to the two answers.
 pub mod Faces
 pub mod Parity
 pub mod Rows

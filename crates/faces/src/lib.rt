@@ -2,7 +2,7 @@
 ghost use mathlib.Core.Path.{_≡_};
 ghost use mathlib.Core.Bool.{cond};
 ghost use mathlib.Core.List.{List, [], _∷_, _++_};
-ghost use Prim.Native.Nat.{ℕ, _+_, _*_, _≤_, _<_, min, max};
+ghost use Prim.Native.Nat.{ℕ, _+_, _*_, _≤_, _<_};
 ghost use lib.ListN.{length};
 ghost use Rattle.ids.specs.Triangles.{triangle, triangleCount};
 ghost use Rattle.ids.specs.Uses.{Use};
@@ -11,18 +11,6 @@ ghost use Rattle.table.specs.Rows.{sumTo, Found, Free};
 ghost use Rattle.table.specs.Counts.{usesIn, upsIn, magnitude};
 ghost use Rattle.table.specs.Table.{maxTo};
 ghost use Rattle.faces.specs.Rows.{namedAt, faceAt, wordAt, usesAt, put, hashOf, FaceTable, Room, rowOff, rowSize};
-
-fn lesser(a: u32, b: u32) -> u32
-    ensures { λ r. ⌜ r ≡ min a b ⌝ }
-{
-    if a < b { a } else { b }
-}
-
-fn greater(a: u32, b: u32) -> u32
-    ensures { λ r. ⌜ r ≡ max a b ⌝ }
-{
-    if a < b { b } else { a }
-}
 
 // Three ids sorted.
 pub struct Sorted {
@@ -40,11 +28,11 @@ fn sort(ids: &[u32], t: usize) -> Sorted
     let a = ids[at];
     let b = ids[at + 1];
     let c = ids[at + 2];
-    let first = lesser(a, b);
-    let last = greater(a, b);
-    let low = lesser(first, c);
-    let mid = greater(first, lesser(last, c));
-    let high = greater(last, c);
+    let first = table::lesser(a, b);
+    let last = table::greater(a, b);
+    let low = table::lesser(first, c);
+    let mid = table::greater(first, table::lesser(last, c));
+    let high = table::greater(last, c);
     Sorted { low, mid, high }
 }
 
@@ -61,6 +49,7 @@ fn weight(ids: &[u32], t: usize) -> u32
     if falls % 2 == 0 { 65536 } else { 1 }
 }
 
+// The hash of a face, of the same kind as that of an edge.
 fn hash(low: u32, mid: u32, high: u32) -> u32
     ensures { λ r. ⌜ r ≡ hashOf (record { low = low; mid = mid; high = high }) ⌝ }
 {
@@ -107,7 +96,7 @@ fn bump(work: &mut [u32], r: usize, t: usize, by: u32)
     work[at + 1] = word;
 }
 
-// Adds the use that triangle t makes, whose ids are distinct.
+// Adds the use that triangle t makes of its face, whether or not it repeats an id.
 fn add(ids: &[u32], work: &mut [u32], n: usize, t: usize)
     requires { ⌜ (length (now ids) ≤ 98304) × (t < triangleCount (now ids)) × (n ≤ 65536) × (2 * n ≤ length (now work)) × Room (now ids) n (now work) ⌝ }
     ensures { λ _. ⌜ ((es : List (Use Face)) → FaceTable (now (ids .entry)) n (now (work .entry)) es
@@ -182,7 +171,7 @@ pub fn net(work: &[u32], n: usize) -> Sums
     while i < n {
         let at = 2 * i;
         let s = size(work[at + 1]);
-        most = greater(most, s);
+        most = table::greater(most, s);
         off += (0 < s) as usize;
         i += 1;
     }

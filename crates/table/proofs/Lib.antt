@@ -1,3 +1,4 @@
+-- Laws of tables whatever they hold, and of those that count uses; what clearing and searching do stands with each function.
 pub mod Search
 pub mod Sums
 pub mod Probe

@@ -1,9 +1,21 @@
 // Lent areas and tables in them: what the routines on ids share. Internal.
 ghost use mathlib.Core.Path.{_≡_};
-ghost use Prim.Native.Nat.{_≤_, _<_};
+ghost use Prim.Native.Nat.{_≤_, _<_, min, max};
 ghost use lib.ListN.{length};
 ghost use Rattle.ids.specs.Lent.{cleared, refusal as refusalOf};
 ghost use Rattle.table.specs.Rows.{homeRow, nextRow};
+
+pub fn lesser(a: u32, b: u32) -> u32
+    ensures { λ r. ⌜ r ≡ min a b ⌝ }
+{
+    if a < b { a } else { b }
+}
+
+pub fn greater(a: u32, b: u32) -> u32
+    ensures { λ r. ⌜ r ≡ max a b ⌝ }
+{
+    if a < b { b } else { a }
+}
 
 // What a routine that needs so many words refuses: the refusal's number, or 0.
 pub fn refusal(ids: usize, needed: usize, lent: usize) -> u8

@@ -151,7 +151,8 @@ pub fn by_chance(random: &mut Random) -> Vec<u32> {
     ids
 }
 
-/// Every shape at the limit, below it and one id above it; whole, spoilt, mixed and raised.
+/// Every shape at the limit, below it and one id above it; spoilt, mixed and raised. Then lists of any length up to there, of
+/// ids by chance.
 pub fn large(random: &mut Random) -> Vec<Vec<u32>> {
     let mut lists = Vec::new();
     for (_, shape) in SHAPES {
@@ -167,6 +168,11 @@ pub fn large(random: &mut Random) -> Vec<Vec<u32>> {
         lists.push(ids.clone());
         ids.resize(MOST_IDS + 1, 3);
         lists.push(ids);
+    }
+    for _ in 0..60 {
+        let among = random.pick(&[2, 100, 5_000, 40_000, 1 << 32]);
+        let length = random.below(MOST_IDS + 2);
+        lists.push((0..length).map(|_| random.below(among) as u32).collect());
     }
     lists
 }

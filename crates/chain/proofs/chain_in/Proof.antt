@@ -1,3 +1,4 @@
+-- `chain::chain_in` meets its contract: what the three counts say of the rows is what document 01 asks of the edges. Assumes nothing.
 use mathlib.Core.Path.{_≡_, _∙_}
 use Prim.Native.Nat.{_*_}
 use lib.ListN.{length}

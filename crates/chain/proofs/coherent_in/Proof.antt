@@ -1,3 +1,4 @@
+-- `chain::coherent_in` meets its contract: the two counts are those of the definition. Assumes nothing.
 use mathlib.Core.Path.{_≡_, _∙_}
 use Prim.Native.Nat.{_*_}
 use lib.ListN.{length}

@@ -1,3 +1,4 @@
+-- `chain::edge_chain` meets its contract: it gives the one refusal, or the answer over the words lent. Assumes nothing.
 use mathlib.Core.Path.{_∙_}
 use Prim.Native.Nat.{_*_}
 use lib.ListN.{length}

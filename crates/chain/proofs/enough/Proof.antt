@@ -1,3 +1,4 @@
+-- `chain::enough` meets its contract: its test is the definition's. Assumes nothing.
 use mathlib.Core.Path.{refl}
 use Rattle.ids.specs.EdgeChain.{enough}
 use Rattle.chain.proofs.enough.Statement.{statement}

@@ -1,3 +1,4 @@
+-- `chain::face_net` meets its contract: it gives the one refusal, or the answer over the words lent. Assumes nothing.
 use mathlib.Core.Path.{_∙_}
 use Prim.Native.Nat.{_*_}
 use borrow.Rule.Slice.PartMut.{post-is}

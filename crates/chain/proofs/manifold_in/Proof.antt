@@ -1,3 +1,4 @@
+-- `chain::manifold_in` meets its contract: no edge is unpaired. Assumes nothing.
 use mathlib.Core.Path.{_≡_, _∙_}
 use Prim.Native.Nat.{_*_}
 use lib.ListN.{length}

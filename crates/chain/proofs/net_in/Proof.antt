@@ -1,3 +1,4 @@
+-- `chain::net_in` meets its contract: what `faces::net` reads off the rows is the largest magnitude, and whether all sums are 0. Assumes nothing.
 use mathlib.Core.Path.{_∙_}
 use Prim.Native.Nat.{_*_}
 use lib.ListN.{length}

@@ -1,3 +1,4 @@
+-- `chain::winding_coherent` meets its contract: it gives the one refusal, or the answer over the words lent. Assumes nothing.
 use mathlib.Core.Path.{_∙_, ap}
 use Prim.Native.Nat.{_*_}
 use lib.ListN.{length}

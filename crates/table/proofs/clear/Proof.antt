@@ -1,3 +1,4 @@
+-- `table::clear` meets its contract: the first i words are zero, the rest is as it was. Assumes nothing.
 use mathlib.Core.Path.{_≡_, ap, _∙_}
 use mathlib.Core.List.{_++_}
 use Prim.Native.Nat.{ℕ, _≤_, _-_}

@@ -1,3 +1,4 @@
+-- `table::home` meets its contract: a hash below 2^32 leads to a row below n. Assumes nothing.
 use mathlib.Core.Path.{refl}
 use Prim.Native.Nat.{_*_, _≤_}
 use native.Mathlib.Omega.{arith}

@@ -1,3 +1,4 @@
+-- `table::next` meets its contract: the row after the last is the first. Assumes nothing.
 use borrow.Author.Needs.{needs}
 use borrow.Author.Tests.{eq-eqb, ne-eqb}
 use Rattle.table.specs.Rows.{nextRow}

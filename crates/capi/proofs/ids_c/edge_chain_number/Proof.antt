@@ -1,3 +1,4 @@
+-- The number of an edge chain is the definition's, case by case. Assumes nothing.
 use native.Mathlib.Omega.{arith}
 use Rattle.ids.proofs.Bits.{byte-bit, byte-small}
 use Rattle.chain.specs.Numbers.{edgeChainNumber}

@@ -1,3 +1,4 @@
+-- The number of a face net is the definition's, case by case; a magnitude within the ids leaves room for it. Assumes nothing.
 use native.Mathlib.Omega.{arith}
 use Rattle.ids.proofs.Bits.{byte-bit, byte-small}
 use Prim.Native.Nat.{_≤_}

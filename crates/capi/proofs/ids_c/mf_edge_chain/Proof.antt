@@ -1,3 +1,4 @@
+-- `mf_edge_chain` gives the number of what `edge_chain` gives. Assumes nothing.
 use Rattle.ids.proofs.Lent.{gives-turned}
 use Rattle.chain.specs.Numbers.{edgeChainNumber}
 use borrow.Author.Needs.{needs}

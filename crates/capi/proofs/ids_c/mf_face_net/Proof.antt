@@ -1,3 +1,4 @@
+-- `mf_face_net` gives the number of what `face_net` gives. Assumes nothing.
 use Rattle.ids.proofs.Lent.{gives-turned}
 use Rattle.chain.specs.Numbers.{faceNetNumber}
 use Rattle.chain.proofs.Numbers.{net-small}

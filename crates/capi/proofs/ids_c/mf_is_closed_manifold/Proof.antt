@@ -1,3 +1,4 @@
+-- `mf_is_closed_manifold` gives the number of what `is_closed_manifold` gives. Assumes nothing.
 use Rattle.ids.proofs.Lent.{gives-turned}
 use Rattle.chain.specs.Numbers.{verdictNumber}
 use borrow.Author.Needs.{needs}

@@ -1,3 +1,4 @@
+-- `mf_pieces` gives the number of what `pieces` gives. Assumes nothing.
 use Rattle.ids.proofs.Lent.{gives-turned}
 use Rattle.pieces.specs.Numbers.{pieceCountNumber}
 use borrow.Author.Needs.{needs}

@@ -1,3 +1,4 @@
+-- `mf_winding_coherent` gives the number of what `winding_coherent` gives. Assumes nothing.
 use Rattle.ids.proofs.Lent.{gives-turned}
 use Rattle.chain.specs.Numbers.{verdictNumber}
 use borrow.Author.Needs.{needs}

@@ -1,3 +1,4 @@
+-- The number of a piece count is the definition's, case by case. Assumes nothing.
 use Rattle.pieces.specs.Numbers.{pieceCountNumber}
 use borrow.Author.Needs.{needs}
 use Rattle.capi.proofs.ids_c.piece_count_number.Statement.{statement}

@@ -1,3 +1,4 @@
+-- The number of a yes or no is the definition's, case by case. Assumes nothing.
 use Rattle.ids.proofs.Bits.{byte-bit}
 use Rattle.chain.specs.Numbers.{verdictNumber}
 use borrow.Author.Needs.{needs}

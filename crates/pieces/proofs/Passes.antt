@@ -1,5 +1,5 @@
 -- A pass over the corners: filling the slots, looking the corners behind up, and what a pass leaves settled; then all passes. Assumes nothing.
-use mathlib.Core.Path.{_≡_, sym, ap, _∙_, subst}
+use mathlib.Core.Path.{_≡_, refl, sym, ap, _∙_, subst}
 use mathlib.Core.Bool.{Bool, true, false, true≢false}
 use mathlib.Core.List.{List}
 use Prim.Native.Nat.{ℕ, _+_, _-_, _*_, _/_, _≤_, _<_}
@@ -8,16 +8,16 @@ use native.Mathlib.Decide.{ℕ-discrete, decLt}
 use lib.ListN.{length}
 use Rattle.forest.specs.Words.{slotIn, Freed}
 use Rattle.ids.specs.Pieces.{solid}
-use Rattle.pieces.specs.Joins.{Linked, Good, Labelled, More, Grown, Whole}
+use Rattle.pieces.specs.Joins.{Linked, Good, More, Grown, Whole}
 use Rattle.pieces.specs.Slots.{keyOf, AllFree, Slots, Has, Covered, Followed, Entered, Filled, Settled, Swept}
 use Rattle.pieces.proofs.Shared.{key-share}
-use Rattle.pieces.proofs.Joins.{more-none, more-then, good-kept}
+use Rattle.pieces.proofs.Joins.{more-none, more-then, grown-map, good-kept}
 use Rattle.pieces.proofs.Rows.{slots-free}
 
 -- ---- filling
 
 -- what is covered stays so where used slots stay and labels get coarser
-module _ (ids : List ℕ) (n : ℕ) (s s′ f g : ℕ → ℕ) (rows : (r : ℕ) → r < n → 0 < s r → s′ r ≡ s r) (keeps : (x y : ℕ) → f x ≡ f y → g x ≡ g y) where
+module _ (ids : List ℕ) {n : ℕ} {s s′ f g : ℕ → ℕ} (rows : (r : ℕ) → r < n → 0 < s r → s′ r ≡ s r) (keeps : (x y : ℕ) → f x ≡ f y → g x ≡ g y) where
   has-kept : (i : ℕ) → Has ids n s f i → Has ids n s′ g i
   has-kept i h =
       let r = h .0 in
@@ -42,21 +42,18 @@ pub record Filling (ids : List ℕ) (odd limit n from c spare : ℕ) (t u : List
   pub more : (f : ℕ → ℕ) → Good ids t f → More ids u f (λ g. Covered ids n (slotIn u) g from c)
   pub fresh : c ≡ from → AllFree n (slotIn u) × (0 < spare)
 
-module _ (ids : List ℕ) (odd limit n from spare : ℕ) (t : List ℕ) where
+module _ {ids : List ℕ} {odd limit n from spare : ℕ} {t : List ℕ} where
   pub filling-none : from ≤ 3 * n → AllFree n (slotIn t) → 0 < spare → Filling ids odd limit n from from spare t t
   filling-none l free some =
       record {
         begun = omega arith;
         within = l;
-        slots = slots-free ids odd limit n (slotIn t) free;
-        more = λ f g. more-none ids t f _ g (λ i la lb. absurd (omega arith));
+        slots = slots-free free;
+        more = λ f g. more-none g (λ i la lb. absurd (omega arith));
         fresh = λ e. (free, some);
       }
 
-  pub filling-labelled : (c : ℕ) (u : List ℕ) → Filling ids odd limit n from c spare t u → Labelled ids t → Labelled ids u
-  filling-labelled c u z w = let p = z .more (w .0) (w .1) in (p .label, p .good)
-
-  module _ (c : ℕ) (u v : List ℕ) (z : Filling ids odd limit n from c spare t u) (entered : Bool) (w : Entered ids odd limit n spare c u v entered) where
+  module _ {c : ℕ} {u v : List ℕ} (z : Filling ids odd limit n from c spare t u) {entered : Bool} (w : Entered ids odd limit n spare c u v entered) where
     -- corner c is entered
     pub filling-next : (left : ℕ) → c < 3 * n → entered ≡ true → Filling ids odd limit n from (c + 1) left t v
     filling-next left l yes-entered =
@@ -64,9 +61,7 @@ module _ (ids : List ℕ) (odd limit n from spare : ℕ) (t : List ℕ) where
           begun = omega (arith, z .begun);
           within = omega arith;
           slots = w .slots;
-          more = λ f g.
-              let p = z .more f g in
-              more-then ids u v f _ _ _ p (w .more (p .label) (p .good)) (λ g′ h cov keeps has. covered-next ids n (slotIn u) (slotIn v) g′ h (w .rows) keeps from c cov (has yes-entered));
+          more = more-then (z .more) (w .more) (λ g h cov keeps has. covered-next ids (w .rows) keeps from c cov (has .0 yes-entered));
           fresh = λ e. absurd (omega (arith, z .begun));
         }
 
@@ -80,16 +75,18 @@ module _ (ids : List ℕ) (odd limit n from spare : ℕ) (t : List ℕ) where
             | no ne ↦ omega (arith, z .begun)
           ];
           slots = w .slots;
-          more = λ f g.
-              let p = z .more f g in
-              more-then ids u v f _ _ _ p (w .more (p .label) (p .good)) (λ g′ h cov keeps has. covered-kept ids n (slotIn u) (slotIn v) g′ h (w .rows) keeps from c cov);
+          more = more-then (z .more) (w .more) (λ g h cov keeps has. covered-kept ids (w .rows) keeps from c cov);
         }
 
   -- all corners are entered
-  pub filled-all : (c : ℕ) (u : List ℕ) → Filling ids odd limit n from c spare t u → 3 * n ≤ c → Filled ids odd limit n from c t u
-  filled-all c u z l = record { within = z .within; ahead = λ m. omega arith; slots = z .slots; more = z .more }
+  pub filled-all : {c : ℕ} {u : List ℕ} → Filling ids odd limit n from c spare t u → 3 * n ≤ c → Filled ids odd limit n from c t u
+  filled-all z l = record { within = z .within; ahead = λ m. omega arith; slots = z .slots; more = z .more }
 
 -- ---- a pass
+
+-- entering corner c with no slot to fill only looks it up
+pub looked-up : {ids : List ℕ} {odd limit n c : ℕ} {t u : List ℕ} {entered : Bool} → Entered ids odd limit n 0 c t u entered → Grown ids t u (Followed ids n (slotIn t) c)
+looked-up w = grown-map (record { slots = w .same refl; more = w .more }) (λ g p. p .1)
 
 -- each corner from a on below b is looked up
 abbrev pub FollowedTo : List ℕ → ℕ → (ℕ → ℕ) → ℕ → ℕ → (ℕ → ℕ) → Type 0
@@ -103,8 +100,8 @@ followed-next ids n s a b g h p keeps last i la lb = go (ℕ-discrete i b)
     go (no ne) = λ si r lr used k. keeps ((s r - 1) / 3) (i / 3) (p i la (omega arith) si r lr used k)
 
 -- corners entered before `next`, and all behind looked up
-settled : (ids : List ℕ) (odd limit n from next : ℕ) (s g h : ℕ → ℕ) → Slots ids odd limit n s → Covered ids n s g from next → ((x y : ℕ) → g x ≡ g y → h x ≡ h y) → FollowedTo ids n s next (3 * n) h → Settled ids n from next h
-settled ids odd limit n from next s g h z cov keeps fol i j la lb le lj si sj e = go (decLt j next)
+settled : {ids : List ℕ} {odd limit n from next : ℕ} {s g h : ℕ → ℕ} → Slots ids odd limit n s → Covered ids n s g from next → ((x y : ℕ) → g x ≡ g y → h x ≡ h y) → FollowedTo ids n s next (3 * n) h → Settled ids n from next h
+settled {ids} {odd} {limit} {n} {from} {next} {s} {g} {h} z cov keeps fol i j la lb le lj si sj e = go (decLt j next)
   where
     a : Has ids n s g i
     a = cov i la lb si
@@ -117,15 +114,13 @@ settled ids odd limit n from next s g h z cov keeps fol i j la lb le lj si sj e 
     go (no l) = sym (keeps ((s (a .0) - 1) / 3) (i / 3) (a .4)) ∙ fol j (omega arith) lj sj (a .0) (a .1) (a .2) (a .3 ∙ e)
 
 -- the slots freed, filled, and the corners behind looked up
-pub swept : (ids : List ℕ) (odd limit n from next : ℕ) (t u v w : List ℕ) → length u ≡ length t → Freed n t u → Filled ids odd limit n from next u v
+pub swept : {ids : List ℕ} {odd limit n from next : ℕ} {t u v w : List ℕ} → length u ≡ length t → Freed n t u → Filled ids odd limit n from next u v
     → Grown ids v w (FollowedTo ids n (slotIn v) next (3 * n)) → from < 3 * n → Swept ids n from next t w
-swept ids odd limit n from next t u v w lu freed fill rest l =
+swept lu freed fill rest l =
     record {
       within = fill .within;
       ahead = fill .ahead l;
-      more = λ f g.
-          let p = fill .more f (good-kept ids t u lu (freed .parents) f g) in
-          more-then ids v w f _ _ _ p (rest .more (p .label) (p .good)) (λ g′ h cov keeps fol. settled ids odd limit n from next (slotIn v) g′ h (fill .slots) cov keeps fol);
+      more = more-then (λ f g. fill .more f (good-kept lu (freed .parents) g)) (rest .more) (λ g h. settled (fill .slots));
     }
 
 -- ---- all passes
@@ -137,11 +132,11 @@ pub record Joining (ids t : List ℕ) (n c : ℕ) : Type 0 where
   pub done : Settled ids n 0 c label
   pub within : c ≤ 3 * n
 
-pub joining-none : (ids t : List ℕ) (n : ℕ) (f : ℕ → ℕ) → Good ids t f → Joining ids t n 0
-joining-none ids t n f g = record { label = f; good = g; done = λ i j la lb. absurd (omega arith); within = omega arith }
+pub joining-none : {ids t : List ℕ} {n : ℕ} {f : ℕ → ℕ} → Good ids t f → Joining ids t n 0
+joining-none {f = f} g = record { label = f; good = g; done = λ i j la lb. absurd (omega arith); within = omega arith }
 
-pub joining-next : (ids t u : List ℕ) (n c d : ℕ) → Joining ids t n c → Swept ids n c d t u → Joining ids u n d
-joining-next ids t u n c d z w = record { label = p .label; good = p .good; done = done; within = w .within }
+pub joining-next : {ids t u : List ℕ} {n c d : ℕ} → Joining ids t n c → Swept ids n c d t u → Joining ids u n d
+joining-next {ids} {t} {u} {n} {c} {d} z w = record { label = p .label; good = p .good; done = done; within = w .within }
   where
     p : More ids u (z .label) (Settled ids n c d)
     p = w .more (z .label) (z .good)
@@ -149,8 +144,8 @@ joining-next ids t u n c d z w = record { label = p .label; good = p .good; done
     done : Settled ids n 0 d (p .label)
     done i j la lb le lj si sj e = elim (decLt i c) [ yes l ↦ p .keeps (i / 3) (j / 3) (z .done i j la l le lj si sj e) | no l ↦ p .holds i j (omega arith) lb le lj si sj e ]
 
-pub joined-all : (ids t : List ℕ) (n c : ℕ) → length t ≡ n → Joining ids t n c → 3 * n ≤ c → Whole ids t
-joined-all ids t n c long z l = record { label = z .label; good = z .good; follows = follows }
+pub joined-all : {ids t : List ℕ} {n c : ℕ} → length t ≡ n → Joining ids t n c → 3 * n ≤ c → Whole ids t
+joined-all {ids} {t} {n} {c} long z l = record { label = z .label; good = z .good; follows = follows }
   where
     follows : (x y : ℕ) → Linked ids (length t) x y → z .label x ≡ z .label y
     follows x y k =

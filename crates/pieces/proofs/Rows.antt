@@ -2,7 +2,7 @@
 -- to do. Assumes nothing.
 use mathlib.Core.Path.{_≡_, refl, sym, ap, _∙_, subst, fun-ext}
 use mathlib.Core.Logic.{_≢_}
-use mathlib.Core.Bool.{Bool, true, false, true≢false}
+use mathlib.Core.Bool.{Bool, true}
 use mathlib.Core.List.{List}
 use Prim.Native.Nat.{ℕ, _+_, _-_, _*_, _/_, _≤_, _<_}
 use native.Mathlib.Omega.{arith}
@@ -15,10 +15,10 @@ use Rattle.forest.specs.Labels.{merged, Joined}
 use Rattle.forest.proofs.Words.{slot-here, slot-else, parents-stay}
 use Rattle.forest.proofs.Labels.{merged-joins}
 use Rattle.ids.specs.Pieces.{solid}
-use Rattle.pieces.specs.Joins.{Linked, Grown}
+use Rattle.pieces.specs.Joins.{Linked}
 use Rattle.pieces.specs.Slots.{keyOf, homeOf, keyIn, AllFree, Sought, Slots, Has, Followed, Entered}
 use Rattle.pieces.proofs.Shared.{share-key}
-use Rattle.pieces.proofs.Joins.{more-joined, grown-joined, more-none, good-kept}
+use Rattle.pieces.proofs.Joins.{more-joined, more-none, good-kept}
 use Rattle.pieces.proofs.Search.{home-in}
 
 -- what holds of slots holds of equal ones
@@ -26,8 +26,8 @@ pub along : (P : (ℕ → ℕ) → Type 0) (t u : List ℕ) → ((i : ℕ) → s
 along P t u same p = subst P (fun-ext (λ i. sym (same i))) p
 
 -- free slots are in order
-pub slots-free : (ids : List ℕ) (odd limit n : ℕ) (s : ℕ → ℕ) → AllFree n s → Slots ids odd limit n s
-slots-free ids odd limit n s free =
+pub slots-free : {ids : List ℕ} {odd limit n : ℕ} {s : ℕ → ℕ} → AllFree n s → Slots ids odd limit n s
+slots-free free =
     record {
       corners = λ r l. omega (arith, free r l);
       spread = record { one = λ i j li ui lj uj e. absurd (omega (arith, free i li)); reach = λ i j li ui lj d. absurd (omega (arith, free i li)) };
@@ -35,7 +35,7 @@ slots-free ids odd limit n s free =
       solids = λ r l u. absurd (omega (arith, free r l));
     }
 
-module _ (ids : List ℕ) (odd limit n : ℕ) (s : ℕ → ℕ) (z : Slots ids odd limit n s) (c r : ℕ)
+module _ {ids : List ℕ} {odd limit n : ℕ} {s : ℕ → ℕ} (z : Slots ids odd limit n s) (c : ℕ) {r : ℕ}
     (q : Sought n limit (homeOf odd n (keyOf ids c)) (keyIn ids s) s (keyOf ids c) r) where
   -- a row in use with the corner's key is the one found
   pub row-is : (x : ℕ) → x < n → 0 < s x → keyIn ids s x ≡ keyOf ids c → x ≡ r
@@ -63,22 +63,16 @@ module _ (ids : List ℕ) (odd limit n : ℕ) (s : ℕ → ℕ) (z : Slots ids o
   pub followed-here : (f : ℕ → ℕ) → f ((s r - 1) / 3) ≡ f (c / 3) → Followed ids n s c f
   followed-here f e sc x lx used k = ap (λ (y : ℕ). f ((s y - 1) / 3)) (row-is x lx used k) ∙ e
 
--- a corner of a triangle whose ids are not distinct asks for nothing
-pub followed-not : (ids : List ℕ) (n : ℕ) (s : ℕ → ℕ) (c : ℕ) → solid ids (c / 3) ≡ false → (f : ℕ → ℕ) → Followed ids n s c f
-followed-not ids n s c no-solid f sc = absurd (true≢false (sym sc ∙ no-solid))
-
 -- nothing is changed
-pub entered-same : (ids : List ℕ) (odd limit spare c : ℕ) (t : List ℕ) (entered : Bool) → Slots ids odd limit (length t) (slotIn t)
-    → (entered ≡ true → solid ids (c / 3) ≡ true → ⊥) → (AllFree (length t) (slotIn t) → 0 < spare → entered ≡ true) → Entered ids odd limit (length t) spare c t t entered
-entered-same ids odd limit spare c t entered z no-corner fresh =
-    record { slots = z; rows = λ r l u. refl; more = λ f g. more-none ids t f _ g (λ e sc. absurd (no-corner e sc)); fresh = fresh }
+pub entered-same : {ids : List ℕ} {odd limit spare c : ℕ} {t : List ℕ} {entered : Bool} → Slots ids odd limit (length t) (slotIn t)
+    → (entered ≡ true → solid ids (c / 3) ≡ true → ⊥) → ((f : ℕ → ℕ) → Followed ids (length t) (slotIn t) c f)
+    → (AllFree (length t) (slotIn t) → 0 < spare → entered ≡ true) → Entered ids odd limit (length t) spare c t t entered
+entered-same z no-corner fol fresh =
+    record { slots = z; rows = λ r l u. refl; same = λ e i. refl; more = λ f g. more-none g (λ e sc. absurd (no-corner e sc), fol f); fresh = fresh }
 
 -- in free slots a search finds a row
-pub never-past : (ids : List ℕ) (odd limit n : ℕ) (s : ℕ → ℕ) (c r : ℕ) → 0 < limit → 0 < n → Sought n limit (homeOf odd n (keyOf ids c)) (keyIn ids s) s (keyOf ids c) r → AllFree n s → r ≡ n → ⊥
-never-past ids odd limit n s c r l some q free e =
-    let h : ℕ = homeOf odd n (keyOf ids c) in
-    let lh : h < n = home-in odd n (keyOf ids c) some in
-    omega (arith, free h lh, q .none e h lh (rw (dist-here n h lh) l) .0)
+pub never-past : {n limit at : ℕ} {key mark : ℕ → ℕ} {k r : ℕ} → 0 < limit → at < n → Sought n limit at key mark k r → AllFree n mark → r ≡ n → ⊥
+never-past {n = n} {at = at} l home q free e = omega (arith, free at home, q .none e at home (rw (dist-here n at home) l) .0)
 
 module _ (ids t u : List ℕ) (odd limit spare c r : ℕ) (z : Slots ids odd limit (length t) (slotIn t))
     (q : Sought (length t) limit (homeOf odd (length t) (keyOf ids c)) (keyIn ids (slotIn t)) (slotIn t) (keyOf ids c) r)
@@ -89,20 +83,21 @@ module _ (ids t u : List ℕ) (odd limit spare c r : ℕ) (z : Slots ids odd lim
     in-use = omega arith
 
     link : Linked ids (length t) ((s - 1) / 3) (c / 3)
-    link = rw is (row-linked ids odd limit (length t) (slotIn t) z c r q lr in-use lc sc)
+    link = rw is (row-linked z c q lr in-use lc sc)
 
     one-label : (f : ℕ → ℕ) → merged f ((s - 1) / 3) (c / 3) ((slotIn t r - 1) / 3) ≡ merged f ((s - 1) / 3) (c / 3) (c / 3)
     one-label f = ap (λ (x : ℕ). merged f ((s - 1) / 3) (c / 3) ((x - 1) / 3)) (sym is) ∙ merged-joins f ((s - 1) / 3) (c / 3)
-
-    pub grown-row : Grown ids t u (Followed ids (length t) (slotIn t) c)
-    grown-row = grown-joined ids t u _ _ long link j _ (λ f. followed-here ids odd limit (length t) (slotIn t) z c r q (merged f ((s - 1) / 3) (c / 3)) (one-label f))
 
     pub entered-joined : Entered ids odd limit (length t) spare c t u true
     entered-joined =
         record {
           slots = along (Slots ids odd limit (length t)) t u (j .slots) z;
           rows = λ x l h. j .slots x;
-          more = more-joined ids t u _ _ long link j _ (λ f e s′. along (λ (o : ℕ → ℕ). Has ids (length t) o (merged f ((s - 1) / 3) (c / 3)) c) t u (j .slots) (r, lr, in-use, q .found lr .holds in-use, one-label f));
+          same = λ e. j .slots;
+          more = more-joined long link j (λ f. (
+            λ e s′. along (λ (o : ℕ → ℕ). Has ids (length t) o (merged f ((s - 1) / 3) (c / 3)) c) t u (j .slots) (r, lr, in-use, q .found lr .holds in-use, one-label f),
+            followed-here z c q (merged f ((s - 1) / 3) (c / 3)) (one-label f),
+          ));
           fresh = λ free l. refl;
         }
 
@@ -143,17 +138,18 @@ module _ (ids t u : List ℕ) (odd limit spare c r : ℕ) (z : Slots ids odd lim
               (λ ne. subst (λ (x : ℕ). 0 < x → solid ids ((x - 1) / 3) ≡ true) (sym (else i ne)) (z .solids i l));
         }
 
-    pub entered-held : u ≡ withSlot t r (c + 1) → Entered ids odd limit (length t) spare c t u true
+    pub entered-held : spare ≢ 0 → u ≡ withSlot t r (c + 1) → Entered ids odd limit (length t) spare c t u true
     unfolding v
-    entered-held e = subst (λ (w : List ℕ). Entered ids odd limit (length t) spare c t w true) (sym e) (
+    entered-held some e = subst (λ (w : List ℕ). Entered ids odd limit (length t) spare c t w true) (sym e) (
         record {
           slots = slots-held;
           rows = λ x l h. else x (λ e. omega (arith, ap (slotIn t) e));
+          same = λ none. absurd (some none);
           more = λ f g. record {
             label = f;
-            good = good-kept ids t v (length-set t r _) (parents-stay t r (c + 1) lr) f g;
+            good = good-kept (length-set t r _) (parents-stay t r (c + 1) lr) g;
             keeps = λ x y e. e;
-            holds = λ e s′. (r, lr, omega (arith, here), key-here, ap f corner-here);
+            holds = (λ e s′. (r, lr, omega (arith, here), key-here, ap f corner-here), followed-free z c q (sym is ∙ free) f);
           };
           fresh = λ free l. refl;
         })

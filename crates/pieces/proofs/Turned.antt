@@ -3,13 +3,14 @@
 use mathlib.Core.Path.{_≡_, refl, sym, ap, _∙_}
 use mathlib.Core.Bool.{Bool, true, false, not, _&&_}
 use mathlib.Core.List.{List, [], _∷_}
-use Prim.Native.Nat.{ℕ, zero, suc, _+_, _*_, _/_, _<_}
+use Prim.Native.Nat.{ℕ, zero, suc, _/_, _<_}
 use native.Mathlib.Omega.{arith}
 use native.Mathlib.Decide.{ℕ-discrete}
 use borrow.Author.Tests.{eq-eqb, ne-eqb}
 use lib.Dec.{eqb}
 use lib.ListN.{length}
 use Rattle.ids.specs.Triangles.{Triangle, triangle, distinct}
+use Rattle.ids.proofs.Numbered.{triangle-behind}
 use Rattle.ids.specs.Pieces.{any, touched, apart, groups, shareId, those, solid, solids, pieces}
 use Rattle.ids.specs.Classes.{mem, Each}
 use Rattle.pieces.proofs.Groups.{or-left, or-right, Group, part-mem, are-groups}
@@ -76,15 +77,6 @@ turned-length (a ∷ []) = refl
 turned-length (a ∷ b ∷ []) = refl
 turned-length (a ∷ b ∷ c ∷ ids) = ap (λ (n : ℕ). suc (suc (suc n))) (turned-length ids)
 
--- the triangle behind the first
-shift : (a b c : ℕ) (ids : List ℕ) (t : ℕ) → triangle (a ∷ b ∷ c ∷ ids) (suc t) ≡ triangle ids t
-unfolding triangle
-shift a b c ids t =
-    let e0 : 3 * suc t ≡ suc (suc (suc (3 * t))) = omega arith in
-    let e1 : 3 * suc t + 1 ≡ suc (suc (suc (3 * t + 1))) = omega arith in
-    let e2 : 3 * suc t + 2 ≡ suc (suc (suc (3 * t + 2))) = omega arith in
-    rw (e1, e2, e0)
-
 first : (a b c : ℕ) (x y : List ℕ) → triangle (a ∷ c ∷ b ∷ x) 0 ≡ flip (triangle (a ∷ b ∷ c ∷ y) 0)
 unfolding triangle
 first a b c x y = refl
@@ -95,7 +87,7 @@ turned-at [] t l = absurd (omega arith)
 turned-at (a ∷ []) t l = absurd (omega arith)
 turned-at (a ∷ b ∷ []) t l = absurd (omega arith)
 turned-at (a ∷ b ∷ c ∷ ids) zero l = first a b c (turned ids) ids
-turned-at (a ∷ b ∷ c ∷ ids) (suc t) l = shift a c b (turned ids) t ∙ turned-at ids t (omega arith) ∙ ap flip (sym (shift a b c ids t))
+turned-at (a ∷ b ∷ c ∷ ids) (suc t) l = triangle-behind a c b (turned ids) t ∙ turned-at ids t (omega arith) ∙ ap flip (sym (triangle-behind a b c ids t))
 
 flip-distinct : (t : Triangle) → distinct (flip t) ≡ distinct t
 unfolding distinct

@@ -65,7 +65,10 @@ pub record Entered (ids : List ℕ) (odd limit n spare c : ℕ) (t u : List ℕ)
   pub slots : Slots ids odd limit n (slotIn u)
   -- a slot in use stays
   pub rows : (r : ℕ) → r < n → 0 < slotIn t r → slotIn u r ≡ slotIn t r
-  pub more : (f : ℕ → ℕ) → Good ids t f → More ids u f (λ g. (entered ≡ true → solid ids (c / 3) ≡ true → Has ids n (slotIn u) g c))
+  -- with none to spare, all stay
+  pub same : spare ≡ 0 → (i : ℕ) → slotIn u i ≡ slotIn t i
+  -- where c is entered a row holds its key; entered or not, c has one label with the row that held its key before
+  pub more : (f : ℕ → ℕ) → Good ids t f → More ids u f (λ g. (entered ≡ true → solid ids (c / 3) ≡ true → Has ids n (slotIn u) g c) × Followed ids n (slotIn t) c g)
   -- the first corner is entered
   pub fresh : AllFree n (slotIn t) → 0 < spare → entered ≡ true
 

@@ -108,7 +108,7 @@ struct Entry {
     spare: usize,
 }
 
-// Enters corner c: joins it to the corner that its row holds, or fills the row.
+// Enters corner c: joins it to the corner that its row holds, or fills the row if a slot may be filled.
 fn enter(ids: &[u32], work: &mut [u32], odd: u32, limit: usize, spare: usize, c: usize) -> Entry
     requires { ⌜ Sized (now ids) (now work) × (c < 3 * length (now work)) × Limited limit (length (now work)) × Slots (now ids) odd limit (length (now work)) (slotIn (now work)) × Labelled (now ids) (now work) ⌝ }
     ensures { λ e. ⌜ Entered (now (ids .entry)) odd limit (length (now (work .entry))) spare c (now (work .entry)) (now (work .exit)) (e .entered) ⌝ }
@@ -167,33 +167,14 @@ fn fill(ids: &[u32], work: &mut [u32], odd: u32, limit: usize, from: usize) -> u
     c
 }
 
-// Joins corner c to the corner that its row holds, if one does.
-fn follow_one(ids: &[u32], work: &mut [u32], odd: u32, limit: usize, c: usize)
-    requires { ⌜ Sized (now ids) (now work) × (c < 3 * length (now work)) × Limited limit (length (now work)) × Slots (now ids) odd limit (length (now work)) (slotIn (now work)) × Labelled (now ids) (now work) ⌝ }
-    ensures { λ _. ⌜ Grown (now (ids .entry)) (now (work .entry)) (now (work .exit)) (Followed (now (ids .entry)) (length (now (work .entry))) (slotIn (now (work .entry))) c) ⌝ }
-{
-    let t = c / 3;
-    if !solid(ids, t) {
-        return;
-    }
-    let r = seek(ids, work, odd, limit, c);
-    if r == work.len() {
-        return;
-    }
-    let s = forest::slot(work, r);
-    if s != 0 {
-        forest::join(work, (s - 1) / 3, t);
-    }
-}
-
-// Joins each corner from `from` on to the corner that its row holds, if one does.
+// Joins each corner from `from` on to the corner that its row holds, if one does: it enters them with no slot to fill.
 fn follow(ids: &[u32], work: &mut [u32], odd: u32, limit: usize, from: usize)
     requires { ⌜ Sized (now ids) (now work) × Limited limit (length (now work)) × Slots (now ids) odd limit (length (now work)) (slotIn (now work)) × Labelled (now ids) (now work) ⌝ }
     ensures { λ _. ⌜ Grown (now (ids .entry)) (now (work .entry)) (now (work .exit)) (λ g. ((i : ℕ) → from ≤ i → i < 3 * length (now (work .entry)) → Followed (now (ids .entry)) (length (now (work .entry))) (slotIn (now (work .entry))) i g)) ⌝ }
 {
     let mut c = from;
     while c < 3 * work.len() {
-        follow_one(ids, work, odd, limit, c);
+        enter(ids, work, odd, limit, 0, c);
         c += 1;
     }
 }

@@ -6,10 +6,10 @@ use native.Mathlib.Omega.{arith}
 use borrow.Author.Tests.{not-true, not-false}
 use borrow.Author.Needs.{needs}
 use lib.ListN.{length}
-use Rattle.forest.specs.Words.{slotIn}
 use Rattle.ids.specs.Pieces.{solid}
 use Rattle.pieces.proofs.Joins.{good-forest}
-use Rattle.pieces.proofs.Rows.{entered-same, never-past, entered-joined, entered-held}
+use Rattle.pieces.proofs.Search.{home-in}
+use Rattle.pieces.proofs.Rows.{followed-past, followed-free, entered-same, never-past, entered-joined, entered-held}
 use Rattle.pieces.proofs.enter.Statement.{statement}
 use Rattle.pieces.proofs.enter.Tie as tie
 
@@ -20,10 +20,8 @@ returns : tie.Need-returns
 returns c =
     let solid-call = c .before .solid in
     let s = c .before .before .before .before in
-    let ids = s .args .ids .now in
-    let t = s .args .work .now in
-    let flat : solid ids (s .args .c / 3) ≡ false = sym (solid-call .ensures) ∙ not-true (solid-call .result) (c .if1 .taken) in
-    entered-same ids (s .args .odd) (s .args .limit) (s .args .spare) (s .args .c) t true (s .pre .3) (λ e y. true≢false (sym y ∙ flat)) (λ free some. refl)
+    let flat : solid (s .args .ids .now) (s .args .c / 3) ≡ false = sym (solid-call .ensures) ∙ not-true (solid-call .result) (c .if1 .taken) in
+    entered-same (s .pre .3) (λ e y. true≢false (sym y ∙ flat)) (λ f y. absurd (true≢false (sym y ∙ flat))) (λ free some. refl)
 
 seek-requires : tie.Need-seek-requires
 seek-requires c κs = search needs
@@ -33,11 +31,9 @@ same-length c = search needs
 
 returns-2 : tie.Need-returns-2
 returns-2 c =
-    let seek = c .before .seek in
+    let q = c .before .seek .ensures in
     let s = c .before .before .before .before .before .before .before in
-    let ids = s .args .ids .now in
-    let t = s .args .work .now in
-    entered-same ids (s .args .odd) (s .args .limit) (s .args .spare) (s .args .c) t false (s .pre .3) (λ e y. true≢false (sym e)) (λ free some. absurd (never-past ids (s .args .odd) (s .args .limit) (length t) (slotIn t) (s .args .c) (seek .result) (s .pre .2 .0) (omega arith) (seek .ensures) free (c .if2 .taken)))
+    entered-same (s .pre .3) (λ e y. true≢false (sym e)) (followed-past (s .pre .3) (s .args .c) q (c .if2 .taken)) (λ free some. absurd (never-past (s .pre .2 .0) (home-in _ _ _ (omega arith)) q free (c .if2 .taken)))
 
 slot-requires : tie.Need-slot-requires
 slot-requires c κs = search needs
@@ -49,11 +45,8 @@ join-requires : tie.Need-join-requires
 join-requires c κs =
     let seek = c .before .before .before .before .before .seek in
     let s = c .before .before .before .before .before .before .before .before .before .before .before in
-    let ids = s .args .ids .now in
-    let t = s .args .work .now in
-    let q = seek .ensures in
-    let lr : seek .result < length t = omega (arith, q .within, c .before .before .before .before .if2 .left) in
-    (omega (arith, c .before .before .slot .ensures, c .before .if3 .taken, s .pre .3 .corners (seek .result) lr), omega arith, omega arith, good-forest ids t (s .pre .4))
+    let lr : seek .result < length (s .args .work .now) = omega (arith, seek .ensures .within, c .before .before .before .before .if2 .left) in
+    (omega (arith, c .before .before .slot .ensures, c .before .if3 .taken, s .pre .3 .corners (seek .result) lr), omega arith, omega arith, good-forest (s .pre .4))
 
 same-length-2 : tie.Need-same-length-2
 same-length-2 c = search needs
@@ -77,10 +70,9 @@ same-length-3 c = search needs
 
 returns-4 : tie.Need-returns-4
 returns-4 c =
+    let q = c .before .before .before .before .before .seek .ensures in
     let s = c .before .before .before .before .before .before .before .before .before .before .before in
-    let ids = s .args .ids .now in
-    let t = s .args .work .now in
-    entered-same ids (s .args .odd) (s .args .limit) (s .args .spare) (s .args .c) t false (s .pre .3) (λ e y. true≢false (sym e)) (λ free some. absurd (omega arith))
+    entered-same (s .pre .3) (λ e y. true≢false (sym e)) (followed-free (s .pre .3) (s .args .c) q (sym (c .before .before .slot .ensures) ∙ c .before .if3 .left)) (λ free some. absurd (omega arith))
 
 add-hold : tie.Need-add-hold
 add-hold c = search needs
@@ -105,7 +97,7 @@ returns-5 c =
     let sc : solid ids (s .args .c / 3) ≡ true = sym (solid-call .ensures) ∙ not-false (solid-call .result) (c .before .before .before .before .before .before .before .before .before .before .before .if1 .left) in
     let q = seek .ensures in
     let lr : seek .result < length t = omega (arith, q .within, c .before .before .before .before .before .before .before .before .if2 .left) in
-    entered-held ids t _ (s .args .odd) (s .args .limit) (s .args .spare) (s .args .c) (seek .result) (s .pre .3) q lr (s .pre .1) sc (slot .result) (slot .ensures) (c .before .before .before .before .before .if3 .left) (c .before .before .hold .ensures)
+    entered-held ids t _ (s .args .odd) (s .args .limit) (s .args .spare) (s .args .c) (seek .result) (s .pre .3) q lr (s .pre .1) sc (slot .result) (slot .ensures) (c .before .before .before .before .before .if3 .left) (c .before .before .before .before .if4 .left) (c .before .before .hold .ensures)
 
 pub enter-spec : {M : Type 1} → statement M
 enter-spec =

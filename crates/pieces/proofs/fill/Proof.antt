@@ -5,7 +5,8 @@ use native.Mathlib.Omega.{arith}
 use borrow.Author.Tests.{not-true, not-false}
 use borrow.Author.Needs.{needs}
 use lib.ListN.{length}
-use Rattle.pieces.proofs.Passes.{Filling, filling-none, filling-labelled, filling-next, filled-short, filled-all}
+use Rattle.pieces.proofs.Joins.{labelled-then}
+use Rattle.pieces.proofs.Passes.{Filling, filling-none, filling-next, filled-short, filled-all}
 use Rattle.pieces.proofs.fill.Statement.{statement}
 use Rattle.pieces.proofs.fill.Tie as tie
 
@@ -22,11 +23,7 @@ add-spare : tie.Need-add-spare Inv-loop μ-loop
 add-spare c = search needs
 
 loop-holds : tie.Need-loop-holds Inv-loop μ-loop
-loop-holds c =
-    let s = c .before .before in
-    let ids = s .args .ids .now in
-    let t = s .args .work .now in
-    (refl, filling-none ids (s .args .odd) (s .args .limit) (length t) (s .args .from) _ t (s .pre .1) (s .pre .3) (omega arith))
+loop-holds c = let s = c .before .before in (refl, filling-none (s .pre .1) (s .pre .3) (omega arith))
 
 mul-loop : tie.Need-mul-loop Inv-loop μ-loop
 mul-loop c = search needs
@@ -34,11 +31,8 @@ mul-loop c = search needs
 enter-requires : tie.Need-enter-requires Inv-loop μ-loop
 enter-requires c κs =
     let s = c .before .before .before .before .before in
-    let ids = s .args .ids .now in
-    let t = s .args .work .now in
     let l = c .before .before .loop in
-    let k = l .inv .0 in
-    ((omega arith, s .pre .0 .1), omega arith, (s .pre .2 .0, omega arith), rw k (l .inv .1 .slots), filling-labelled ids (s .args .odd) (s .args .limit) (length t) (s .args .from) (l .spare) t (l .c) (l .work) (l .inv .1) (s .pre .4))
+    ((omega arith, s .pre .0 .1), omega arith, (s .pre .2 .0, omega arith), rw (l .inv .0) (l .inv .1 .slots), labelled-then (s .pre .4) (l .inv .1 .more))
 
 same-length : tie.Need-same-length Inv-loop μ-loop
 same-length c = search needs
@@ -46,12 +40,8 @@ same-length c = search needs
 returns : tie.Need-returns Inv-loop μ-loop
 returns c =
     let enter = c .before .before .before .before .enter in
-    let s = c .before .before .before .before .before .before .before .before .before .before in
-    let ids = s .args .ids .now in
-    let t = s .args .work .now in
     let l = c .before .before .before .before .before .before .before .loop in
-    let w = rw (l .inv .0) at (enter .ensures) in
-    filled-short ids (s .args .odd) (s .args .limit) (length t) (s .args .from) (l .spare) t (l .c) (l .work) _ (l .inv .1) (enter .result .entered) w (not-true (enter .result .entered) (c .if1 .taken))
+    filled-short (l .inv .1) (rw (l .inv .0) at (enter .ensures)) (not-true (enter .result .entered) (c .if1 .taken))
 
 add-c : tie.Need-add-c Inv-loop μ-loop
 add-c c = search needs
@@ -62,23 +52,14 @@ loop-less c = search needs
 loop-again : tie.Need-loop-again Inv-loop μ-loop
 loop-again c =
     let enter = c .before .before .before .before .enter in
-    let s = c .before .before .before .before .before .before .before .before .before .before in
-    let ids = s .args .ids .now in
-    let t = s .args .work .now in
     let l = c .before .before .before .before .before .before .before .loop in
-    let w = rw (l .inv .0) at (enter .ensures) in
-    (omega (arith, enter .kept, l .inv .0), filling-next ids (s .args .odd) (s .args .limit) (length t) (s .args .from) (l .spare) t (l .c) (l .work) _ (l .inv .1) (enter .result .entered) w (enter .result .spare) (omega arith) (not-false (enter .result .entered) (c .if1 .left)))
+    (omega (arith, enter .kept, l .inv .0), filling-next (l .inv .1) (rw (l .inv .0) at (enter .ensures)) (enter .result .spare) (omega arith) (not-false (enter .result .entered) (c .if1 .left)))
 
 same-length-2 : tie.Need-same-length-2 Inv-loop μ-loop
 same-length-2 c = search needs
 
 returns-2 : tie.Need-returns-2 Inv-loop μ-loop
-returns-2 c =
-    let s = c .before .before .before .before in
-    let ids = s .args .ids .now in
-    let t = s .args .work .now in
-    let l = c .before .loop in
-    filled-all ids (s .args .odd) (s .args .limit) (length t) (s .args .from) (l .spare) t (l .c) (l .work) (l .inv .1) (omega arith)
+returns-2 c = filled-all (c .before .loop .inv .1) (omega arith)
 
 pub fill-spec : {M : Type 1} → statement M
 fill-spec =

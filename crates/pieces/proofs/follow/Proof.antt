@@ -7,9 +7,9 @@ use lib.ListN.{length}
 use Rattle.forest.specs.Words.{slotIn}
 use Rattle.pieces.specs.Joins.{Grown}
 use Rattle.pieces.specs.Slots.{Slots, Followed}
-use Rattle.pieces.proofs.Joins.{grown-none, grown-then, grown-map, grown-labelled}
+use Rattle.pieces.proofs.Joins.{grown-none, grown-then, grown-map, labelled-then}
 use Rattle.pieces.proofs.Rows.{along}
-use Rattle.pieces.proofs.Passes.{FollowedTo, followed-next}
+use Rattle.pieces.proofs.Passes.{looked-up, FollowedTo, followed-next}
 use Rattle.pieces.proofs.follow.Statement.{statement}
 use Rattle.pieces.proofs.follow.Tie as tie
 
@@ -20,24 +20,19 @@ abbrev μ-loop : tie.MeasureT-loop
 μ-loop ids work₀ odd limit from c₀ work c = 3 * length work₀ - c
 
 loop-holds : tie.Need-loop-holds Inv-loop μ-loop
-loop-holds c =
-    let s = c .before .before in
-    let ids = s .args .ids .now in
-    let t = s .args .work .now in
-    (refl, grown-none ids t _ (λ f i la lb. absurd (omega arith)))
+loop-holds c = (refl, grown-none (λ f i la lb. absurd (omega arith)))
 
 mul-loop : tie.Need-mul-loop Inv-loop μ-loop
 mul-loop c = search needs
 
-follow-one-requires : tie.Need-follow-one-requires Inv-loop μ-loop
-follow-one-requires c κs =
+enter-requires : tie.Need-enter-requires Inv-loop μ-loop
+enter-requires c κs =
     let s = c .before .before .before .before .before in
     let ids = s .args .ids .now in
     let t = s .args .work .now in
     let l = c .before .before .loop in
-    let k = l .inv .0 in
     let g = l .inv .1 in
-    ((omega arith, s .pre .0 .1), omega arith, (s .pre .1 .0, omega arith), rw k (along (Slots ids (s .args .odd) (s .args .limit) (length t)) t (l .work) (g .slots) (s .pre .2)), grown-labelled ids t (l .work) _ g (s .pre .3))
+    ((omega arith, s .pre .0 .1), omega arith, (s .pre .1 .0, omega arith), rw (l .inv .0) (along (Slots ids (s .args .odd) (s .args .limit) (length t)) t (l .work) (g .slots) (s .pre .2)), labelled-then (s .pre .3) (g .more))
 
 add-c : tie.Need-add-c Inv-loop μ-loop
 add-c c = search needs
@@ -47,27 +42,21 @@ loop-less c = search needs
 
 loop-again : tie.Need-loop-again Inv-loop μ-loop
 loop-again c =
-    let follow-one = c .before .before .follow-one in
+    let enter = c .before .before .enter in
     let s = c .before .before .before .before .before .before .before .before in
     let ids = s .args .ids .now in
     let t = s .args .work .now in
     let l = c .before .before .before .before .before .loop in
     let g = l .inv .1 in
-    let v = follow-one .last .1 .0 in
-    let w = rw (l .inv .0) at (follow-one .ensures) in
-    let n = along (λ (o : ℕ → ℕ). Grown ids (l .work) v (Followed ids (length t) o (l .c))) (l .work) t (λ i. sym (g .slots i)) w in
-    (omega (arith, follow-one .kept, l .inv .0), grown-then ids t (l .work) v _ _ _ g n (λ p h a keeps b. followed-next ids (length t) (slotIn t) (s .args .from) (l .c) p h a keeps b))
+    let w = looked-up (rw (l .inv .0) at (enter .ensures)) in
+    let n = along (λ (o : ℕ → ℕ). Grown ids (l .work) (enter .last .1 .0) (Followed ids (length t) o (l .c))) (l .work) t (λ i. sym (g .slots i)) w in
+    (omega (arith, enter .kept, l .inv .0), grown-then g n (followed-next ids (length t) (slotIn t) (s .args .from) (l .c)))
 
 same-length : tie.Need-same-length Inv-loop μ-loop
 same-length c = search needs
 
 returns : tie.Need-returns Inv-loop μ-loop
-returns c =
-    let s = c .before .before .before .before in
-    let ids = s .args .ids .now in
-    let t = s .args .work .now in
-    let l = c .before .loop in
-    grown-map ids t (l .work) _ _ (l .inv .1) (λ g p i la lb. p i la (omega arith))
+returns c = grown-map (c .before .loop .inv .1) (λ g p i la lb. p i la (omega arith))
 
 pub follow-spec : {M : Type 1} → statement M
 follow-spec =
@@ -77,7 +66,7 @@ follow-spec =
     μ-loop
     loop-holds
     mul-loop
-    follow-one-requires
+    enter-requires
     add-c
     loop-less
     loop-again

@@ -24,62 +24,31 @@ mul-corners c = search needs
 loop-holds : tie.Need-loop-holds Inv-loop μ-loop
 loop-holds c =
     let plant = c .before .before .plant in
-    let s = c .before .before .before .before .before .before in
-    let ids = s .args .ids .now in
-    let t = s .args .work .now in
-    let u = plant .last .0 in
-    let lu : length u ≡ length t = plant .kept .0 in
-    (refl, joining-none ids u (length u) _ (good-planted ids u (rw lu (plant .ensures))))
+    (refl, joining-none (good-planted (rw (plant .kept .0) (plant .ensures))))
 
 pass-requires : tie.Need-pass-requires Inv-loop μ-loop
 pass-requires c κs =
-    let plant = c .before .before .before .before .before .plant in
     let s = c .before .before .before .before .before .before .before .before .before in
-    let ids = s .args .ids .now in
-    let t = s .args .work .now in
-    let u = plant .last .0 in
-    let lu : length u ≡ length t = plant .kept .0 in
     let l = c .before .before .loop in
-    ((omega arith, s .pre .1), omega arith, (l .inv .1 .label, l .inv .1 .good))
+    ((omega (arith, c .before .before .before .before .before .plant .kept .0), s .pre .1), omega arith, (l .inv .1 .label, l .inv .1 .good))
 
 loop-less : tie.Need-loop-less Inv-loop μ-loop
 loop-less c =
-    let plant = c .before .before .before .before .before .before .before .before .plant in
     let pass = c .before .before .pass in
-    let s = c .before .before .before .before .before .before .before .before .before .before .before .before in
-    let ids = s .args .ids .now in
-    let t = s .args .work .now in
-    let u = plant .last .0 in
-    let lu : length u ≡ length t = plant .kept .0 in
     let l = c .before .before .before .before .before .loop in
     omega (arith, l .inv .0, pass .ensures .ahead, pass .ensures .within)
 
 loop-again : tie.Need-loop-again Inv-loop μ-loop
 loop-again c =
-    let plant = c .before .before .before .before .before .before .before .before .plant in
     let pass = c .before .before .pass in
-    let s = c .before .before .before .before .before .before .before .before .before .before .before .before in
-    let ids = s .args .ids .now in
-    let t = s .args .work .now in
-    let u = plant .last .0 in
-    let lu : length u ≡ length t = plant .kept .0 in
     let l = c .before .before .before .before .before .loop in
-    let w = rw (l .inv .0) at (pass .ensures) in
-    (omega (arith, pass .kept, l .inv .0), joining-next ids (l .work) _ (length u) (l .c) (pass .result) (l .inv .1) w)
+    (omega (arith, pass .kept, l .inv .0), joining-next (l .inv .1) (rw (l .inv .0) at (pass .ensures)))
 
 same-length : tie.Need-same-length Inv-loop μ-loop
 same-length c = search needs
 
 returns : tie.Need-returns Inv-loop μ-loop
-returns c =
-    let plant = c .before .before .before .before .plant in
-    let s = c .before .before .before .before .before .before .before .before in
-    let ids = s .args .ids .now in
-    let t = s .args .work .now in
-    let u = plant .last .0 in
-    let lu : length u ≡ length t = plant .kept .0 in
-    let l = c .before .loop in
-    joined-all ids (l .work) (length u) (l .c) (l .inv .0) (l .inv .1) (omega arith)
+returns c = let l = c .before .loop in joined-all (l .inv .0) (l .inv .1) (omega arith)
 
 pub join-all-spec : {M : Type 1} → statement M
 join-all-spec =

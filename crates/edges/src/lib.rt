@@ -80,13 +80,7 @@ fn triangle(work: &mut [u32], n: usize, a: u32, b: u32, c: u32)
     requires { ⌜ (n ≤ 131072) × (3 * n ≤ length (now work)) × Room n (now work) 3 ⌝ }
     ensures { λ _. ⌜ ((es : List (Use Edge)) → EdgeTable n (now (work .entry)) es → EdgeTable n (now (work .exit)) (es ++ around (record { a = a; b = b; c = c }))) ⌝ }
 {
-    if a == b {
-        return;
-    }
-    if b == c {
-        return;
-    }
-    if c == a {
+    if !table::distinct(a, b, c) {
         return;
     }
     walk(work, n, a, b);

@@ -117,17 +117,7 @@ fn triangle(ids: &[u32], work: &mut [u32], n: usize, t: usize)
     ensures { λ _. ⌜ ((es : List (Use Face)) → FaceTable (now (ids .entry)) n (now (work .entry)) es
         → FaceTable (now (ids .entry)) n (now (work .exit)) (es ++ face (triangle (now (ids .entry)) t))) ⌝ }
 {
-    let at = 3 * t;
-    let a = ids[at];
-    let b = ids[at + 1];
-    let c = ids[at + 2];
-    if a == b {
-        return;
-    }
-    if b == c {
-        return;
-    }
-    if c == a {
+    if !table::distinct_at(ids, t) {
         return;
     }
     add(ids, work, n, t);

@@ -11,7 +11,7 @@ ghost use lib.ListN.{length, replicate};
 ghost use Rattle.ids.specs.Uses.{bit};
 ghost use Rattle.table.specs.Rows.{sumTo};
 ghost use Rattle.forest.specs.Words.{slotIn};
-ghost use Rattle.ids.specs.Pieces.{solid as isSolid, shareId, pieces as piecesOf};
+ghost use Rattle.ids.specs.Pieces.{shareId, pieces as piecesOf};
 ghost use Rattle.pieces.specs.Joins.{Sized, Labelled, Grown, Whole, isRoot};
 ghost use Rattle.pieces.specs.Slots.{keyOf, homeOf, keyIn, Limited, Corners, AllFree, Sought, Slots, Followed, Entered, Filled, Swept};
 ghost use Rattle.pieces.specs.Answer.{PiecesGiven};
@@ -23,17 +23,6 @@ pub enum PieceCount {
 }
 
 // ---- a corner and its row
-
-// Do the three ids of triangle t differ?
-fn solid(ids: &[u32], t: usize) -> bool
-    requires { ⌜ (t < length (now ids) / 3) × (length (now ids) ≤ 98304) ⌝ }
-    ensures { λ r. ⌜ r ≡ isSolid (now (ids .entry)) t ⌝ }
-{
-    let a = ids[3 * t];
-    let b = ids[3 * t + 1];
-    let c = ids[3 * t + 2];
-    (a != b) & ((b != c) & (c != a))
-}
 
 // What corner c is looked up by: its id.
 fn key(ids: &[u32], c: usize) -> u32
@@ -114,7 +103,7 @@ fn enter(ids: &[u32], work: &mut [u32], odd: u32, limit: usize, spare: usize, c:
     ensures { λ e. ⌜ Entered (now (ids .entry)) odd limit (length (now (work .entry))) spare c (now (work .entry)) (now (work .exit)) (e .entered) ⌝ }
 {
     let t = c / 3;
-    if !solid(ids, t) {
+    if !table::distinct_at(ids, t) {
         return Entry {
             entered: true,
             spare,
@@ -214,7 +203,7 @@ fn one_root(ids: &[u32], work: &[u32], t: usize) -> u32
     ensures { λ r. ⌜ (r ≡ bit (isRoot (now (ids .entry)) (now (work .entry)) t)) × (r ≤ 1) ⌝ }
 {
     if forest::parent(work, t) == t {
-        if solid(ids, t) {
+        if table::distinct_at(ids, t) {
             return 1;
         }
     }

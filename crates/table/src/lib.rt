@@ -1,7 +1,8 @@
-// Lent areas and tables in them: what the routines on ids share. Internal.
+// Triangles, lent areas and tables in them: what the routines on ids share. Internal.
 ghost use mathlib.Core.Path.{_≡_};
 ghost use Prim.Native.Nat.{_≤_, _<_, min, max};
 ghost use lib.ListN.{length};
+ghost use Rattle.ids.specs.Triangles.{distinct as isDistinct, triangle, triangleCount};
 ghost use Rattle.ids.specs.Lent.{cleared, refusal as refusalOf};
 ghost use Rattle.table.specs.Rows.{homeRow, nextRow};
 
@@ -15,6 +16,22 @@ pub fn greater(a: u32, b: u32) -> u32
     ensures { λ r. ⌜ r ≡ max a b ⌝ }
 {
     if a < b { b } else { a }
+}
+
+// Do the three ids differ?
+pub fn distinct(a: u32, b: u32, c: u32) -> bool
+    ensures { λ r. ⌜ r ≡ isDistinct (record { a = a; b = b; c = c }) ⌝ }
+{
+    (a != b) & ((b != c) & (c != a))
+}
+
+// Do the three ids of triangle t differ?
+pub fn distinct_at(ids: &[u32], t: usize) -> bool
+    requires { ⌜ (length (now ids) ≤ 98304) × (t < triangleCount (now ids)) ⌝ }
+    ensures { λ r. ⌜ r ≡ isDistinct (triangle (now (ids .entry)) t) ⌝ }
+{
+    let at = 3 * t;
+    distinct(ids[at], ids[at + 1], ids[at + 2])
 }
 
 // What a routine that needs so many words refuses: the refusal's number, or 0.

@@ -13,12 +13,13 @@ use Rattle.pieces.proofs.Rows.{followed-past, followed-free, entered-sa
 use Rattle.pieces.proofs.enter.Statement.{statement}
 use Rattle.pieces.proofs.enter.Tie as tie
 
-solid-requires : tie.Need-solid-requires
-solid-requires c κs = search needs
+distinct-at-requires : tie.Need-distinct-at-requires
+distinct-at-requires c κs = search needs
 
 returns : tie.Need-returns
+unfolding solid
 returns c =
-    let solid-call = c .before .solid in
+    let solid-call = c .before .distinct-at in
     let s = c .before .before .before .before in
     let flat : solid (s .args .ids .now) (s .args .c / 3) ≡ false = sym (solid-call .ensures) ∙ not-true (solid-call .result) (c .if1 .taken) in
     entered-same (s .pre .3) (λ e y. true≢false (sym y ∙ flat)) (λ f y. absurd (true≢false (sym y ∙ flat))) (λ free some. refl)
@@ -52,8 +53,9 @@ same-length-2 : tie.Need-same-length-2
 same-length-2 c = search needs
 
 returns-3 : tie.Need-returns-3
+unfolding solid
 returns-3 c =
-    let solid-call = c .before .before .before .before .before .before .before .before .before .before .before .solid in
+    let solid-call = c .before .before .before .before .before .before .before .before .before .before .before .distinct-at in
     let seek = c .before .before .before .before .before .before .before .before .seek in
     let slot = c .before .before .before .before .before .slot in
     let join = c .before .before .join in
@@ -87,8 +89,9 @@ same-length-4 : tie.Need-same-length-4
 same-length-4 c = search needs
 
 returns-5 : tie.Need-returns-5
+unfolding solid
 returns-5 c =
-    let solid-call = c .before .before .before .before .before .before .before .before .before .before .before .before .solid in
+    let solid-call = c .before .before .before .before .before .before .before .before .before .before .before .before .distinct-at in
     let seek = c .before .before .before .before .before .before .before .before .before .seek in
     let slot = c .before .before .before .before .before .before .slot in
     let s = c .before .before .before .before .before .before .before .before .before .before .before .before .before .before .before in
@@ -103,7 +106,7 @@ pub enter-spec : {M : Type 1} → statement M
 enter-spec =
     tie.close
     (tie.spec
-    solid-requires
+    distinct-at-requires
     returns
     seek-requires
     same-length

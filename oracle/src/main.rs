@@ -108,8 +108,12 @@ mod port {
 
     pub fn ids(n: u64) -> io::Result<ExitCode> {
         sum(ids::compare::all(n).flat_map(|(name, parts)| {
-            parts.into_iter().map(move |(on, ids::compare::Count { agree, differ, refused, shown })| {
-                let line = format!("{name:<18} {on:<9} {agree:>9} agree, {differ} differ ({refused} refused)");
+            parts.into_iter().map(move |(on, ids::compare::Count { agree, differ, refused, answered, shown })| {
+                let [none, one, two, three, more] = answered;
+                let line = format!(
+                    "{name:<18} {on:<9} {agree:>9} agree, {differ} differ ({refused} refused, {none} answer 0, {one} 1, \
+                     {two} 2, {three} 3, {more} more)"
+                );
                 (line, agree, differ, shown)
             })
         }))

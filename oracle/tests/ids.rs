@@ -28,6 +28,15 @@ fn every_routine_agrees() {
             assert_eq!(count.differ, 0, "{:?}", count.shown);
             assert!(count.agree > 0 && count.refused > 0, "{}", routine.name);
         }
+        // each number that the routine can answer comes up (4 stands for more)
+        let wanted: &[usize] = match routine.name {
+            "edge_chain" => &[0, 1, 2, 3],
+            "face_net" => &[1, 2, 4],
+            "pieces" => &[0, 1, 2, 3, 4],
+            _ => &[0, 1],
+        };
+        let answered = on_chance(routine, 20_000).answered;
+        assert!(wanted.iter().all(|&number| answered[number] > 100), "{}: {answered:?}", routine.name);
     }
 }
 
@@ -106,7 +115,7 @@ fn a_wrong_routine_is_found() {
 
 #[test]
 fn the_lists_have_what_they_are_for() {
-    assert_eq!(all_short().len(), 1 + 3 + 9 + 27 + 81 + 243 + 729 + 2187);
+    assert_eq!(all_short().len(), (0..=9).map(|n| 3usize.pow(n)).sum());
     let lists = large(&mut Random::new(11));
     for length in [MOST_IDS, MOST_IDS + 1, MOST_IDS - 1] {
         assert!(lists.iter().any(|ids| ids.len() == length), "{length}");

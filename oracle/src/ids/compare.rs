@@ -8,8 +8,9 @@ use crate::random::Random;
 pub struct Count {
     pub agree: u64,
     pub differ: u64,
-    /// Of those that agree, how many were refused.
+    /// Of those that agree, how many were refused, and how many were answered 0, 1, 2, 3 or more.
     pub refused: u64,
+    pub answered: [u64; 5],
     /// The first that differ, for a look.
     pub shown: Vec<String>,
 }
@@ -41,7 +42,10 @@ impl Count {
             let wrong = (0..lent).find(|&i| area[i] != if i < cleared { 0 } else { noise(i, salt) });
             if same && wrong.is_none() {
                 self.agree += 1;
-                self.refused += refusal.is_some() as u64;
+                match refusal {
+                    Some(_) => self.refused += 1,
+                    None => self.answered[answer.min(4) as usize] += 1,
+                }
             } else {
                 self.differ += 1;
                 self.show(routine, ids, lent, given, refusal.unwrap_or(answer), wrong);

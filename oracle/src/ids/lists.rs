@@ -3,11 +3,11 @@
 use super::routines::MOST_IDS;
 use crate::random::Random;
 
-/// All lists of up to seven ids out of three.
+/// All lists of up to nine ids out of three: with fewer than nine no chain has an edge.
 pub fn all_short() -> Vec<Vec<u32>> {
     let mut all = vec![Vec::new()];
     let mut longest = all.clone();
-    for _ in 0..7 {
+    for _ in 0..9 {
         longest = longest.iter().flat_map(|list| (0..3).map(|id| [list.as_slice(), &[id]].concat())).collect();
         all.extend(longest.iter().cloned());
     }

@@ -36,9 +36,13 @@ pub fn rows() -> Vec<Row> {
 
 /// Ids chosen against the hashes.
 pub fn worst() -> Vec<Row> {
-    let lists = [("edge_chain", against_edges()), ("pieces", against_pieces())];
+    let lists = [
+        ("edge_chain", "ids against the hash", against_edges()),
+        ("pieces", "ids against the first pass's hash", against_first_pass()),
+        ("pieces", "ids against every pass's hash", against_every_pass()),
+    ];
     let named = |name: &str| ROUTINES.iter().find(|routine| routine.name == name).expect("a routine of that name");
-    lists.iter().map(|(name, ids)| race(named(name), "ids against the hash".into(), ids, 1)).collect()
+    lists.iter().map(|(name, on, ids)| race(named(name), (*on).into(), ids, 1)).collect()
 }
 
 /// x with x * odd = 1 among the numbers below 2^32.
@@ -64,10 +68,26 @@ fn against_edges() -> Vec<u32> {
     ids
 }
 
+/// The odd number of a pass of the piece count from a corner on.
+fn odd_of(from: usize) -> u32 {
+    0x85eb_ca6a_u32.wrapping_mul(from as u32).wrapping_add(0x9e37_79b1)
+}
+
 /// Ids that all start at one row in the first pass.
-fn against_pieces() -> Vec<u32> {
-    let step = inverse(0x9e37_79b1);
+fn against_first_pass() -> Vec<u32> {
+    let step = inverse(odd_of(0));
     (0..MOST_IDS as u32).map(|i| i.wrapping_mul(step)).collect()
+}
+
+/// Each pass meets 65 ids that start at one row, so that it enters 64 of them and stops.
+fn against_every_pass() -> Vec<u32> {
+    let mut ids = vec![7];
+    while ids.len() < MOST_IDS {
+        let step = inverse(odd_of(ids.len() - 1));
+        ids.extend((1..=65).map(|i: u32| i.wrapping_mul(step)));
+    }
+    ids.truncate(MOST_IDS);
+    ids
 }
 
 /// Milliseconds, the best of several runs that take turns.

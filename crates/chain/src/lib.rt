@@ -51,6 +51,7 @@ fn gather_chain(ids: &[u32], part: &mut [u32], n: usize)
     }
 }
 
+// Counts the edges of the chain that are there, that are unbalanced and that have more than two uses.
 fn chain_in(ids: &[u32], part: &mut [u32]) -> EdgeChain
     requires { ⌜ (length (now ids) ≤ 98304) × (length (now part) ≡ 4 * length (now ids)) ⌝ }
     ensures { λ r. ⌜ (r ≡ EdgeChain.Answer (boundaryFree (now (ids .entry))) (overIncident (now (ids .entry))))
@@ -70,6 +71,7 @@ fn chain_in(ids: &[u32], part: &mut [u32]) -> EdgeChain
     }
 }
 
+// Counts the edges that are not used twice, once each way.
 fn manifold_in(ids: &[u32], part: &mut [u32]) -> bool
     requires { ⌜ (length (now ids) ≤ 98304) × (length (now part) ≡ 4 * length (now ids)) ⌝ }
     ensures { λ r. ⌜ (r ≡ closedManifold (now (ids .entry))) × (now (part .exit) ≡ replicate (4 * length (now (ids .entry))) 0) ⌝ }
@@ -83,6 +85,7 @@ fn manifold_in(ids: &[u32], part: &mut [u32]) -> bool
     enough(ids.len()) & (unpaired == 0)
 }
 
+// Counts the edges that are there, and those used neither once nor twice, once each way.
 fn coherent_in(ids: &[u32], part: &mut [u32]) -> bool
     requires { ⌜ (length (now ids) ≤ 98304) × (length (now part) ≡ 4 * length (now ids)) ⌝ }
     ensures { λ r. ⌜ (r ≡ windingCoherent (now (ids .entry))) × (now (part .exit) ≡ replicate (4 * length (now (ids .entry))) 0) ⌝ }
@@ -97,6 +100,7 @@ fn coherent_in(ids: &[u32], part: &mut [u32]) -> bool
     enough(ids.len()) & ((0 < present) & (50 * incoherent <= present))
 }
 
+// Sums the faces.
 fn net_in(ids: &[u32], part: &mut [u32]) -> FaceNet
     requires { ⌜ (length (now ids) ≤ 98304) × (length (now part) ≡ 4 * triangleCount (now ids)) ⌝ }
     ensures { λ r. ⌜ (r ≡ FaceNet.Answer (maxAbs (now (ids .entry))) (allCancel (now (ids .entry))))

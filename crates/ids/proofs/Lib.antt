@@ -1,4 +1,4 @@
--- Laws of the definitions: what the answers say of every edge and face, and what the routines' proofs cite.
+-- Laws of the definitions: what the answers say of every edge, face and piece, and what the routines' proofs cite.
 pub mod Triangles
 pub mod Numbered
 pub mod Lent
@@ -8,3 +8,8 @@ pub mod Bits
 pub mod Keys
 pub mod Meaning
 pub mod Examples
+pub mod Groups
+pub mod Shared
+pub mod Classes
+pub mod Solids
+pub mod Turned

@@ -1,9 +1,8 @@
 -- The triangles in order and the triangles by number are the same. Assumes nothing.
 use mathlib.Core.Path.{_≡_, refl, sym, ap, _∙_}
 use mathlib.Core.List.{List, [], _∷_, _++_, append-assoc}
-use Prim.Native.Nat.{ℕ, zero, suc, _+_, _*_, _/_}
+use Prim.Native.Nat.{ℕ, zero, suc, _+_, _*_}
 use native.Mathlib.Omega.{arith}
-use lib.ListN.{length, getD}
 use Rattle.ids.specs.Triangles.{Triangle, overTriangles, triangle, triangleCount, overNumbers}
 use Rattle.ids.proofs.Triangles.{append-none}
 

@@ -1,8 +1,5 @@
--- Groups, Classes, Turned and Answer are of the definitions alone; the others lead from the words of the lent area to the number of the groups.
-pub mod Groups
+-- Answer is of the contract alone; the others lead from the words of the lent area to the number of the groups.
 pub mod Shared
-pub mod Classes
-pub mod Turned
 pub mod Answer
 mod Joins
 mod Search

@@ -9,13 +9,13 @@ use native.Mathlib.Decide.{ℕ-discrete}
 use borrow.Author.Tests.{eq-eqb, ne-eqb}
 use lib.Dec.{eqb}
 use lib.ListN.{length}
 use Rattle.ids.specs.Triangles.{Triangle, triangle, distinct}
 use Rattle.ids.proofs.Numbered.{triangle-behind}
 use Rattle.ids.specs.Pieces.{any, touched, apart, groups, shareId, those, solid, solids, pieces}
 use Rattle.ids.specs.Classes.{mem, Each}
-use Rattle.pieces.proofs.Groups.{or-left, or-right, Group, part-mem, are-groups}
-use Rattle.pieces.proofs.Shared.{flip, share-flipped, share-both}
-use Rattle.pieces.proofs.Roots.{those-mem}
+use Rattle.ids.proofs.Groups.{or-left, or-right, Group, part-mem, are-groups}
+use Rattle.ids.proofs.Shared.{flip, share-flipped, share-both}
+use Rattle.ids.proofs.Solids.{those-mem}
 
 -- ---- groups by what holds of the list's elements
 

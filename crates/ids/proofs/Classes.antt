@@ -7,13 +7,13 @@ use Prim.Native.Nat.{ℕ}
 use borrow.Author.Tests.{eq-eqb, eqb-true}
 use lib.Dec.{eqb}
 use lib.ListN.{length}
 use Rattle.ids.specs.Uses.{bit}
 use Rattle.ids.specs.Triangles.{triangle}
 use Rattle.ids.specs.Pieces.{any, touched, groups, shareId, solids, pieces}
 use Rattle.ids.specs.Classes.{mem, Chain, Each, AreClasses}
 use Rattle.ids.specs.Classes.Chain.{here, step}
-use Rattle.pieces.proofs.Groups.{Group, total, witness, mem-append, or-cases, or-left, or-right, each-apart, each-map, part-mem, are-groups}
-use Rattle.pieces.proofs.Shared.{share-both}
+use Rattle.ids.proofs.Groups.{Group, total, witness, mem-append, or-cases, or-left, or-right, each-apart, each-map, part-mem, are-groups}
+use Rattle.ids.proofs.Shared.{share-both}
 
 module _ (joined : ℕ → ℕ → Bool) (both : (x y : ℕ) → joined x y ≡ true → joined y x ≡ true) where
   then : {ts : List ℕ} {x y z : ℕ} → Chain joined ts x y → Chain joined ts y z → Chain joined ts x z

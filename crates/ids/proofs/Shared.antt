@@ -1,0 +1,74 @@
+-- Two triangles share an id where a corner of the one has the id of a corner of the other; so sharing goes both ways, and turning both over leaves it. Assumes nothing.
+use mathlib.Core.Path.{_≡_, refl, sym, _∙_}
+use mathlib.Core.Bool.{Bool, true, false}
+use Prim.Native.Nat.{ℕ, zero, suc, _<_}
+use native.Mathlib.Omega.{arith}
+use borrow.Author.Tests.{eq-eqb, eqb-true}
+use lib.Dec.{eqb}
+use Rattle.ids.specs.Triangles.{Triangle}
+use Rattle.ids.specs.Pieces.{has, shareId}
+use Rattle.ids.proofs.Groups.{or-cases, or-left, or-right}
+
+-- the id at corner k
+unfoldable pub corner : Triangle → ℕ → ℕ
+corner t zero = t .a
+corner t (suc zero) = t .b
+corner t (suc (suc k)) = t .c
+
+has-corner : (t : Triangle) (x k : ℕ) → x ≡ corner t k → has t x ≡ true
+unfolding has corner
+has-corner t x zero e = or-left (eqb x (t .a)) _ (eq-eqb x (t .a) e)
+has-corner t x (suc zero) e = or-right (eqb x (t .a)) _ (or-left (eqb x (t .b)) _ (eq-eqb x (t .b) e))
+has-corner t x (suc (suc k)) e = or-right (eqb x (t .a)) _ (or-right (eqb x (t .b)) _ (eq-eqb x (t .c) e))
+
+corner-has : (t : Triangle) (x : ℕ) → has t x ≡ true → (k : ℕ) × (k < 3) × (x ≡ corner t k)
+unfolding has corner
+corner-has t x h =
+    or-cases (eqb x (t .a)) _ h (λ e. (0, omega arith, eqb-true x (t .a) e))
+    (λ q. or-cases (eqb x (t .b)) _ q (λ e. (1, omega arith, eqb-true x (t .b) e)) (λ e. (2, omega arith, eqb-true x (t .c) e)))
+
+pub share-corner : (s t : Triangle) (j k : ℕ) → corner s j ≡ corner t k → shareId s t ≡ true
+unfolding shareId corner
+share-corner s t zero k e = or-left (has t (s .a)) _ (has-corner t (s .a) k e)
+share-corner s t (suc zero) k e = or-right (has t (s .a)) _ (or-left (has t (s .b)) _ (has-corner t (s .b) k e))
+share-corner s t (suc (suc j)) k e = or-right (has t (s .a)) _ (or-right (has t (s .b)) _ (has-corner t (s .c) k e))
+
+pub corner-share : (s t : Triangle) → shareId s t ≡ true → (j k : ℕ) × (j < 3) × (k < 3) × (corner s j ≡ corner t k)
+unfolding shareId corner
+corner-share s t h =
+    or-cases (has t (s .a)) _ h (λ q. let r = corner-has t (s .a) q in (0, r .0, omega arith, r .1, r .2))
+    (λ p. or-cases (has t (s .b)) _ p (λ q. let r = corner-has t (s .b) q in (1, r .0, omega arith, r .1, r .2)) (λ q. let r = corner-has t (s .c) q in (2, r .0, omega arith, r .1, r .2)))
+
+pub share-both : (s t : Triangle) → shareId s t ≡ true → shareId t s ≡ true
+share-both s t h = let r = corner-share s t h in share-corner t s (r .1) (r .0) (sym (r .4))
+
+-- ---- triangles turned over
+
+-- with its last two ids swapped
+abbrev pub flip : Triangle → Triangle
+flip t = record { a = t .a; b = t .c; c = t .b }
+
+swapped : ℕ → ℕ
+swapped zero = 0
+swapped (suc zero) = 2
+swapped (suc (suc k)) = 1
+
+corner-flipped : (t : Triangle) (k : ℕ) → corner (flip t) k ≡ corner t (swapped k)
+unfolding corner swapped
+corner-flipped t zero = refl
+corner-flipped t (suc zero) = refl
+corner-flipped t (suc (suc k)) = refl
+
+flipped-once : (s t : Triangle) → shareId (flip s) (flip t) ≡ true → shareId s t ≡ true
+flipped-once s t h =
+    let r = corner-share (flip s) (flip t) h in
+    share-corner s t (swapped (r .0)) (swapped (r .1)) (sym (corner-flipped s (r .0)) ∙ r .4 ∙ corner-flipped t (r .1))
+
+same-true : (a b : Bool) → (a ≡ true → b ≡ true) → (b ≡ true → a ≡ true) → a ≡ b
+same-true true b f g = sym (f refl)
+same-true false true f g = g refl
+same-true false false f g = refl
+
+-- turned over, two triangles share an id where they did
+pub share-flipped : (s t : Triangle) → shareId (flip s) (flip t) ≡ shareId s t
+share-flipped s t = same-true _ _ (flipped-once s t) (flipped-once (flip s) (flip t))

@@ -75,7 +75,7 @@ fn winding_at_one_in_fifty() {
 fn a_wrong_routine_is_found() {
     type Port = fn(&[u32], &mut [u32]) -> u32;
     let wrong: [(&str, Port); 6] = [
-        // the chain of eight ids counts
+        // six ids make a chain
         ("edge_chain", |ids, work| match (routine("edge_chain").port)(ids, work) {
             0 if ids.len() == 6 && (routine("face_net").rust)(ids) == 1 => 1,
             answer => answer,

@@ -23,8 +23,7 @@ fn weight(u: u32, v: u32) -> u32
     if u < v { 65536 } else { 1 }
 }
 
-// The hash of an edge. The two factors are far from any ratio of small numbers, and so are their sum and difference, so that the edges of a
-// grid of ids spread.
+// The hash of an edge. The two factors were chosen so that the edges of grids, strips and mirrored rims spread.
 fn hash(low: u32, high: u32) -> u32
     ensures { λ r. ⌜ r ≡ hashOf (record { low = low; high = high }) ⌝ }
 {

@@ -1,9 +1,8 @@
 -- `chain::chain_in` meets its contract: what the three counts say of the rows is what document 01 asks of the edges. Assumes nothing.
 use mathlib.Core.Path.{_≡_, _∙_}
-use Prim.Native.Nat.{_*_}
-use lib.ListN.{length}
 use Rattle.ids.proofs.Lent.{cleared-all}
-use Rattle.edges.proofs.Tally.{zero-table, table-tally}
+use Rattle.chain.proofs.Chain.{emptied}
+use Rattle.edges.proofs.Tally.{table-tally}
 use Rattle.ids.specs.EdgeChain.{chain, edgesThat, present, unbalanced, crowded, boundaryFree, overIncident}
 use Rattle.edges.specs.Tests.{testOf}
 use native.Mathlib.Omega.{arith}
@@ -21,11 +20,7 @@ clear-requires : tie.Need-clear-requires
 clear-requires c κs = search needs
 
 gather-chain-requires : tie.Need-gather-chain-requires
-gather-chain-requires c κs =
-    let s = c .before .before .before .before .before .before .before .before in
-    let k = c .before .before .before .clear in
-    let n = c .before .before .before .before .before .rows in
-    (s .pre .0, omega (arith, n .ensures), omega (arith, n .ensures, s .pre .0), omega (arith, n .ensures, s .pre .1, k .kept), rw (k .ensures, cleared-all _ _ (s .pre .1)) (zero-table (n .result) (4 * length (s .args .ids .now)) (omega (arith, n .ensures))))
+gather-chain-requires c κs = emptied _ _ _ _ (c .before .before .before .before .before .before .before .before .pre .0) (c .before .before .before .before .before .before .before .before .pre .1) (c .before .before .before .before .before .rows .ensures) (c .before .before .before .clear .ensures) (c .before .before .before .clear .kept .0)
 
 count-requires : tie.Need-count-requires
 count-requires c κs = search needs

@@ -1,9 +1,8 @@
 -- `chain::manifold_in` meets its contract: no edge is unpaired. Assumes nothing.
 use mathlib.Core.Path.{_≡_, _∙_}
-use Prim.Native.Nat.{_*_}
-use lib.ListN.{length}
 use Rattle.ids.proofs.Lent.{cleared-all}
-use Rattle.edges.proofs.Tally.{zero-table, table-tally}
+use Rattle.chain.proofs.Chain.{emptied}
+use Rattle.edges.proofs.Tally.{table-tally}
 use Rattle.ids.specs.EdgeChain.{properEdges, edgesThat, unpaired, closedManifold}
 use Rattle.edges.specs.Tests.{testOf, edgesOf}
 use native.Mathlib.Omega.{arith}
@@ -21,11 +20,7 @@ clear-requires : tie.Need-clear-requires
 clear-requires c κs = search needs
 
 gather-requires : tie.Need-gather-requires
-gather-requires c κs =
-    let s = c .before .before .before .before .before .before .before .before in
-    let k = c .before .before .before .clear in
-    let n = c .before .before .before .before .before .rows in
-    (s .pre .0, omega (arith, n .ensures), omega (arith, n .ensures, s .pre .0), omega (arith, n .ensures, s .pre .1, k .kept), rw (k .ensures, cleared-all _ _ (s .pre .1)) (zero-table (n .result) (4 * length (s .args .ids .now)) (omega (arith, n .ensures))))
+gather-requires c κs = emptied _ _ _ _ (c .before .before .before .before .before .before .before .before .pre .0) (c .before .before .before .before .before .before .before .before .pre .1) (c .before .before .before .before .before .rows .ensures) (c .before .before .before .clear .ensures) (c .before .before .before .clear .kept .0)
 
 count-requires : tie.Need-count-requires
 count-requires c κs = search needs

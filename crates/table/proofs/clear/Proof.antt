@@ -1,5 +1,5 @@
 -- `table::clear` meets its contract: the first i words are zero, the rest is as it was. Assumes nothing.
-use mathlib.Core.Path.{_≡_, ap, _∙_}
+use mathlib.Core.Path.{_≡_, refl, ap, _∙_}
 use mathlib.Core.List.{_++_}
 use Prim.Native.Nat.{ℕ, _≤_, _-_}
 use native.Mathlib.Omega.{arith}
@@ -11,13 +11,13 @@ use Rattle.table.proofs.clear.Statement.{statement}
 use Rattle.table.proofs.clear.Tie as tie
 
 abbrev Inv-loop : tie.InvT-loop
-Inv-loop work₀ n i₀ work i = (i ≤ n) × (work ≡ replicate i 0 ++ drop i work₀) × (length work ≡ length work₀)
+Inv-loop work₀ n i₀ work i = (work ≡ replicate i 0 ++ drop i work₀) × (i ≤ n) × (length work ≡ length work₀)
 
 abbrev μ-loop : tie.MeasureT-loop
 μ-loop work₀ n i₀ work i = n - i
 
 loop-holds : tie.Need-loop-holds Inv-loop μ-loop
-loop-holds c = search needs
+loop-holds c = (refl, omega arith, refl)
 
 mul-work : tie.Need-mul-work Inv-loop μ-loop
 mul-work c = search needs
@@ -35,7 +35,7 @@ loop-again : tie.Need-loop-again Inv-loop μ-loop
 loop-again c =
     let w = c .before .loop in
     let d = c .before .before .args .work .now in
-    (omega arith, rw (w .inv .1) (fill-more (w .i) 0 d (omega arith)), simp length-set (w .inv .2))
+    (rw (w .inv .0) (fill-more (w .i) 0 d (omega arith)), omega arith, simp length-set (w .inv .2))
 
 same-length : tie.Need-same-length Inv-loop μ-loop
 same-length c = search needs
@@ -46,7 +46,7 @@ returns c =
     let w = c .before .loop in
     let d = c .before .before .args .work .now in
     let e : w .i ≡ c .before .before .args .n = omega arith in
-    w .inv .1 ∙ ap (λ (k : ℕ). replicate k 0 ++ drop k d) e
+    w .inv .0 ∙ ap (λ (k : ℕ). replicate k 0 ++ drop k d) e
 
 pub clear-spec : {M : Type 1} → statement M
 clear-spec =

@@ -1,7 +1,8 @@
 //! Lays the unchanged text of the Rust original, with our probe behind it, where the crate can compile it.
 //! The original is read from the folder in MOWFROST_RUST (absolute, or relative to oracle/), by default from
 //! ../shared/docs/src beside the repository. Its text goes to cargo's output folder and nowhere else.
-//! Links the port's static library where it was built (`rt staticlib capi`) and this machine can run it.
+//! Links the port's static library where it was built (`rt staticlib capi`) and this machine can run it, or the one in
+//! the folder MOWFROST_PORT.
 
 use std::path::{Path, PathBuf};
 use std::{env, fs, process};
@@ -14,6 +15,7 @@ const QTO_AS_PORTED: u64 = 0x40bd_0ba7_bba1_f74b;
 
 fn main() {
     println!("cargo:rerun-if-env-changed=MOWFROST_RUST");
+    println!("cargo:rerun-if-env-changed=MOWFROST_PORT");
     println!("cargo:rerun-if-changed=probe.rs");
     println!("cargo:rerun-if-changed=build.rs");
     let here = PathBuf::from(env::var_os("CARGO_MANIFEST_DIR").expect("cargo sets CARGO_MANIFEST_DIR"));
@@ -40,13 +42,15 @@ fn main() {
 }
 
 /// Sets `port` where the static library is there. It is x86-64 code, so on another machine the runs against the port
-/// are left out; so they are before the library is built.
+/// are left out; so they are before the library is built. MOWFROST_PORT (absolute, or relative to oracle/) is a folder with a
+/// library for the machine that is built for, whatever it is.
 fn link_port(here: &Path) {
     println!("cargo:rustc-check-cfg=cfg(port)");
-    let folder = here.join("../target/staticlib");
+    let named = env::var_os("MOWFROST_PORT").map(|folder| here.join(folder));
+    let fits = named.is_some() || env::var("CARGO_CFG_TARGET_ARCH").is_ok_and(|arch| arch == "x86_64");
+    let folder = named.unwrap_or_else(|| here.join("../target/staticlib"));
     let library = folder.join("libcapi.a");
     println!("cargo:rerun-if-changed={}", library.display());
-    let fits = env::var("CARGO_CFG_TARGET_ARCH").is_ok_and(|arch| arch == "x86_64");
     if fits && library.exists() {
         println!("cargo:rustc-cfg=port");
         println!("cargo:rustc-link-search=native={}", folder.display());

@@ -17,6 +17,10 @@ pub mod kinds;
 pub mod listing;
 pub mod pieces;
 pub mod random;
+#[cfg(port)]
+pub mod raster;
 pub mod reach;
 pub mod record;
 pub mod solids;
+#[cfg(port)]
+pub mod weld;

@@ -7,6 +7,10 @@ use mowfrost_oracle::record::Exception;
 use std::io::{self, BufWriter, ErrorKind, Read, Write};
 use std::process::ExitCode;
 
+mod port;
+
+use port::Run;
+
 const USAGE: &str = "\
 oracle: the unchanged Rust original, asked in document 01's words
 
@@ -17,7 +21,8 @@ oracle: the unchanged Rust original, asked in document 01's words
   oracle kinds                 names the kinds, in the order in which 'meshes' takes them
   oracle reach SEED COUNT      counts what those meshes reach: verdicts, methods, refusals, branches
 
-Against the port (x86-64; first, at the root of the repository: rt staticlib capi):
+Against the port (x86-64; first, at the root of the repository: rt staticlib capi. For another machine MOWFROST_PORT names
+a folder with a libcapi.a of its kind when this is built):
 
   oracle floats N              every float helper on edge patterns and N by chance each, against Rust's operation;
                                last line 'A agree, D differ'
@@ -27,6 +32,11 @@ Against the port (x86-64; first, at the root of the repository: rt staticlib cap
                                exact, one word short and longer, against the original (pieces: a plain reference);
                                answers, refusals and every word of the area; last line 'A agree, D differ'
   oracle speed ids             milliseconds a list, the port's routine and the original's
+  oracle weld N                the weld on large meshes and on N by chance: new ids and every word of the lent part; then ε
+  oracle speed weld            milliseconds a weld
+  oracle raster N              the point test on N points, the footprint on large meshes and on N by chance: its bits and
+                               every byte of the lent raster
+  oracle speed raster          milliseconds for the three footprints of a mesh
 ";
 
 fn main() -> ExitCode {
@@ -40,17 +50,18 @@ fn main() -> ExitCode {
             (Ok(seed), Ok(count)) => print_reach(seed, count),
             _ => return usage("SEED and COUNT are whole numbers from 0 up"),
         },
-        ["floats", "all"] => port::floats_all(),
-        ["floats", n] => match n.parse() {
-            Ok(n) => port::floats(n),
-            Err(_) => return usage("N is a whole number from 0 up, or 'all'"),
+        ["floats", "all"] => port::run(Run::FloatsAll),
+        [command @ ("floats" | "ids" | "weld" | "raster"), n] => match (*command, n.parse()) {
+            ("floats", Ok(n)) => port::run(Run::Floats(n)),
+            ("ids", Ok(n)) => port::run(Run::Ids(n)),
+            ("weld", Ok(n)) => port::run(Run::Weld(n)),
+            (_, Ok(n)) => port::run(Run::Raster(n)),
+            _ => return usage("N is a whole number from 0 up, or 'all' of floats"),
         },
-        ["ids", n] => match n.parse() {
-            Ok(n) => port::ids(n),
-            Err(_) => return usage("N is a whole number from 0 up"),
-        },
-        ["speed", "floats"] => port::speed_floats(),
-        ["speed", "ids"] => port::speed_ids(),
+        ["speed", "floats"] => port::run(Run::SpeedFloats),
+        ["speed", "ids"] => port::run(Run::SpeedIds),
+        ["speed", "weld"] => port::run(Run::SpeedWeld),
+        ["speed", "raster"] => port::run(Run::SpeedRaster),
         ["help" | "--help" | "-h"] => {
             print!("{USAGE}");
             return ExitCode::SUCCESS;
@@ -71,123 +82,6 @@ fn main() -> ExitCode {
 fn usage(why: &str) -> ExitCode {
     eprint!("oracle: {why}\n{USAGE}");
     ExitCode::from(2)
-}
-
-/// The runs that need the port's static library.
-#[cfg(port)]
-mod port {
-    use mowfrost_oracle::floats::compare::{on_all_32, on_chance, on_edges, Count};
-    use mowfrost_oracle::floats::helpers::{Width, HELPERS};
-    use mowfrost_oracle::floats::speed;
-    use mowfrost_oracle::ids;
-    use std::io::{self, Write};
-    use std::process::ExitCode;
-
-    pub fn floats(n: u64) -> io::Result<ExitCode> {
-        let counts = HELPERS.iter().enumerate().map(|(i, helper)| {
-            let (edges, chance) = (on_edges(helper), on_chance(helper, i as u64, n));
-            (helper.name, vec![("edges", edges), ("by chance", chance)])
-        });
-        tell(counts)
-    }
-
-    pub fn floats_all() -> io::Result<ExitCode> {
-        let helpers = HELPERS.iter().filter(|helper| helper.width == Width::F32 && helper.second.is_none());
-        tell(helpers.map(|helper| (helper.name, vec![("all patterns", on_all_32(helper))])))
-    }
-
-    fn tell(counts: impl Iterator<Item = (&'static str, Vec<(&'static str, Count)>)>) -> io::Result<ExitCode> {
-        sum(counts.flat_map(|(name, parts)| {
-            parts.into_iter().map(move |(on, Count { agree, differ, open, shown })| {
-                let line =
-                    format!("{name:<12} {on:<12} {agree:>11} agree, {differ} differ ({open} that Rust leaves open)");
-                (line, agree, differ, shown)
-            })
-        }))
-    }
-
-    pub fn ids(n: u64) -> io::Result<ExitCode> {
-        sum(ids::compare::all(n).flat_map(|(name, parts)| {
-            parts.into_iter().map(move |(on, ids::compare::Count { agree, differ, refused, answered, shown })| {
-                let [none, one, two, three, more] = answered;
-                let line = format!(
-                    "{name:<18} {on:<9} {agree:>9} agree, {differ} differ ({refused} refused, {none} answer 0, {one} 1, \
-                     {two} 2, {three} 3, {more} more)"
-                );
-                (line, agree, differ, shown)
-            })
-        }))
-    }
-
-    /// Prints each line with what it shows, then the sums.
-    fn sum(lines: impl Iterator<Item = (String, u64, u64, Vec<String>)>) -> io::Result<ExitCode> {
-        let mut out = io::stdout().lock();
-        let (mut agree, mut differ) = (0, 0);
-        for (line, a, d, shown) in lines {
-            writeln!(out, "{line}")?;
-            for line in shown {
-                writeln!(out, "  {line}")?;
-            }
-            (agree, differ) = (agree + a, differ + d);
-        }
-        writeln!(out, "{agree} agree, {differ} differ")?;
-        Ok(if differ == 0 { ExitCode::SUCCESS } else { ExitCode::FAILURE })
-    }
-
-    pub fn speed_floats() -> io::Result<ExitCode> {
-        let mut out = io::stdout().lock();
-        writeln!(out, "| helper | on | port, ns | Rust, ns | ratio |\n|---|---|---|---|---|")?;
-        for row in speed::rows() {
-            let ratio = row.port / row.rust;
-            writeln!(out, "| `{}` | {} | {:.1} | {:.1} | {ratio:.1} |", row.name, row.on, row.port, row.rust)?;
-        }
-        Ok(ExitCode::SUCCESS)
-    }
-
-    pub fn speed_ids() -> io::Result<ExitCode> {
-        let mut out = io::stdout().lock();
-        writeln!(out, "| routine | list | ids | port, ms | Rust, ms | ratio |\n|---|---|---|---|---|---|")?;
-        for row in ids::speed::rows().iter().chain(&ids::speed::worst()) {
-            let ratio = row.port / row.rust;
-            let (name, on, ids) = (row.name, &row.on, row.ids);
-            writeln!(out, "| `{name}` | {on} | {ids} | {:.3} | {:.3} | {ratio:.2} |", row.port, row.rust)?;
-        }
-        Ok(ExitCode::SUCCESS)
-    }
-}
-
-#[cfg(not(port))]
-mod port {
-    use std::io;
-    use std::process::ExitCode;
-
-    fn missing() -> io::Result<ExitCode> {
-        eprintln!(
-            "oracle: built without the port's static library. On x86-64, at the root of the repository: rt staticlib capi; \
-             then build anew"
-        );
-        Ok(ExitCode::from(2))
-    }
-
-    pub fn floats(_: u64) -> io::Result<ExitCode> {
-        missing()
-    }
-
-    pub fn floats_all() -> io::Result<ExitCode> {
-        missing()
-    }
-
-    pub fn speed_floats() -> io::Result<ExitCode> {
-        missing()
-    }
-
-    pub fn ids(_: u64) -> io::Result<ExitCode> {
-        missing()
-    }
-
-    pub fn speed_ids() -> io::Result<ExitCode> {
-        missing()
-    }
 }
 
 fn print_listings() -> io::Result<ExitCode> {

@@ -1,11 +1,135 @@
 // For the differential runs alone, and in no header: what C has no name for.
-ghost use lib.Ieee.{binary32, ofBits};
+ghost use lib.Dec.{eqb, leb, ltb};
+ghost use lib.Ieee.{binary32, binary64, ofBits, toSigned};
+ghost use lib.ListN.{length, replicate};
+ghost use mathlib.Core.Bool.{_&&_, cond};
+ghost use mathlib.Core.List.{_++_};
 ghost use mathlib.Core.Path.{_≡_};
+ghost use Prim.Native.Nat.{_+_, _*_, min};
 ghost use Rattle.ieee.specs.Cube.{cubeAbove};
+ghost use Rattle.ieee.specs.Integral.{halfAway};
+ghost use Rattle.ieee.specs.Single.{nought};
+ghost use Rattle.ids.specs.Lent.{cleared};
+ghost use Rattle.vertices.specs.Vertices.{vertexCount};
+ghost use Rattle.weld.specs.Weld.{epsilonOf, welded};
+ghost use Rattle.grid.specs.Point.{pointIn};
+ghost use Rattle.raster.specs.Footprint.{footprint};
+ghost use Rattle.raster.specs.Painted.{axisNumber};
+use grid::Flat;
+use raster::Axis;
 
 #[no_mangle]
 pub extern "C" fn probe_cube_above(s: u32, p: u32) -> bool
     ensures { λ r. ⌜ r ≡ cubeAbove (ofBits binary32 s) (ofBits binary32 p) ⌝ }
 {
     floats::cube_above_bits(s, p)
+}
+
+#[no_mangle]
+pub extern "C" fn probe_round_to_i64(x: u64) -> i64
+    ensures { λ r. ⌜ r ≡ toSigned 63 (halfAway binary64 (ofBits binary64 x)) ⌝ }
+{
+    floats::round_to_i64(floats::f64_of(x))
+}
+
+#[no_mangle]
+pub extern "C" fn probe_epsilon(distance: f32, unit: f32) -> f32
+    ensures { λ r. ⌜ r ≡ epsilonOf distance unit ⌝ }
+{
+    weld::epsilon(distance, unit)
+}
+
+// The weld, where there are not too many vertices and the part has just the words needed; else nothing is done.
+#[no_mangle]
+pub extern "C" fn probe_welded_indices(
+    vertices: &[f32],
+    ids: &[u32],
+    eps: f32,
+    part: &mut [u32],
+) -> bool
+    ensures { λ r. ⌜ (r ≡ (leb (length (now (vertices .entry))) 98304
+        && eqb (length (now (part .entry))) (8 * vertexCount (now (vertices .entry)) + length (now (ids .entry)))))
+        × (now (part .exit) ≡ cond r (replicate (8 * vertexCount (now (vertices .entry))) 0 ++ welded (now (vertices .entry)) (now (ids .entry)) eps) (now (part .entry))) ⌝ }
+{
+    if 98304 < vertices.len() {
+        return false;
+    }
+    let needed = 8 * (vertices.len() / 3) + ids.len();
+    if part.len() == needed {
+        weld::welded_indices(vertices, ids, eps, part);
+        return true;
+    }
+    false
+}
+
+#[no_mangle]
+pub extern "C" fn probe_point_in_triangle(
+    px: f32,
+    py: f32,
+    ax: f32,
+    ay: f32,
+    bx: f32,
+    by: f32,
+    cx: f32,
+    cy: f32,
+) -> bool
+    ensures { λ r. ⌜ r ≡ pointIn px py (record { ax = ax; ay = ay; bx = bx; by = by; cx = cx; cy = cy }) ⌝ }
+{
+    grid::point_in_triangle(
+        px,
+        py,
+        Flat {
+            ax,
+            ay,
+            bx,
+            by,
+            cx,
+            cy,
+        },
+    )
+}
+
+// 0 is x, 1 is y, and any other number z.
+fn axis(n: u32) -> Axis
+    ensures { λ r. ⌜ axisNumber r ≡ min n 2 ⌝ }
+{
+    if n == 0 {
+        Axis::X
+    } else if n == 1 {
+        Axis::Y
+    } else {
+        Axis::Z
+    }
+}
+
+// The footprint, where the raster is long enough; else nothing is done, and the answer is 0.
+#[no_mangle]
+pub extern "C" fn probe_footprint_raw(
+    vertices: &[f32],
+    ids: &[u32],
+    u_axis: u32,
+    v_axis: u32,
+    xmin: f32,
+    xmax: f32,
+    ymin: f32,
+    ymax: f32,
+    area: &mut [u8],
+) -> f32
+    ensures { λ r. ⌜ (r ≡ cond (ltb (length (now (area .entry))) 65536) nought (footprint (now (vertices .entry)) (now (ids .entry)) (min «u_axis» 2) (min «v_axis» 2) xmin xmax ymin ymax))
+        × (now (area .exit) ≡ cond (ltb (length (now (area .entry))) 65536) (now (area .entry)) (cleared 65536 (now (area .entry)))) ⌝ }
+{
+    if area.len() < 65536 {
+        return 0.0;
+    }
+    raster::footprint_raw(
+        vertices,
+        ids,
+        axis(u_axis),
+        axis(v_axis),
+        xmin,
+        xmax,
+        ymin,
+        ymax,
+        area,
+    )
 }

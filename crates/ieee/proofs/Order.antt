@@ -5,6 +5,8 @@ pub mod Signed
 pub mod Extremes
 pub mod Monotone
 pub mod Rising
+pub mod Differences
+pub mod Magnitudes
 pub mod Quotients
 pub mod Ranges
 pub mod Casts

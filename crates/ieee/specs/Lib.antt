@@ -11,4 +11,5 @@ pub mod Nearest
 pub mod Cube
 pub mod Answers
 pub mod Fields
+pub mod Single
 pub mod Examples

@@ -124,7 +124,7 @@ module _ (ids t u : List ℕ) (odd limit spare c r : ℕ) (z : Slots ids odd lim
     by i P a b = elim (ℕ-discrete i r) [ yes e ↦ subst P (sym e) a | no ne ↦ b ne ]
 
     written : Written (length t) r (keyOf ids c) (keyIn ids (slotIn t)) (keyIn ids (slotIn v)) (slotIn t) (slotIn v)
-    written = record { key-at = key-here; mark-at = omega (arith, here); key-off = λ i l ne. ap (λ (x : ℕ). keyOf ids (x - 1)) (else i ne); mark-off = λ i l ne. else i ne }
+    written = record { key-at = key-here; mark-at = omega (arith, here); key-off = λ i l ne u. ap (λ (x : ℕ). keyOf ids (x - 1)) (else i ne); mark-off = λ i l ne. else i ne }
 
     slots-held : Slots ids odd limit (length t) (slotIn v)
     slots-held =

@@ -126,7 +126,7 @@ module _ {K : Type 0} (same : K → K → Bool) (same-eq : (a b : K) → same a 
       (home-in : home (x .key) < n) (m : Means same n home key cnt up es) (f : Found n (home (x .key)) key cnt (x .key) r) where
     module _ (key′ : ℕ → K) (cnt′ up′ : ℕ → ℕ) (b : Bumped r (x .key) (x .up) key key′ cnt cnt′ up up′) where
       written : Written n r (x .key) key key′ cnt cnt′
-      written = record { key-at = b .key-at; mark-at = omega (arith, b .cnt-at); key-off = λ i l. b .key-off i; mark-off = λ i l. b .cnt-off i }
+      written = record { key-at = b .key-at; mark-at = omega (arith, b .cnt-at); key-off = λ i l ne u. b .key-off i ne; mark-off = λ i l. b .cnt-off i }
 
       pub step : Means same n home key′ cnt′ up′ (es ++ x ∷ [])
       step = record {
@@ -143,7 +143,7 @@ unfolding gate
 gate-zero zero = refl
 gate-zero (suc c) = refl
 
-sumTo-none : (f : ℕ → ℕ) (n : ℕ) → ((i : ℕ) → i < n → f i ≡ 0) → sumTo f n ≡ 0
+pub sumTo-none : (f : ℕ → ℕ) (n : ℕ) → ((i : ℕ) → i < n → f i ≡ 0) → sumTo f n ≡ 0
 unfolding sumTo
 sumTo-none f zero h = refl
 sumTo-none f (suc n) h = omega (arith, sumTo-none f n (λ i l. h i (omega arith)), h n (omega arith))

@@ -99,11 +99,11 @@ has-free cnt n l = ⊎-elim (λ w. w) (λ all. absurd (omega (arith, sumTo-pos c
 
 -- ---- the table
 
--- row r is k's now, and the others are as they were
+-- row r is k's now, and the others are as they were, but for the key of a free row, which means nothing
 pub record Written {K : Type 0} (n r : ℕ) (k : K) (key key′ : ℕ → K) (mark mark′ : ℕ → ℕ) : Type 0 where
   pub key-at : key′ r ≡ k
   pub mark-at : 0 < mark′ r
-  pub key-off : (i : ℕ) → i < n → i ≢ r → key′ i ≡ key i
+  pub key-off : (i : ℕ) → i < n → i ≢ r → 0 < mark i → key′ i ≡ key i
   pub mark-off : (i : ℕ) → i < n → i ≢ r → mark′ i ≡ mark i
 
 module _ {K : Type 0} (n : ℕ) (home : K → ℕ) (key : ℕ → K) (mark : ℕ → ℕ) (k : K) (r : ℕ)
@@ -122,14 +122,19 @@ module _ {K : Type 0} (n : ℕ) (home : K → ℕ) (key : ℕ → K) (mark : ℕ
   module _ (key′ : ℕ → K) (mark′ : ℕ → ℕ) (w : Written n r k key key′ mark mark′) where
     one′ : (i j : ℕ) → Dec (i ≡ r) → Dec (j ≡ r) → i < n → 0 < mark′ i → j < n → 0 < mark′ j → key′ i ≡ key′ j → i ≡ j
     one′ i j (yes e) (yes e′) li ci lj cj q = e ∙ sym e′
-    one′ i j (yes e) (no ne) li ci lj cj q = absurd (other j lj (rw (w .mark-off j lj ne) at cj) ne (sym (w .key-off j lj ne) ∙ sym q ∙ ap key′ e ∙ w .key-at))
-    one′ i j (no ne) (yes e) li ci lj cj q = absurd (other i li (rw (w .mark-off i li ne) at ci) ne (sym (w .key-off i li ne) ∙ q ∙ ap key′ e ∙ w .key-at))
-    one′ i j (no ne) (no nj) li ci lj cj q = m .one i j li (rw (w .mark-off i li ne) at ci) lj (rw (w .mark-off j lj nj) at cj) (sym (w .key-off i li ne) ∙ q ∙ w .key-off j lj nj)
+    one′ i j (yes e) (no ne) li ci lj cj q = let u : 0 < mark j = rw (w .mark-off j lj ne) at cj in absurd (other j lj u ne (sym (w .key-off j lj ne u) ∙ sym q ∙ ap key′ e ∙ w .key-at))
+    one′ i j (no ne) (yes e) li ci lj cj q = let u : 0 < mark i = rw (w .mark-off i li ne) at ci in absurd (other i li u ne (sym (w .key-off i li ne u) ∙ q ∙ ap key′ e ∙ w .key-at))
+    one′ i j (no ne) (no nj) li ci lj cj q =
+        let u : 0 < mark i = rw (w .mark-off i li ne) at ci in
+        let v : 0 < mark j = rw (w .mark-off j lj nj) at cj in
+        m .one i j li u lj v (sym (w .key-off i li ne u) ∙ q ∙ w .key-off j lj nj v)
 
     reach′ : (i j : ℕ) → Dec (i ≡ r) → Dec (j ≡ r) → i < n → 0 < mark′ i → j < n → dist n (home (key′ i)) j < dist n (home (key′ i)) i → 0 < mark′ j
     reach′ i j d (yes e) li ci lj l = rw e (w .mark-at)
     reach′ i j (yes e) (no nj) li ci lj l = rw (w .mark-off j lj nj) (f .passed j lj (rw (e, w .key-at) at l) .0)
-    reach′ i j (no ne) (no nj) li ci lj l = rw (w .mark-off j lj nj) (m .reach i j li (rw (w .mark-off i li ne) at ci) lj (rw (w .key-off i li ne) at l))
+    reach′ i j (no ne) (no nj) li ci lj l =
+        let u : 0 < mark i = rw (w .mark-off i li ne) at ci in
+        rw (w .mark-off j lj nj) (m .reach i j li u lj (rw (w .key-off i li ne u) at l))
 
     pub spread-step : Spread n home key′ mark′
     spread-step = record { one = λ i j. one′ i j (ℕ-discrete i r) (ℕ-discrete j r); reach = λ i j. reach′ i j (ℕ-discrete i r) (ℕ-discrete j r) }

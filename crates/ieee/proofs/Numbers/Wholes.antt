@@ -39,6 +39,10 @@ whole-le cut a b B = omega arith
 whole-le away a b B = div-le (a + (b - 1)) b (a / b + 1) B (omega (arith, lt-next a b B))
 whole-le half a b B = div-le (2 * a + b) (2 * b) (a / b + 1) (omega arith) (omega (arith, lt-next a b B))
 
+-- below a half there is nothing
+pub half-none : (a b : ℕ) → 2 * a < b → toWhole half a b ≡ 0
+half-none a b h = div-eq-of-lt (omega arith)
+
 -- far below a half it only counts whether there is anything
 some : Way → ℕ → ℕ
 some cut a = 0
@@ -50,7 +54,7 @@ unfolding some
 tiny cut a b h = div-eq-of-lt (omega arith)
 tiny away zero b h = div-eq-of-lt (omega arith)
 tiny away (suc a) b h = let one : 1 ≡ min (suc a) 1 = omega arith in div-eq-of-lt-le {k = 1} b (omega arith) (omega arith) ∙ one
-tiny half a b h = div-eq-of-lt (omega arith)
+tiny half a b h = half-none a b h
 
 pub whole-tiny : (w : Way) (a b c d : ℕ) → 2 * a < b → 2 * c < d → min a 1 ≡ min c 1 → toWhole w a b ≡ toWhole w c d
 unfolding some

@@ -20,10 +20,10 @@ use Rattle.ieee.proofs.Values.OneFloat.{round-zero}
 use Rattle.ieee.proofs.Numbers.Wholes.{scaled, whole-one, whole-same}
 
 -- ---- the sign of what is rounded
-plus : (f : Format) (a c : ℕ) → 0 < c → T (le (fin false 0 (pos 0)) (round f false a c))
+pub plus : (f : Format) (a c : ℕ) → 0 < c → T (le (fin false 0 (pos 0)) (round f false a c))
 plus f a c C = rw (← round-zero f false 1 (lit< tt)) (round-mono f 0 1 a c (lit< tt) C (omega arith))
 
-minus : (f : Format) (a c : ℕ) → 0 < c → T (le (round f true a c) (fin true 0 (pos 0)))
+pub minus : (f : Format) (a c : ℕ) → 0 < c → T (le (round f true a c) (fin true 0 (pos 0)))
 unfolding neg
 minus f a c C = rw (← round-neg f false a c) (rw (le-neg (round f false a c) (fin false 0 (pos 0))) (plus f a c C))
 

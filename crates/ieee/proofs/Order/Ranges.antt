@@ -35,7 +35,7 @@ min-below : (a d : ℕ) → a ≤ d → min a d ≡ a
 min-below a d h = omega arith
 
 -- a / c is the size, so its whole part is too
-same-size : (m : ℕ) (e : ℤ) (s t : Bool) (a c : ℕ) → 0 < c → HasValue (fin t m e) s a c → m * up e / down e ≡ a / c
+pub same-size : (m : ℕ) (e : ℤ) (s t : Bool) (a c : ℕ) → 0 < c → HasValue (fin t m e) s a c → m * up e / down e ≡ a / c
 same-size m e s t a c C v = whole-same cut (m * up e) (down e) a c (down-pos e) C (v .1)
 
 -- `lt` for `le`, whose comparison of products is one

@@ -63,7 +63,7 @@ same-test true false h k = absurd (h tt)
 same-test false true h k = absurd (k tt)
 same-test false false h k = refl
 
-both-lt : (a b c d : ℕ) → (a < b → c < d) → (c < d → a < b) → ltb a b ≡ ltb c d
+pub both-lt : (a b c d : ℕ) → (a < b → c < d) → (c < d → a < b) → ltb a b ≡ ltb c d
 both-lt a b c d h k = same-test (ltb a b) (ltb c d) (λ t. lt→ltb c d (h (ltb→lt a b t))) (λ t. lt→ltb a b (k (ltb→lt c d t)))
 
 both-eq : (a b c d : ℕ) → (a ≡ b → c ≡ d) → (c ≡ d → a ≡ b) → eqb a b ≡ eqb c d
@@ -81,7 +81,7 @@ either-leb i j =
     ]
 
 module _ (n a b : ℕ) (A : a ≤ n) (B : b ≤ n) where
-  below-rank : (s t : Bool) → below s a t b ≡ ltb (rank n s a) (rank n t b)
+  pub below-rank : (s t : Bool) → below s a t b ≡ ltb (rank n s a) (rank n t b)
   below-rank false false = both-lt a b (n + a) (n + b) (λ h. omega arith) (λ h. omega arith)
   below-rank false true = sym (le-ltb (n + a) (n - b) (omega arith))
   below-rank true false = both-lt 0 (a + b) (n - a) (n + b) (λ h. omega arith) (λ h. omega arith)

@@ -79,7 +79,7 @@ pub value : (x : Float) (b : ℕ) → ofBits binary64 b ≡ x → (s : Bool) →
 value x b is s g h = rw (← is, ← g) (read-value binary64 b h)
 
 module _ (f : Format) (above below : Way) (x : Float) (b : ℕ) (is : ofBits binary64 b ≡ x) where
-  small : (s : Bool) (n : ℕ) → leb (2 ^ 63) b ≡ s → field b < 1075 → n ≡ toWhole (cond s below above) (size-of b) (2 ^ 1074)
+  pub small : (s : Bool) (n : ℕ) → leb (2 ^ 63) b ≡ s → field b < 1075 → n ≡ toWhole (cond s below above) (size-of b) (2 ^ 1074)
       → round f s n 1 ≡ integral f above below x
   small s n g h r = rw r (sym (integral-at f above below x s (size-of b) (2 ^ 1074) (pow-pos 1074) (value x b is s g (omega arith))))
 

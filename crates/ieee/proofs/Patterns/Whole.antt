@@ -9,7 +9,7 @@ use Rattle.ieee.specs.Fields.{exp, sized}
 use Rattle.ieee.specs.Integral.{Way, half, toWhole}
 use Rattle.ieee.proofs.Patterns.Fields.{exp-le, sig-lt}
 use Rattle.ieee.proofs.Numbers.Basic.{pow-half}
-use Rattle.ieee.proofs.Numbers.Wholes.{whole-same, whole-tiny}
+use Rattle.ieee.proofs.Numbers.Wholes.{half-none, whole-same, whole-tiny}
 
 -- a half of 2 ^ j is added, and the fraction dropped
 pub half-shift : (d j : ℕ) → 0 < j → (d + 2 ^ (j - 1)) / 2 ^ j ≡ toWhole half d (2 ^ j)
@@ -21,10 +21,17 @@ half-shift d j h =
 twice-lt : (n k l : ℕ) → n < 2 ^ k → k < l → 2 * n < 2 ^ l
 twice-lt n k l h g = lt-of-lt-of-le (omega (arith, pow-succ' 2 k)) (pow-mono g)
 
+small-size : (e t : ℕ) → e ≤ 1012 → t < 2 ^ 52 → 2 * sized binary64 e t < 2 ^ 1074
+small-size e t h l = twice-lt (sized binary64 e t) (53 + exp e) 1074 (shl-lt 53 (exp e) (sig-lt e t l)) (omega (arith, exp-le e))
+
+-- far below a half there is nothing, and of any digits a shift by 63 leaves nothing
+pub none-size : (e t : ℕ) → e ≤ 1012 → t < 2 ^ 52 → toWhole half (2 ^ 52 + t) (2 ^ 63) ≡ toWhole half (sized binary64 e t) (2 ^ 1074)
+none-size e t h l = half-none (2 ^ 52 + t) (2 ^ 63) (omega arith) ∙ sym (half-none (sized binary64 e t) (2 ^ 1074) (small-size e t h l))
+
 pub tiny-size : (w : Way) (e t : ℕ) → e < 1012 → t < 2 ^ 52 → toWhole w (e + t) (2 ^ 63) ≡ toWhole w (sized binary64 e t) (2 ^ 1074)
 tiny-size w e t h l =
     whole-tiny w (e + t) (2 ^ 63) (sized binary64 e t) (2 ^ 1074) (omega arith)
-    (twice-lt (sized binary64 e t) (53 + exp e) 1074 (shl-lt 53 (exp e) (sig-lt e t l)) (omega (arith, exp-le e))) (some e)
+    (small-size e t (omega arith) l) (some e)
   where
     some : (e : ℕ) → min (e + t) 1 ≡ min (sized binary64 e t) 1
     some zero = omega arith

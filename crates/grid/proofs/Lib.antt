@@ -1,0 +1,3 @@
+-- The laws that the proofs of functions cite.
+mod Sides
+mod Floors

@@ -1,0 +1,3 @@
+-- The point test, and the arithmetic of a grid of cells over a box (01, Raster).
+pub mod Point
+pub mod Grid

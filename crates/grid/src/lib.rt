@@ -1,0 +1,130 @@
+// The point test, and the arithmetic of a grid of cells over a box. Internal: `raster` counts cells with it.
+ghost use mathlib.Core.Path.{_≡_};
+ghost use Prim.Native.Nat.{_≤_, _<_};
+ghost use Rattle.grid.specs.Point.{pointIn, counts as isCounted};
+ghost use Rattle.grid.specs.Grid.{cellsIn, cellOf, firstCell, lastCell, centreOf, gridOf, Sized};
+
+// A triangle in the plane.
+pub struct Flat {
+    pub ax: f32,
+    pub ay: f32,
+    pub bx: f32,
+    pub by: f32,
+    pub cx: f32,
+    pub cy: f32,
+}
+
+// nx by ny cells of w by h from (x, y) on.
+pub struct Grid {
+    pub x: f32,
+    pub y: f32,
+    pub w: f32,
+    pub h: f32,
+    pub nx: usize,
+    pub ny: usize,
+}
+
+// ---- the point test
+
+// Is the point not outside? 000 asks for the signs of three differences. They are those of comparing the two products, since
+// a difference of floats is never rounded to zero. The first sign decides which ones of the others matter.
+pub fn point_in_triangle(px: f32, py: f32, t: Flat) -> bool
+    ensures { λ r. ⌜ r ≡ pointIn px py t ⌝ }
+{
+    let d = (px - t.bx) * (t.ay - t.by);
+    let d_less = (t.ax - t.bx) * (py - t.by);
+    let e = (px - t.cx) * (t.by - t.cy);
+    let e_less = (t.bx - t.cx) * (py - t.cy);
+    let f = (px - t.ax) * (t.cy - t.ay);
+    let f_less = (t.cx - t.ax) * (py - t.ay);
+    if d < d_less {
+        return !((e_less < e) | (f_less < f));
+    }
+    if d_less < d {
+        return !((e < e_less) | (f < f_less));
+    }
+    !(((e < e_less) & (f_less < f)) | ((e_less < e) & (f < f_less)))
+}
+
+// Is the doubled area's magnitude not under 1e-12?
+pub fn counts(t: Flat) -> bool
+    ensures { λ r. ⌜ r ≡ isCounted t ⌝ }
+{
+    let d = (t.bx - t.ax) * (t.cy - t.ay) - (t.cx - t.ax) * (t.by - t.ay);
+    !((d < 1e-12) & (-d < 1e-12))
+}
+
+// ---- the cells along one axis
+
+// How many cells of a size a length has.
+fn cells(length: f32, size: f32) -> usize
+    ensures { λ r. ⌜ (r ≡ cellsIn length size) × (0 < r) × (r ≤ 256) ⌝ }
+{
+    let n = floats::to_u64(floats::ceiling32(length / size));
+    if n < 1 {
+        1
+    } else if n < 256 {
+        n as usize
+    } else {
+        256
+    }
+}
+
+// Which of n cells of width w from x on p is in. Between the first and the last the fraction is dropped, which is the floor.
+fn cell(x: f32, w: f32, n: usize, p: f32) -> usize
+    requires { ⌜ (0 < n) × (n ≤ 256) ⌝ }
+    ensures { λ r. ⌜ (r ≡ cellOf x w n p) × (r < n) ⌝ }
+{
+    let q = (p - x) / w;
+    if q < (n - 1) as u16 as f32 {
+        if q >= 1.0 {
+            std::num::truncating_f32_to_u64(q) as usize
+        } else {
+            0
+        }
+    } else if q != q {
+        0
+    } else {
+        n - 1
+    }
+}
+
+pub fn first_cell(x: f32, w: f32, n: usize, a: f32, b: f32, c: f32) -> usize
+    requires { ⌜ (0 < n) × (n ≤ 256) ⌝ }
+    ensures { λ r. ⌜ (r ≡ firstCell x w n a b c) × (r < n) ⌝ }
+{
+    cell(x, w, n, floats::least32(floats::least32(a, b), c))
+}
+
+pub fn last_cell(x: f32, w: f32, n: usize, a: f32, b: f32, c: f32) -> usize
+    requires { ⌜ (0 < n) × (n ≤ 256) ⌝ }
+    ensures { λ r. ⌜ (r ≡ lastCell x w n a b c) × (r < n) ⌝ }
+{
+    cell(x, w, n, floats::greatest32(floats::greatest32(a, b), c))
+}
+
+// The centre of cell i of those of width w from x on.
+pub fn centre(x: f32, w: f32, i: usize) -> f32
+    requires { ⌜ i < 256 ⌝ }
+    ensures { λ r. ⌜ r ≡ centreOf x w i ⌝ }
+{
+    x + (i as u16 as f32 + 0.5) * w
+}
+
+// ---- both axes
+
+// The grid from (x, y) on over the lengths w and h.
+pub fn grid_over(x: f32, y: f32, w: f32, h: f32, size: f32) -> Grid
+    ensures { λ r. ⌜ (r ≡ gridOf x y w h size) × Sized r ⌝ }
+{
+    let nx = cells(w, size);
+    let ny = cells(h, size);
+    Grid {
+        x,
+        y,
+        w: w / (nx as u16 as f32),
+        h: h / (ny as u16 as f32),
+        nx,
+        ny,
+    }
+}

@@ -1,0 +1,72 @@
+-- `raster::footprint_over` meets its contract: nothing for a box with no length, else the footprint on its grid, over the front of the part. Assumes nothing.
+use Rattle.raster.proofs.Boxes.{few-cells}
+use Rattle.raster.proofs.Counting.{foot-none, foot-some}
+use native.Mathlib.Omega.{arith}
+use borrow.Author.Needs.{needs}
+use Rattle.raster.proofs.footprint_over.Statement.{statement}
+use Rattle.raster.proofs.footprint_over.Tie as tie
+
+greatest32-requires : tie.Need-greatest32-requires
+greatest32-requires c κs = search needs
+
+greatest32-requires-2 : tie.Need-greatest32-requires-2
+greatest32-requires-2 c κs = search needs
+
+greatest32-requires-3 : tie.Need-greatest32-requires-3
+greatest32-requires-3 c κs = search needs
+
+returns : tie.Need-returns
+returns c =
+    let a = c .before .before .before .before .before .before .before .args in
+    let w = c .before .before .before .greatest32 in
+    let h = c .before .before .greatest322 in
+    let m = c .before .greatest323 in
+    foot-none (a .vertices .now) (a .u) (a .v) (a .ids .now) (a .xmin) (a .xmax) (a .ymin) (a .ymax) (w .result) (h .result) (m .result) (w .ensures) (h .ensures) (m .ensures) (c .if1 .taken)
+
+grid-over-requires : tie.Need-grid-over-requires
+grid-over-requires c κs = search needs
+
+mul-n : tie.Need-mul-n
+mul-n c = let z = c .before .grid-over in omega (arith, few-cells (z .result) (z .ensures .1))
+
+sub-footprint-on : tie.Need-sub-footprint-on
+sub-footprint-on c = search needs
+
+part-footprint-on-start : tie.Need-part-footprint-on-start
+part-footprint-on-start c = search needs
+
+part-footprint-on-end : tie.Need-part-footprint-on-end
+part-footprint-on-end c = let z = c .before .grid-over in omega (arith, few-cells (z .result) (z .ensures .1), c .before .before .before .before .before .before .before .before .before .pre .2)
+
+footprint-on-requires : tie.Need-footprint-on-requires
+footprint-on-requires c κs = search needs
+
+same-length : tie.Need-same-length
+same-length c = search needs
+
+returns-2 : tie.Need-returns-2
+returns-2 c =
+    let a = c .before .before .before .before .before .before .before .before .before .before .before .before .before .args in
+    let w = c .before .before .before .before .before .before .before .before .before .greatest32 in
+    let h = c .before .before .before .before .before .before .before .before .greatest322 in
+    let m = c .before .before .before .before .before .before .before .greatest323 in
+    let z = c .before .before .before .before .before .grid-over in
+    let p = c .before .before .footprint-on in
+    foot-some (a .vertices .now) (a .u) (a .v) (a .ids .now) (a .xmin) (a .xmax) (a .ymin) (a .ymax) (w .result) (h .result) (m .result) (w .ensures) (h .ensures) (m .ensures) (z .result) (p .result) (c .before .before .before .before .before .before .if1 .left) (z .ensures .0) (p .ensures)
+
+pub footprint-over-spec : {M : Type 1} → statement M
+footprint-over-spec =
+    tie.close
+    (tie.spec
+    greatest32-requires
+    greatest32-requires-2
+    greatest32-requires-3
+    returns
+    grid-over-requires
+    mul-n
+    sub-footprint-on
+    part-footprint-on-start
+    part-footprint-on-end
+    footprint-on-requires
+    same-length
+    returns-2)

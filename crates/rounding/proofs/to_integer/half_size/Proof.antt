@@ -1,0 +1,29 @@
+-- `rounding::to_integer::half_size` meets its contract. Assumes nothing.
+use borrow.Author.Needs.{needs}
+use mathlib.Core.Path.{_∙_}
+use mathlib.Core.Logic.{⊎-elim}
+use native.Mathlib.Omega.{arith}
+use Rattle.ieee.specs.Integral.{half}
+use Rattle.ieee.proofs.Patterns.Whole.{cut-size, none-size}
+use Rattle.rounding.proofs.to_integer.half_size.Statement.{statement}
+use Rattle.rounding.proofs.to_integer.half_size.Tie as tie
+
+sub-k : tie.Need-sub-k
+sub-k c = search needs
+
+add-nearest-shift : tie.Need-add-nearest-shift
+add-nearest-shift c = search needs
+
+nearest-shift-requires : tie.Need-nearest-shift-requires
+nearest-shift-requires c κs = ⊎-elim (λ w. omega (arith, w .0 .taken, w .1)) (λ w. omega (arith, w .0 .left, w .1)) (c .if1 .came)
+
+returns : tie.Need-returns
+returns c =
+    let e = c .before .before .args .e in
+    let t = c .before .before .args .t in
+    c .nearest-shift .ensures
+    ∙ ⊎-elim (λ w. rw (w .1) (cut-size half e t (omega (arith, w .0 .taken)) (c .before .before .pre .0)))
+    (λ w. rw (w .1) (none-size e t (w .0 .left) (c .before .before .pre .1))) (c .before .if1 .came)
+
+pub half-size-spec : {M : Type 1} → statement M
+half-size-spec = tie.close (tie.spec sub-k add-nearest-shift nearest-shift-requires returns)

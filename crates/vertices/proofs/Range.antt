@@ -1,0 +1,36 @@
+-- An id is in range when it is below the number of vertices: 3i + 2 < F and i < F/3 say the same. So the coordinates of a triangle's corners are there. Assumes nothing.
+use mathlib.Core.Path.{_≡_, refl}
+use mathlib.Core.Bool.{Bool, true, false, _&&_}
+use Prim.Native.Nat.{ℕ, _+_, _*_, _/_, _<_}
+use mathlib.Core.List.{List}
+use native.Mathlib.Omega.{arith}
+use native.Mathlib.Decide.{decLt}
+use lib.Dec.{ltb}
+use lib.ListN.{length}
+use lib.Ieee.{Float}
+use borrow.Author.Tests.{lt-ltb, le-ltb, ltb-true}
+use Rattle.ids.specs.Triangles.{Triangle}
+use Rattle.vertices.specs.Vertices.{vertexCount, inRange, cornersInRange}
+
+pub in-range : (vs : List Float) (i : ℕ) → ltb i (vertexCount vs) ≡ inRange vs i
+unfolding inRange
+in-range vs i =
+    elim (decLt i (length vs / 3)) [
+      | yes l ↦ rw (lt-ltb i (length vs / 3) l, lt-ltb (3 * i + 2) (length vs) (omega arith))
+      | no l ↦ rw (le-ltb i (length vs / 3) (omega arith), le-ltb (3 * i + 2) (length vs) (omega arith))
+    ]
+
+-- each corner of a triangle in range has its three coordinates
+pub corners-below : (vs : List Float) (t : Triangle) → cornersInRange vs t ≡ true → (3 * t .a + 2 < length vs) × (3 * t .b + 2 < length vs) × (3 * t .c + 2 < length vs)
+unfolding cornersInRange inRange
+corners-below vs t e = all (ltb (3 * t .a + 2) n) (ltb (3 * t .b + 2) n) (ltb (3 * t .c + 2) n) refl refl refl e
+  where
+    n : ℕ
+    n = length vs
+
+    all : (x y z : Bool) → ltb (3 * t .a + 2) n ≡ x → ltb (3 * t .b + 2) n ≡ y → ltb (3 * t .c + 2) n ≡ z → x && (y && z) ≡ true
+        → (3 * t .a + 2 < n) × (3 * t .b + 2 < n) × (3 * t .c + 2 < n)
+    all true true true p q r e = (ltb-true _ _ p, ltb-true _ _ q, ltb-true _ _ r)
+    all true true false p q r e = let no : _≡_ {A = ℕ} 0 1 = cc in absurd (omega arith)
+    all true false z p q r e = let no : _≡_ {A = ℕ} 0 1 = cc in absurd (omega arith)
+    all false y z p q r e = let no : _≡_ {A = ℕ} 0 1 = cc in absurd (omega arith)

@@ -1,0 +1,2 @@
+-- The vertices of a mesh.
+pub mod Vertices

@@ -1,0 +1,169 @@
+//! The runs that need the port's static library.
+
+use std::io;
+use std::process::ExitCode;
+
+#[cfg_attr(not(port), allow(dead_code))]
+pub enum Run {
+    Floats(u64),
+    FloatsAll,
+    Ids(u64),
+    Weld(u64),
+    Raster(u64),
+    SpeedFloats,
+    SpeedIds,
+    SpeedWeld,
+    SpeedRaster,
+}
+
+#[cfg(not(port))]
+pub fn run(_: Run) -> io::Result<ExitCode> {
+    eprintln!(
+        "oracle: built without the port's static library. On x86-64, at the root of the repository: rt staticlib capi; \
+         then build anew"
+    );
+    Ok(ExitCode::from(2))
+}
+
+#[cfg(port)]
+pub fn run(run: Run) -> io::Result<ExitCode> {
+    match run {
+        Run::Floats(n) => linked::floats(n),
+        Run::FloatsAll => linked::floats_all(),
+        Run::Ids(n) => linked::ids(n),
+        Run::Weld(n) => linked::weld(n),
+        Run::Raster(n) => linked::raster(n),
+        Run::SpeedFloats => linked::speed_floats(),
+        Run::SpeedIds => linked::speed_ids(),
+        Run::SpeedWeld => linked::speed_weld(),
+        Run::SpeedRaster => linked::speed_raster(),
+    }
+}
+
+#[cfg(port)]
+mod linked {
+    use mowfrost_oracle::floats::compare::{on_all_32, on_chance, on_edges, Count};
+    use mowfrost_oracle::floats::helpers::{Width, HELPERS};
+    use mowfrost_oracle::{floats, ids, raster, weld};
+    use std::io::{self, Write};
+    use std::process::ExitCode;
+
+    /// A line, how many agree and differ, and the first that differ.
+    type Line = (String, u64, u64, Vec<String>);
+
+    pub fn floats(n: u64) -> io::Result<ExitCode> {
+        let counts = HELPERS.iter().enumerate().map(|(i, helper)| {
+            let (edges, chance) = (on_edges(helper), on_chance(helper, i as u64, n));
+            (helper.name, vec![("edges", edges), ("by chance", chance)])
+        });
+        tell(counts)
+    }
+
+    pub fn floats_all() -> io::Result<ExitCode> {
+        let helpers = HELPERS.iter().filter(|helper| helper.width == Width::F32 && helper.second.is_none());
+        tell(helpers.map(|helper| (helper.name, vec![("all patterns", on_all_32(helper))])))
+    }
+
+    fn tell(counts: impl Iterator<Item = (&'static str, Vec<(&'static str, Count)>)>) -> io::Result<ExitCode> {
+        sum(counts.flat_map(|(name, parts)| {
+            parts.into_iter().map(move |(on, Count { agree, differ, open, shown })| {
+                let line =
+                    format!("{name:<12} {on:<12} {agree:>11} agree, {differ} differ ({open} that Rust leaves open)");
+                (line, agree, differ, shown)
+            })
+        }))
+    }
+
+    pub fn ids(n: u64) -> io::Result<ExitCode> {
+        sum(ids::compare::all(n).flat_map(|(name, parts)| {
+            parts.into_iter().map(move |(on, ids::compare::Count { agree, differ, refused, answered, shown })| {
+                let [none, one, two, three, more] = answered;
+                let line = format!(
+                    "{name:<18} {on:<9} {agree:>9} agree, {differ} differ ({refused} refused, {none} answer 0, {one} 1, \
+                     {two} 2, {three} 3, {more} more)"
+                );
+                (line, agree, differ, shown)
+            })
+        }))
+    }
+
+    pub fn weld(n: u64) -> io::Result<ExitCode> {
+        use weld::compare::{on_chance, on_epsilon, on_large, Count, PORT};
+        let counts = [("large", on_large(PORT)), ("by chance", on_chance(PORT, n)), ("epsilon", on_epsilon(n))];
+        sum(counts.into_iter().map(|(on, Count { agree, differ, welded, unchanged, untaken, shown })| -> Line {
+            let line = format!(
+                "{on:<9} {agree:>9} agree, {differ} differ ({welded} with some id changed, {unchanged} with none, {untaken} \
+                 not taken)"
+            );
+            (line, agree, differ, shown)
+        }))
+    }
+
+    pub fn raster(n: u64) -> io::Result<ExitCode> {
+        use raster::compare::{on_chance, on_large, on_points, Count, POINT_TEST, PORT};
+        let counts =
+            [("points", on_points(POINT_TEST, n)), ("large", on_large(PORT)), ("by chance", on_chance(PORT, n))];
+        sum(counts.into_iter().map(|(on, Count { agree, differ, nothing, some, nan, untaken, shown })| -> Line {
+            let line = format!(
+                "{on:<9} {agree:>9} agree, {differ} differ ({nothing} answer 0 or no, {some} more or yes, {nan} not a number, \
+                 {untaken} not taken)"
+            );
+            (line, agree, differ, shown)
+        }))
+    }
+
+    /// Prints each line with what it shows, then the sums.
+    fn sum(lines: impl Iterator<Item = Line>) -> io::Result<ExitCode> {
+        let mut out = io::stdout().lock();
+        let (mut agree, mut differ) = (0, 0);
+        for (line, a, d, shown) in lines {
+            writeln!(out, "{line}")?;
+            for line in shown {
+                writeln!(out, "  {line}")?;
+            }
+            (agree, differ) = (agree + a, differ + d);
+        }
+        writeln!(out, "{agree} agree, {differ} differ")?;
+        Ok(if differ == 0 { ExitCode::SUCCESS } else { ExitCode::FAILURE })
+    }
+
+    pub fn speed_floats() -> io::Result<ExitCode> {
+        let mut out = io::stdout().lock();
+        writeln!(out, "| helper | on | port, ns | Rust, ns | ratio |\n|---|---|---|---|---|")?;
+        for row in floats::speed::rows() {
+            let ratio = row.port / row.rust;
+            writeln!(out, "| `{}` | {} | {:.1} | {:.1} | {ratio:.1} |", row.name, row.on, row.port, row.rust)?;
+        }
+        Ok(ExitCode::SUCCESS)
+    }
+
+    pub fn speed_ids() -> io::Result<ExitCode> {
+        let mut out = io::stdout().lock();
+        writeln!(out, "| routine | list | ids | port, ms | Rust, ms | ratio |\n|---|---|---|---|---|---|")?;
+        for row in ids::speed::rows().iter().chain(&ids::speed::worst()) {
+            let ratio = row.port / row.rust;
+            let (name, on, ids) = (row.name, &row.on, row.ids);
+            writeln!(out, "| `{name}` | {on} | {ids} | {:.3} | {:.3} | {ratio:.2} |", row.port, row.rust)?;
+        }
+        Ok(ExitCode::SUCCESS)
+    }
+
+    pub fn speed_weld() -> io::Result<ExitCode> {
+        let rows = weld::speed::rows();
+        race("vertices", rows.iter().map(|row| (row.on.as_str(), row.vertices, row.port, row.rust)))
+    }
+
+    pub fn speed_raster() -> io::Result<ExitCode> {
+        let rows = raster::speed::rows();
+        race("triangles", rows.iter().map(|row| (row.on, row.triangles, row.port, row.rust)))
+    }
+
+    fn race<'a>(of: &str, rows: impl Iterator<Item = (&'a str, usize, f64, f64)>) -> io::Result<ExitCode> {
+        let mut out = io::stdout().lock();
+        writeln!(out, "| mesh | {of} | port, ms | Rust, ms | ratio |\n|---|---|---|---|---|")?;
+        for (on, count, port, rust) in rows {
+            writeln!(out, "| {on} | {count} | {port:.3} | {rust:.3} | {:.2} |", port / rust)?;
+        }
+        Ok(ExitCode::SUCCESS)
+    }
+}

@@ -1,0 +1,20 @@
+-- `capi::probe::axis` meets its contract: a number below 3 is an axis. Assumes nothing.
+use Rattle.raster.specs.Painted.{axisNumber}
+use native.Mathlib.Omega.{arith}
+use Rattle.capi.proofs.probe.axis.Statement.{statement}
+use Rattle.capi.proofs.probe.axis.Tie as tie
+
+returns : tie.Need-returns
+unfolding axisNumber
+returns c = rw (c .if1 .taken)
+
+returns-2 : tie.Need-returns-2
+unfolding axisNumber
+returns-2 c = rw (c .if2 .taken)
+
+returns-3 : tie.Need-returns-3
+unfolding axisNumber
+returns-3 c = omega (arith, c .before .if1 .left, c .if2 .left)
+
+pub axis-spec : {M : Type 1} → statement M
+axis-spec = tie.close (tie.spec returns returns-2 returns-3)

@@ -1,0 +1,40 @@
+-- `capi::probe::probe_welded_indices` meets its contract: the weld where the part has just the words needed. Assumes nothing.
+use mathlib.Core.Path.{refl}
+use lib.ListN.{length}
+use borrow.Author.Tests.{le-leb, lt-leb, eq-eqb, ne-eqb}
+use borrow.Author.Needs.{needs}
+use Rattle.capi.proofs.probe.probe_welded_indices.Statement.{statement}
+use Rattle.capi.proofs.probe.probe_welded_indices.Tie as tie
+
+returns : tie.Need-returns
+returns c = rw (lt-leb (length (c .before .before .before .before .args .vertices .now)) 98304 (c .if1 .taken)) (refl, refl)
+
+mul-needed : tie.Need-mul-needed
+mul-needed c = search needs
+
+add-needed : tie.Need-add-needed
+add-needed c = search needs
+
+welded-indices-requires : tie.Need-welded-indices-requires
+welded-indices-requires c κs = search needs
+
+same-length : tie.Need-same-length
+same-length c = search needs
+
+returns-2 : tie.Need-returns-2
+returns-2 c = (rw (le-leb (length (c .before .before .before .before .before .before .before .before .before .args .vertices .now)) 98304 (c .before .before .before .before .before .if1 .left), eq-eqb _ _ (c .before .before .before .before .if2 .taken)), c .before .before .welded-indices .ensures)
+
+returns-3 : tie.Need-returns-3
+returns-3 c = (rw (le-leb (length (c .before .before .before .before .before .args .vertices .now)) 98304 (c .before .if1 .left), ne-eqb _ _ (c .if2 .left)), refl)
+
+pub probe-welded-indices-spec : {M : Type 1} → statement M
+probe-welded-indices-spec =
+    tie.close
+    (tie.spec
+    returns
+    mul-needed
+    add-needed
+    welded-indices-requires
+    same-length
+    returns-2
+    returns-3)

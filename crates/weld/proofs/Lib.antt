@@ -1,7 +1,7 @@
 -- From a cell as numbers and the vertex that names it, over the words of the table, to one vertex more, and from the whole table to the ids.
-pub mod Signs
+mod Signs
 pub mod Codes
 pub mod Names
-pub mod Words
-pub mod Welding
-pub mod Mapping
+mod Words
+mod Welding
+mod Mapping

@@ -1,4 +1,4 @@
--- The vertex that names a cell: it is the first with that cell, so it names itself, and vertices of one cell have one name. Assumes nothing.
+-- The vertex that names a cell is the first with that cell, so two vertices have one name just where they have one cell. Assumes nothing.
 use mathlib.Core.Path.{_≡_, refl, sym, ap, _∙_}
 use mathlib.Core.Logic.{_≢_, _⊎_, inl, inr, ⊎-elim}
 use mathlib.Core.Bool.{Bool, true, false, cond}
@@ -8,7 +8,7 @@ use native.Mathlib.Omega.{arith}
 use native.Mathlib.Decide.{ℕ-discrete, decLt}
 use lib.Ieee.{Float}
 use Rattle.ids.proofs.Same.{same-ne}
-use Rattle.weld.specs.Weld.{cellAt, sameCell, first, named}
+use Rattle.weld.specs.Weld.{cellAt, sameCell, first, named, NamesCell}
 use Rattle.weld.specs.Table.{codeOf, codeAt}
 use Rattle.weld.proofs.Codes.{code-one, cell-eq, cell-refl}
 
@@ -63,20 +63,21 @@ module _ (vs : List Float) (inv : Float) where
   unfolding named
   named-first v j l = same-ne sameCell cell-refl (cellAt vs inv j) (cellAt vs inv v) (first-misses (like v) v 0 j (omega arith) l)
 
+  pub named-names : (v : ℕ) → NamesCell vs inv v (named vs inv v)
+  named-names v = record { not-behind = named-within v; alike = named-alike v; first-of = named-first v }
+
   -- and only one vertex is that
-  pub named-is : (v f : ℕ) → f ≤ v → cellAt vs inv f ≡ cellAt vs inv v → ((j : ℕ) → j < f → cellAt vs inv j ≢ cellAt vs inv v) → named vs inv v ≡ f
+  pub named-is : (v f : ℕ) → NamesCell vs inv v f → named vs inv v ≡ f
   unfolding named
-  named-is v f l e h = first-is (like v) v 0 f (omega arith) (omega arith)
-      (λ i p q. by (like v i) (λ s. absurd (h i q (cell-eq (cellAt vs inv i) (cellAt vs inv v) s))) (λ s. s))
-      (λ q. rw e (cell-refl (cellAt vs inv v)))
+  named-is v f c =
+      let l = c .not-behind in
+      first-is (like v) v 0 f (omega arith) (omega arith)
+      (λ i p q. by (like v i) (λ s. absurd (c .first-of i q (cell-eq (cellAt vs inv i) (cellAt vs inv v) s))) (λ s. s))
+      (λ q. rw (c .alike) (cell-refl (cellAt vs inv v)))
 
   -- a vertex that names its own cell names that of each later vertex in it
   pub named-by : (f v : ℕ) → named vs inv f ≡ f → f ≤ v → cellAt vs inv f ≡ cellAt vs inv v → named vs inv v ≡ f
-  named-by f v own l e = named-is v f l e (λ j b z. named-first f j (omega (arith, own)) (z ∙ sym e))
-
-  -- the vertex that names a cell names itself
-  pub named-again : (v : ℕ) → named vs inv (named vs inv v) ≡ named vs inv v
-  named-again v = named-is (named vs inv v) (named vs inv v) (omega arith) refl (λ j l z. named-first v j l (z ∙ named-alike v))
+  named-by f v own l e = named-is v f (record { not-behind = l; alike = e; first-of = λ j b z. named-first f j (omega (arith, own)) (z ∙ sym e) })
 
   -- vertices of one cell have one name
   pub named-one : (u v : ℕ) → cellAt vs inv u ≡ cellAt vs inv v → named vs inv u ≡ named vs inv v
@@ -85,10 +86,14 @@ module _ (vs : List Float) (inv : Float) where
       let g : named vs inv v ≤ named vs inv u = elim (decLt (named vs inv u) (named vs inv v)) [ yes l ↦ absurd (named-first v (named vs inv u) l (named-alike u ∙ e)) | no l ↦ omega arith ] in
       omega arith
 
+  -- and vertices of one name have one cell
+  pub named-tells : (u v : ℕ) → named vs inv u ≡ named vs inv v → cellAt vs inv u ≡ cellAt vs inv v
+  named-tells u v e = sym (named-alike u) ∙ ap (cellAt vs inv) e ∙ named-alike v
+
   -- ---- by codes, as a table has them
 
   pub known-name : (f v : ℕ) → named vs inv f ≡ f → f ≤ v → codeAt vs inv f ≡ codeAt vs inv v → named vs inv v ≡ f
   known-name f v own l e = named-by f v own l (code-one (cellAt vs inv f) (cellAt vs inv v) e)
 
   pub new-name : (v : ℕ) → ((j : ℕ) → j < v → codeAt vs inv j ≢ codeAt vs inv v) → named vs inv v ≡ v
-  new-name v h = named-is v v (omega arith) refl (λ j l e. h j l (ap codeOf e))
+  new-name v h = named-is v v (record { not-behind = omega arith; alike = refl; first-of = λ j l e. h j l (ap codeOf e) })

@@ -1,5 +1,7 @@
 -- Weld (01; 000, `welded_indices`): vertices in one cell become the first of them.
-use Prim.Native.Nat.{ℕ, zero, suc}
+use mathlib.Core.Path.{_≡_}
+use mathlib.Core.Logic.{_≢_}
+use Prim.Native.Nat.{ℕ, zero, suc, _≤_, _<_}
 use mathlib.Core.Bool.{Bool, false, _&&_, _||_, cond}
 use mathlib.Core.List.{List, [], _∷_}
 use lib.Dec.{eqb, ltb}
@@ -53,6 +55,13 @@ first test (suc n) j = cond (test j) j (first test n (suc j))
 -- the vertex that names v's cell: the first that has the same
 unfoldable pub named : List Float → Float → ℕ → ℕ
 named vs inv v = first (λ j. sameCell (cellAt vs inv j) (cellAt vs inv v)) v 0
+
+-- that is to say: f has v's cell, is not behind v, and no vertex before f has it (`named-names`). No other vertex is that (`named-is`), so two
+-- vertices have one name just where they have one cell (`named-one`, `named-tells`)
+pub record NamesCell (vs : List Float) (inv : Float) (v f : ℕ) : Type 0 where
+  pub not-behind : f ≤ v
+  pub alike : cellAt vs inv f ≡ cellAt vs inv v
+  pub first-of : (j : ℕ) → j < f → cellAt vs inv j ≢ cellAt vs inv v
 
 -- an id past the vertices stays
 unfoldable pub weldId : List Float → Float → ℕ → ℕ

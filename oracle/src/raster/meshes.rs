@@ -25,10 +25,15 @@ pub fn in_its_box(shape: Shape, axes: [usize; 2]) -> Scene {
     Scene { vertices: shape.vertices, ids: shape.ids, axes, u, v }
 }
 
+/// Any number, infinity or quiet NaN. What Rust's `min` and `max` make of a signalling one they leave open (DIFFERENCES.md,
+/// d17).
 fn any_float(random: &mut Random) -> f32 {
     match random.below(6) {
         0 => random.pick(&[0.0, -0.0, f32::NAN, f32::INFINITY, f32::NEG_INFINITY, f32::MAX, f32::MIN, 1e-45, 1e-38]),
-        1 | 2 => f32::from_bits(random.bits() as u32),
+        1 | 2 => match f32::from_bits(random.bits() as u32) {
+            x if x.is_nan() => f32::NAN,
+            x => x,
+        },
         3 => random.within(-4, 4) as f32,
         _ => random.between(-10.0, 10.0) as f32,
     }

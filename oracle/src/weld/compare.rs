@@ -91,16 +91,21 @@ pub fn on_chance(port: Port, n: u64) -> Count {
     over(port, 2, (0..n).map(|turn| by_chance(&mut Random::new(turn))))
 }
 
-/// ε of a distance and a unit: the original has it inside its classifier, so its expression stands here.
+/// ε of a distance and a unit: the original has it inside its classifier, so its expression stands here. What Rust's `max`
+/// makes of a signalling NaN it leaves open (DIFFERENCES.md, d17), so a NaN is a quiet one here.
 pub fn on_epsilon(n: u64) -> Count {
     let (mut count, mut random) = (Count::default(), Random::new(3));
     for turn in 0..n {
+        let any = |random: &mut Random| match f32::from_bits(random.bits() as u32) {
+            x if x.is_nan() => f32::NAN,
+            x => x,
+        };
         let unit = match turn % 3 {
-            0 => f32::from_bits(random.bits() as u32),
+            0 => any(&mut random),
             1 => random.between(0.0, 16.0) as f32,
             _ => random.pick(&[0.0, -0.0, 1e-12, 1e-13, f32::NAN, f32::INFINITY, 1.0, 0.001, -1.0, f32::MIN_POSITIVE]),
         };
-        let distance = if turn % 2 == 0 { 1e-4 } else { f32::from_bits(random.bits() as u32) };
+        let distance = if turn % 2 == 0 { 1e-4 } else { any(&mut random) };
         let (given, right) = (capi::epsilon(distance, unit), distance / unit.max(1e-12));
         if given.to_bits() == right.to_bits() || given.is_nan() && right.is_nan() {
             count.agree += 1;

@@ -1,4 +1,5 @@
 -- `raster::footprint_raw` meets its contract: the footprint over the front of the raster, which is cleared afterwards. Assumes nothing.
+use native.Mathlib.Omega.{arith}
 use lib.Seq.{length-front, length-take-le}
 use mathlib.Core.Path.{_∙_}
 use Rattle.raster.proofs.Clearing.{cleared-back}
@@ -26,9 +27,8 @@ footprint-over-requires c κs = search needs
 
 clear-requires : tie.Need-clear-requires
 clear-requires c κs =
-    let s = c .before .before .before .before .before .before .before .before .before .before in
     let p = c .before .before .before .footprint-over in
-    rw (length-front (s .args .raster .now) (p .last .1 .1 .1 .1 .1 .1 .1 .1 .0) 65536 (p .kept .1 .1 .1 .1 .1 .1 .1 .1 .0)) (s .pre)
+    omega (arith, length-front (c .before .before .before .before .before .before .before .before .before .before .args .raster .now) (p .last .1 .1 .1 .1 .1 .1 .1 .1 .0) 65536 (p .kept .1 .1 .1 .1 .1 .1 .1 .1 .0), c .before .before .before .before .before .before .before .before .before .before .pre)
 
 same-length : tie.Need-same-length
 same-length c =

@@ -15,7 +15,7 @@ use Rattle.ieee.specs.Integral.{floor, integral}
 use Rattle.ieee.specs.Single.{number}
 use Rattle.ieee.proofs.Integers.Floors.{floor-down, floor-up, unsigned-below-one}
 use Rattle.ieee.proofs.Order.Casts.{toUnsigned-mono}
-use Rattle.ieee.proofs.Order.Comparison.{le-of-not-lt, lt-le, lt-le-trans, lt-left, lt-of-not-le, lt-trans}
+use Rattle.ieee.proofs.Order.Comparison.{le-of-not-lt, lt-le, lt-left, lt-of-not-le, lt-trans}
 use Rattle.ieee.proofs.Patterns.Nan.{is-nan, ne-self, same-no-nan}
 use Rattle.ieee.proofs.Values.ByValue.{lt-values, value-number}
 use Rattle.grid.specs.Grid.{clamped}
@@ -67,14 +67,12 @@ module _ (m : ℕ) (q : Float) (l : m ≤ 255) where
   exact = unsigned-back binary32 64 m (le→leb m (2 ^ 24) (omega arith)) (omega arith) .1
 
   -- what the cut asks for
-  pub in-range : le one q ≡ true → lt q (number m) ≡ true → T (lt (fin true 1 (pos 0)) q) × T (lt q (fin false 1 (pos 64)))
+  pub in-range : le one q ≡ true → lt q (number m) ≡ true → T (le one q) × T (lt q (fin false 1 (pos 23)))
   in-range h k =
-      let high : Float = fin false 1 (pos 64) in
+      let high : Float = fin false 1 (pos 23) in
       let under : T (lt (number m) high) =
-      rw (lt-values (number m) high false m false (2 ^ 64) 1 (lit< tt) m-is (refl, refl), lt-ltb m (2 ^ 64) (omega arith)) tt in (
-        lt-le-trans (fin true 1 (pos 0)) one q (unfold lt in tt) (passes _ h),
-        lt-trans q (number m) high (passes _ k) under,
-      )
+      rw (lt-values (number m) high false m false (2 ^ 23) 1 (lit< tt) m-is (refl, refl), lt-ltb m (2 ^ 23) (omega arith)) tt in
+      (passes _ h, lt-trans q (number m) high (passes _ k) under)
 
   module _ (t : T (fits binary32 q)) where
     abbrev is : ℕ

@@ -78,7 +78,7 @@ fn cell(x: f32, w: f32, n: usize, p: f32) -> usize
     let q = (p - x) / w;
     if q < (n - 1) as u16 as f32 {
         if q >= 1.0 {
-            std::num::truncating_f32_to_u64(q) as usize
+            integers::whole_part32(q) as usize
         } else {
             0
         }

@@ -8,6 +8,7 @@ pub mod Shifted
 pub mod Whole
 pub mod Integral
 pub mod Integer
+pub mod WholePart
 pub mod Rounding
 pub mod Narrowed
 pub mod Root

@@ -1,7 +1,11 @@
 // A float as an integer (IEEE 754-2019 5.8, convertToIntegerTowardZero): the fraction is dropped. For what does not
 // fit, 5.8 leaves the answer open. Here, as in Rust, it is the end of the range that is nearer, and 0 for a NaN:
-// the model's `toSigned h`, of h bits and a sign, and `toUnsigned w`, of w bits. Internal: `floats` passes it on.
-ghost use lib.Ieee.{binary32, binary64, ofBits, toSigned, toUnsigned};
+// the model's `toSigned h`, of h bits and a sign, and `toUnsigned w`, of w bits. Internal: `floats` passes on
+// what has no `requires`.
+ghost use lib.Dec.{T};
+ghost use lib.Ieee.{binary32, binary64, fin, le, lt, ofBits, toSigned, toUnsigned};
+ghost use lib.IntN.{pos};
+ghost use mathlib.Core.Bool.{false};
 ghost use mathlib.Core.Path.{_≡_};
 ghost use Prim.Native.Nat.{_/_, _<_, _^_};
 ghost use Rattle.ieee.specs.Fields.{sized};
@@ -72,6 +76,15 @@ pub fn to_u64(x: f32) -> u64
     } else {
         0
     }
+}
+
+// The whole part of a float from 1 up and below 2^23: its digits, shifted.
+pub fn whole_part32(x: f32) -> u32
+    requires { ⌜ T (le (fin false 1 (pos 0)) x) ⌝ ∗ ⌜ T (lt x (fin false 1 (pos 23))) ⌝ }
+    ensures { λ r. ⌜ r ≡ toUnsigned 64 x ⌝ }
+{
+    let b = f32::to_bits(x);
+    (0x80_0000 + b % 0x80_0000) >> (150 - b / 0x80_0000)
 }
 
 pub fn to_i64_bits(b: u64) -> i64

@@ -27,10 +27,13 @@ cast-if1 c = search needs
 int-to-float-if1 : tie.Need-int-to-float-if1
 int-to-float-if1 c = search needs
 
-truncating-f32-to-u64-requires : tie.Need-truncating-f32-to-u64-requires
+whole-part32-requires : tie.Need-whole-part32-requires
 unfolding ofBits
-truncating-f32-to-u64-requires c κs =
+whole-part32-requires c κs =
     let start = c .before .before .before in in-range (start .args .n - 1) (q start) (omega arith) (c .if2 .taken) (c .before .if1 .taken)
+
+cast-result : tie.Need-cast-result
+cast-result c = search needs
 
 sub-result : tie.Need-sub-result
 sub-result c = search needs
@@ -40,7 +43,7 @@ unfolding cellOf
 returns c =
     let start = c .before .before .before .before in
     let k = between (start .args .n - 1) (q start) (omega arith) (q-fits start) (c .before .before .if1 .taken) in
-    (c .truncating-f32-to-u64 .ensures ∙ k .0, omega (arith, k .1))
+    (c .whole-part32 .ensures ∙ k .0, omega (arith, k .1))
 
 returns-2 : tie.Need-returns-2
 unfolding cellOf ofBits
@@ -63,4 +66,4 @@ returns-4 c =
 pub cell-spec : {M : Type 1} → statement M
 cell-spec =
     tie.close
-    (tie.spec sub-if1 cast-if1 int-to-float-if1 truncating-f32-to-u64-requires sub-result returns returns-2 returns-3 returns-4)
+    (tie.spec sub-if1 cast-if1 int-to-float-if1 whole-part32-requires cast-result sub-result returns returns-2 returns-3 returns-4)

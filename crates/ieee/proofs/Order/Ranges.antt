@@ -103,6 +103,12 @@ signed-cut h (fin t m e) s a c C v l =
     either false = refl
     either true = refl
 
+pub unsigned-value : (w : ℕ) (x : Float) (s : Bool) (a c : ℕ) → 0 < c → HasValue x s a c → toUnsigned w x ≡ cond s 0 (min (a / c) (2 ^ w - 1))
+unfolding toUnsigned
+unsigned-value w nan s a c C v = absurd v
+unsigned-value w (inf t) s a c C v = absurd v
+unsigned-value w (fin t m e) s a c C v = rw (v .0, same-size m e s t a c C v)
+
 -- ---- the answer as a word of the machine
 pub signed-fits : (w : Width) (x : Float) → SFits w (toSigned (hbits w) x)
 signed-fits w x = record { sfits = toSigned-in (hbits w) x }

@@ -1,11 +1,11 @@
 -- The value that is read from a pattern, by its fields: a number, an infinity or a NaN. Assumes nothing.
 use mathlib.Core.Path.{_≡_, refl}
 use mathlib.Core.Bool.{Bool}
-use Prim.Native.Nat.{ℕ, zero, suc, _+_, _-_, _/_, _%_, _^_, _≤_, _<_}
+use Prim.Native.Nat.{ℕ, zero, suc, _+_, _-_, _*_, _/_, _%_, _^_, _≤_, _<_}
 use native.Mathlib.Omega.{arith}
 use borrow.Author.Tests.{eq-eqb, ne-eqb}
 use lib.Dec.{leb}
-use lib.Ieee.{nan, inf, Format, binary64, prec, low, hid, ones, top, ofBits, ofFields}
+use lib.Ieee.{nan, inf, Format, binary32, binary64, prec, low, hid, ones, top, ofBits, ofFields}
 use lib.Ieee.Exact.{HasValue, odd-sign}
 use Rattle.ieee.specs.Fields.{exp, sig, sized}
 
@@ -52,9 +52,13 @@ exp-is zero = omega arith
 exp-is (suc y) = omega arith
 
 -- ---- how large the fields' number is
-pub sig-lt : (e t : ℕ) → t < 2 ^ 52 → sig binary64 e t < 2 ^ 53
-sig-lt zero t h = omega arith
-sig-lt (suc y) t h = omega arith
+pub twice-hid : (f : Format) → 2 ^ prec f ≡ 2 * hid f
+twice-hid binary32 = refl
+twice-hid binary64 = refl
+
+pub sig-lt : (f : Format) (e t : ℕ) → t < hid f → sig f e t < 2 ^ prec f
+sig-lt f zero t h = omega (arith, twice-hid f)
+sig-lt f (suc y) t h = omega (arith, twice-hid f)
 
 pub exp-le : (e : ℕ) → exp e ≤ e
 exp-le zero = omega arith

@@ -1,15 +1,15 @@
 -- A float as an integer, by its pattern: below 2 ^ k a word with its size, the sign put on; from 2 ^ h on an end of the range. Assumes nothing.
-use mathlib.Core.Path.{_≡_, sym, ap, _∙_, subst}
+use mathlib.Core.Path.{_≡_, sym, _∙_, subst}
 use mathlib.Core.Logic.{inl, inr}
 use mathlib.Core.Bool.{Bool, true, false, not, cond}
-use Prim.Native.Nat.{ℕ, zero, suc, _+_, _-_, _*_, _/_, _%_, _^_, _≤_, _<_}
-use native.Mathlib.Nat.{div-lt-iff-lt-mul, eq-zero-or-pos, lt-of-lt-of-le, mul-assoc}
+use Prim.Native.Nat.{ℕ, _+_, _-_, _*_, _/_, _%_, _^_, _≤_, _<_}
+use native.Mathlib.Nat.{div-lt-iff-lt-mul, eq-zero-or-pos, lt-of-lt-of-le}
 use native.Mathlib.Decide.{decLt}
 use native.Mathlib.Omega.{arith}
 use borrow.Author.Tests.{le-leb, lt-leb}
 use lib.Dec.{T, leb}
 use lib.IntN.{pos, negℤ, _-ℤ_, +ℤ-idl}
-use lib.Pow.{pow-add, pow-mono, pow-pos}
+use lib.Pow.{pow-mono, pow-pos}
 use lib.Ieee.{Float, binary64, isNan, ne, ofBits, toSigned}
 use mir.Syntax.{Width}
 use mir.Val.{hbits, toZ}
@@ -17,35 +17,28 @@ use mir.ValLaws.{toZ-pos}
 use Rattle.ieee.specs.Fields.{sized}
 use Rattle.ieee.specs.Integral.{cut}
 use Rattle.ieee.specs.WholeNumber.{signed}
-use Rattle.ieee.proofs.Numbers.Wholes.{whole-same}
 use Rattle.ieee.proofs.Order.Ranges.{Reaches, reaches-value, signed-cut, signed-end}
 use Rattle.ieee.proofs.Patterns.Fields.{read-inf, read-nan}
 use Rattle.ieee.proofs.Patterns.Integral.{at-least, at-most, field, size-of, value}
 use Rattle.ieee.proofs.Patterns.Nan.{same-no-nan}
+use Rattle.ieee.proofs.Patterns.Whole.{placed-size}
 
 -- ---- the size without its fraction, by the fields e and t
 pub none-size : (e t : ℕ) → t < 2 ^ 52 → e < 1023 → 0 ≡ sized binary64 e t / 2 ^ 1074
-none-size e t h l = none (sized binary64 e t / 2 ^ 1074) (div-lt-iff-lt-mul (pow-pos 1074) .1 (at-most 0 e t h l))
+none-size e t h l = none (sized binary64 e t / 2 ^ 1074) (div-lt-iff-lt-mul (pow-pos 1074) .1 (at-most binary64 0 e t h l))
   where
     none : (n : ℕ) → n < 2 ^ 0 → 0 ≡ n
     none n h = omega arith
 
 -- the digits at the top of a word of 64, shifted down
 pub shift-size : (e t : ℕ) → 1023 ≤ e → e < 1086 → (2 ^ 52 + t) * 2 ^ 11 / 2 ^ (1086 - e) ≡ sized binary64 e t / 2 ^ 1074
-shift-size zero t h l = absurd (omega arith)
-shift-size (suc y) t h l =
-    let places : 11 + 1074 ≡ y + (1086 - suc y) = omega arith in
-    let digits = 2 ^ 52 + t in
-    whole-same cut (digits * 2 ^ 11) (2 ^ (1086 - suc y)) (digits * 2 ^ y) (2 ^ 1074) (pow-pos (1086 - suc y)) (pow-pos 1074)
-    (mul-assoc digits (2 ^ 11) (2 ^ 1074)
-    ∙ ap (λ (z : ℕ). digits * z) (sym (pow-add 2 11 1074) ∙ ap (λ (z : ℕ). 2 ^ z) places ∙ pow-add 2 y (1086 - suc y))
-    ∙ sym (mul-assoc digits (2 ^ y) (2 ^ (1086 - suc y))))
+shift-size e t h l = placed-size binary64 cut 11 (1086 - e) e t (omega arith) (omega arith)
 
 -- ---- below 2 ^ k, which fits the word
 module _ (w : Width) (k : ℕ) (p : k ≤ hbits w) (q : k < 1024) (x : Float) (b n : ℕ) (is : ofBits binary64 b ≡ x) (h : field b < 1023 + k)
     (r : n ≡ size-of b / 2 ^ 1074) where
   pub few : n < 2 ^ hbits w
-  few = lt-of-lt-of-le (rw r (div-lt-iff-lt-mul (pow-pos 1074) .1 (at-most k (field b) (b % 2 ^ 52) (omega arith) h))) (pow-mono p)
+  few = lt-of-lt-of-le (rw r (div-lt-iff-lt-mul (pow-pos 1074) .1 (at-most binary64 k (field b) (b % 2 ^ 52) (omega arith) h))) (pow-mono p)
 
   by-sign : (s : Bool) → leb (2 ^ 63) b ≡ s → signed s n ≡ toSigned (hbits w) x
   by-sign s g = rw r (sym (signed-cut (hbits w) x s (size-of b) (2 ^ 1074) (pow-pos 1074) (value x b is s g (omega arith)) (rw (← r) few)))
@@ -69,7 +62,7 @@ module _ (h : ℕ) (x : Float) (b : ℕ) (is : ofBits binary64 b ≡ x) (l : 102
   past : Reaches (2 ^ h) s x
   past =
       elim (decLt (field b) 2047) [
-        | yes m ↦ reaches-value (2 ^ h) x s (size-of b) (2 ^ 1074) (pow-pos 1074) (value x b is s g m) (at-least h (field b) (b % 2 ^ 52) l)
+        | yes m ↦ reaches-value (2 ^ h) x s (size-of b) (2 ^ 1074) (pow-pos 1074) (value x b is s g m) (at-least binary64 h (field b) (b % 2 ^ 52) l)
         | no m ↦ no-number (omega arith)
       ]
 

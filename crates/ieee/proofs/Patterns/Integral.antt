@@ -8,21 +8,17 @@ use native.Mathlib.Decide.{decLt}
 use native.Mathlib.Omega.{arith}
 use borrow.Author.Tests.{le-leb, lt-leb}
 use lib.IntN.{pos, negsuc}
-use lib.Dec.{T, leb, le→leb}
+use lib.Dec.{T, leb, le→leb, lit≤}
 use lib.Pow.{pow-add, pow-mono, pow-pos, shl-lt}
-use lib.Ieee.{Float, nan, inf, fin, Format, binary32, binary64, prec, up, down, hid, round, neg, ofInt, inFloat, fits, ofBits}
+use lib.Ieee.{Float, nan, inf, fin, Format, binary32, binary64, prec, emax, low, up, down, hid, round, neg, ofInt, inFloat, fits, ofBits}
 use lib.Ieee.Exact.{HasValue}
 use lib.Ieee.Fits.{down-pos, two}
 use Rattle.ieee.specs.Fields.{exp, sized}
 use Rattle.ieee.specs.Integral.{Way, toWhole, integral}
-use Rattle.ieee.proofs.Patterns.Fields.{sig-lt, read-inf, read-nan, read-value}
+use Rattle.ieee.proofs.Patterns.Fields.{sig-lt, twice-hid, read-inf, read-nan, read-value}
 use Rattle.ieee.proofs.Patterns.Signs.{round-neg}
 use Rattle.ieee.proofs.Values.OneFloat.{round-own, short}
 use Rattle.ieee.proofs.Numbers.Wholes.{whole-le, whole-one, whole-same}
-
-twice-hid : (f : Format) → 2 ^ prec f ≡ 2 * hid f
-twice-hid binary32 = refl
-twice-hid binary64 = refl
 
 -- m / n for m below 2 * h and n from 2 on is below h
 no-fraction : (m a c h n : ℕ) → 0 < c → m * 1 * c ≡ a * n → h * c ≤ a → 2 ≤ n → m < 2 * h → ⊥
@@ -53,27 +49,32 @@ module _ (f : Format) (above below : Way) where
       absurd (no-fraction m a c (hid f) (2 ^ suc k) C (h .1) l (pow-mono {i =
       1} (omega arith)) (subst (λ (z : ℕ). m < z) (twice-hid f) (short f u m (negsuc k) t)))
 
+-- ---- the size by the fields e and t: the field emax f stands for 1
+some-field : (f : Format) → 2 ≤ emax f
+some-field binary32 = lit≤ tt
+some-field binary64 = lit≤ tt
+
+module _ (f : Format) (k : ℕ) where
+  pub at-most : (e t : ℕ) → t < hid f → e < emax f + k → sized f e t < 2 ^ k * 2 ^ low f
+  at-most e t h l = lt-of-lt-of-le (shl-lt (prec f) (exp e) (sig-lt f e t h)) (le-trans (pow-mono (places e l)) (le-of-eq (pow-add 2 k (low f))))
+    where
+      places : (e : ℕ) → e < emax f + k → prec f + exp e ≤ k + low f
+      places zero l = omega (arith, some-field f)
+      places (suc y) l = omega arith
+
+  pub at-least : (e t : ℕ) → emax f + k ≤ e → 2 ^ k * 2 ^ low f ≤ sized f e t
+  at-least zero t h = absurd (omega (arith, some-field f))
+  at-least (suc y) t h =
+      let places : k + low f ≤ prec f - 1 + y = omega (arith, two f) in
+      le-trans (le-of-eq (sym (pow-add 2 k (low f))))
+      (le-trans (pow-mono places) (le-trans (le-of-eq (pow-add 2 (prec f - 1) y)) (mul-le-mul-right (2 ^ y) (le-add-right (hid f) t))))
+
 -- ---- by the pattern b that x has as an `f64`
 abbrev pub field : ℕ → ℕ
 field b = b % 2 ^ 63 / 2 ^ 52
 
 abbrev pub size-of : ℕ → ℕ
 size-of b = sized binary64 (field b) (b % 2 ^ 52)
-
--- a pattern of the field 1023 stands for 1
-pub at-most : (k e t : ℕ) → t < 2 ^ 52 → e < 1023 + k → sized binary64 e t < 2 ^ k * 2 ^ 1074
-at-most k e t h l = lt-of-lt-of-le (shl-lt 53 (exp e) (sig-lt e t h)) (le-trans (pow-mono (places e l)) (le-of-eq (pow-add 2 k 1074)))
-  where
-    places : (e : ℕ) → e < 1023 + k → 53 + exp e ≤ k + 1074
-    places zero l = omega arith
-    places (suc y) l = omega arith
-
-pub at-least : (k e t : ℕ) → 1023 + k ≤ e → 2 ^ k * 2 ^ 1074 ≤ sized binary64 e t
-at-least k zero t h = absurd (omega arith)
-at-least k (suc y) t h =
-    let places : k + 1074 ≤ 52 + y = omega arith in
-    le-trans (le-of-eq (sym (pow-add 2 k 1074)))
-    (le-trans (pow-mono places) (le-trans (le-of-eq (pow-add 2 52 y)) (mul-le-mul-right (2 ^ y) (le-add-right (2 ^ 52) t))))
 
 pub value : (x : Float) (b : ℕ) → ofBits binary64 b ≡ x → (s : Bool) → leb (2 ^ 63) b ≡ s → field b < 2047 → HasValue x s (size-of b) (2 ^ 1074)
 value x b is s g h = rw (← is, ← g) (read-value binary64 b h)
@@ -100,7 +101,7 @@ module _ (f : Format) (above below : Way) (x : Float) (b : ℕ) (is : ofBits bin
       elim (decLt (field b) 2047) [
         | yes l ↦
             sym (integral-large f above below x (leb (2 ^ 63) b) (size-of b) (2 ^ 1074) t (pow-pos 1074) (value x b is (leb (2 ^ 63) b) refl l)
-            (at-least (prec f - 1) (field b) (b % 2 ^ 52) (omega (arith, two f))))
+            (at-least binary64 (prec f - 1) (field b) (b % 2 ^ 52) (omega (arith, two f))))
         | no l ↦ subst (λ (v : Float). v ≡ integral f above below v) is (no-number (omega arith))
       ]
     where
@@ -114,7 +115,7 @@ module _ (f : Format) (above below : Way) (x : Float) (b : ℕ) (is : ofBits bin
 pub in-format : (f : Format) (w : Way) (b n : ℕ) → field b < 1022 + prec f → n ≡ toWhole w (size-of b) (2 ^ 1074) → T (inFloat f (pos n))
 unfolding inFloat
 in-format f w b n h r =
-    let l : size-of b / 2 ^ 1074 < hid f = div-lt-iff-lt-mul (pow-pos 1074) .1 (at-most (prec f - 1) (field b) (b % 2 ^ 52) (omega arith) (omega (arith, two f))) in
+    let l : size-of b / 2 ^ 1074 < hid f = div-lt-iff-lt-mul (pow-pos 1074) .1 (at-most binary64 (prec f - 1) (field b) (b % 2 ^ 52) (omega arith) (omega (arith, two f))) in
     let m = whole-le w (size-of b) (2 ^ 1074) (pow-pos 1074) in
     le→leb n (2 ^ prec f) (rw r (few (toWhole w (size-of b) (2 ^ 1074)) (size-of b / 2 ^ 1074) (hid f) (2 ^ prec f) m l (twice-hid f)))
   where

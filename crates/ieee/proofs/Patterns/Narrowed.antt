@@ -51,12 +51,12 @@ subnormal : (e t : ℕ) → e < 897 → t < 2 ^ 52 → Narrow e t ≡ 0 * 2 ^ 23
 subnormal e t h l =
     let x = exp-le e in
     shift-bits binary32 (sig binary64 e t) (exp e) 1074 (925 - exp e) 0 (omega arith)
-    (below-pow (sig binary64 e t) 53 (24 + (925 - exp e)) (sig-lt e t l) (omega arith)) (inl refl) (lit< tt)
+    (below-pow (sig binary64 e t) 53 (24 + (925 - exp e)) (sig-lt binary64 e t l) (omega arith)) (inl refl) (lit< tt)
 
 pub narrow-tiny : (e t : ℕ) → e < 863 → t < 2 ^ 52 → 0 ≡ Narrow e t
 narrow-tiny e t h l =
     let x = exp-le e in
-    let d = sig-lt e t l in
+    let d = sig-lt binary64 e t l in
     sym (subnormal e t (omega arith) l
     ∙ rw (closest-small (sig binary64 e t) (925 - exp e) (below-pow (sig binary64 e t * 2) 54 (925 - exp e) (omega arith) (omega arith))))
 

@@ -1,10 +1,10 @@
 -- A float's size as a whole number is one shift of its digits. Assumes nothing.
 use mathlib.Core.Path.{_≡_, sym, ap, _∙_}
 use Prim.Native.Nat.{ℕ, zero, suc, _+_, _-_, _*_, _/_, _^_, _≤_, _<_, min}
-use native.Mathlib.Nat.{lt-of-lt-of-le, mul-assoc, mul-comm, mul-div-mul-right, mul-pos, pow-succ'}
+use native.Mathlib.Nat.{lt-of-lt-of-le, mul-assoc, mul-comm, mul-div-mul-right, mul-one, mul-pos, pow-succ'}
 use native.Mathlib.Omega.{arith}
 use lib.Pow.{pow-add, pow-mono, pow-pos, shl-lt}
-use lib.Ieee.{binary64}
+use lib.Ieee.{Format, binary64, low, hid}
 use Rattle.ieee.specs.Fields.{exp, sized}
 use Rattle.ieee.specs.Integral.{Way, half, toWhole}
 use Rattle.ieee.proofs.Patterns.Fields.{exp-le, sig-lt}
@@ -22,7 +22,7 @@ twice-lt : (n k l : ℕ) → n < 2 ^ k → k < l → 2 * n < 2 ^ l
 twice-lt n k l h g = lt-of-lt-of-le (omega (arith, pow-succ' 2 k)) (pow-mono g)
 
 small-size : (e t : ℕ) → e ≤ 1012 → t < 2 ^ 52 → 2 * sized binary64 e t < 2 ^ 1074
-small-size e t h l = twice-lt (sized binary64 e t) (53 + exp e) 1074 (shl-lt 53 (exp e) (sig-lt e t l)) (omega (arith, exp-le e))
+small-size e t h l = twice-lt (sized binary64 e t) (53 + exp e) 1074 (shl-lt 53 (exp e) (sig-lt binary64 e t l)) (omega (arith, exp-le e))
 
 -- far below a half there is nothing, and of any digits a shift by 63 leaves nothing
 pub none-size : (e t : ℕ) → e ≤ 1012 → t < 2 ^ 52 → toWhole half (2 ^ 52 + t) (2 ^ 63) ≡ toWhole half (sized binary64 e t) (2 ^ 1074)
@@ -37,9 +37,21 @@ tiny-size w e t h l =
     some zero = omega arith
     some (suc y) = let p : 0 < (2 ^ 52 + t) * 2 ^ y = mul-pos (omega arith) (pow-pos y) in omega arith
 
+-- the digits j places up, shifted down by k; with the field low f + 1 the last one counts 1
+pub placed-size : (f : Format) (w : Way) (j k e t : ℕ) → 0 < e → e + k ≡ j + low f + 1
+    → toWhole w ((hid f + t) * 2 ^ j) (2 ^ k) ≡ toWhole w (sized f e t) (2 ^ low f)
+placed-size f w j k zero t h p = absurd (omega arith)
+placed-size f w j k (suc y) t h p =
+    let places : j + low f ≡ y + k = omega arith in
+    let digits = hid f + t in
+    whole-same w (digits * 2 ^ j) (2 ^ k) (digits * 2 ^ y) (2 ^ low f) (pow-pos k) (pow-pos (low f))
+    (mul-assoc digits (2 ^ j) (2 ^ low f)
+    ∙ ap (λ (z : ℕ). digits * z) (sym (pow-add 2 j (low f)) ∙ ap (λ (z : ℕ). 2 ^ z) places ∙ pow-add 2 y k)
+    ∙ sym (mul-assoc digits (2 ^ y) (2 ^ k)))
+
+pub digits-size : (f : Format) (w : Way) (e t : ℕ) → 0 < e → e ≤ low f + 1 → toWhole w (hid f + t) (2 ^ (low f + 1 - e)) ≡ toWhole w (sized f e t) (2 ^ low f)
+digits-size f w e t h l =
+    let k = low f + 1 - e in ap (λ (z : ℕ). toWhole w z (2 ^ k)) (sym (mul-one (hid f + t))) ∙ placed-size f w 0 k e t h (omega arith)
+
 pub cut-size : (w : Way) (e t : ℕ) → 1012 ≤ e → e < 1075 → toWhole w (2 ^ 52 + t) (2 ^ (1075 - e)) ≡ toWhole w (sized binary64 e t) (2 ^ 1074)
-cut-size w zero t h l = absurd (omega arith)
-cut-size w (suc y) t h l =
-    let places : 1074 ≡ y + (1075 - suc y) = omega arith in
-    whole-same w (2 ^ 52 + t) (2 ^ (1075 - suc y)) ((2 ^ 52 + t) * 2 ^ y) (2 ^ 1074) (pow-pos (1075 - suc y)) (pow-pos 1074)
-    (ap (λ (z : ℕ). (2 ^ 52 + t) * 2 ^ z) places ∙ rw (pow-add 2 y (1075 - suc y)) (sym (mul-assoc (2 ^ 52 + t) (2 ^ y) (2 ^ (1075 - suc y)))))
+cut-size w e t h l = digits-size binary64 w e t (omega arith) (omega arith)

@@ -35,11 +35,14 @@ fn coded(z: i64) -> u64
     }
 }
 
-// The cell of a coordinate.
+// The cell of a coordinate. A NaN, whose cell is 0, goes first, so that the others need no care.
 fn cell(x: f32, inv: f64) -> u64
     ensures { λ r. ⌜ r ≡ codedOf (cellOf inv x) ⌝ }
 {
-    coded(floats::round_to_i64(std::num::f32_to_f64_with_nan(x) * inv))
+    if x != x {
+        return 0;
+    }
+    coded(floats::round_to_i64(x as f64 * inv))
 }
 
 // The cell of vertex v.

@@ -1,7 +1,7 @@
 -- A float's size as a whole number is one shift of its digits. Assumes nothing.
 use mathlib.Core.Path.{_≡_, sym, ap, _∙_}
 use Prim.Native.Nat.{ℕ, zero, suc, _+_, _-_, _*_, _/_, _^_, _≤_, _<_, min}
-use native.Mathlib.Nat.{lt-of-lt-of-le, mul-assoc, mul-comm, mul-div-mul-right, mul-one, mul-pos, pow-succ'}
+use native.Mathlib.Nat.{add-div-right, div-div-eq-div-mul, lt-of-lt-of-le, mul-assoc, mul-comm, mul-div-mul-right, mul-one, mul-pos, pow-succ'}
 use native.Mathlib.Omega.{arith}
 use lib.Pow.{pow-add, pow-mono, pow-pos, shl-lt}
 use lib.Ieee.{Format, binary64, low, hid}
@@ -16,6 +16,13 @@ pub half-shift : (d j : ℕ) → 0 < j → (d + 2 ^ (j - 1)) / 2 ^ j ≡ toWhole
 half-shift d j h =
     let n : (d + 2 ^ (j - 1)) * 2 ≡ 2 * d + 2 ^ j = omega (arith, pow-half j h) in
     sym (mul-div-mul-right (d + 2 ^ (j - 1)) (2 ^ j) (pow-pos 1)) ∙ rw (n, mul-comm (2 ^ j) 2)
+
+-- the same by the digit behind the last: it is shifted down to, one is added, and it goes
+pub half-digit : (d j : ℕ) → 0 < j → (d / 2 ^ (j - 1) + 1) / 2 ≡ toWhole half d (2 ^ j)
+half-digit d j h =
+    let p : ℕ = 2 ^ (j - 1) in
+    let two : p * 2 ≡ 2 ^ j = omega (arith, pow-half j h) in
+    ap (λ (z : ℕ). z / 2) (sym (add-div-right d (pow-pos (j - 1)))) ∙ div-div-eq-div-mul (d + p) p 2 ∙ ap (λ (z : ℕ). (d + p) / z) two ∙ half-shift d j h
 
 -- ---- by the fields e and t
 twice-lt : (n k l : ℕ) → n < 2 ^ k → k < l → 2 * n < 2 ^ l

@@ -1,27 +1,23 @@
 -- `rounding::ties_away::nearest_shift` meets its contract. Assumes nothing.
 use borrow.Author.Needs.{needs}
-use Prim.Native.Nat.{_-_}
+use Prim.Native.Nat.{_-_, _^_}
+use native.Mathlib.Nat.{div-le-self}
 use native.Mathlib.Omega.{arith}
-use lib.Pow.{pow-mono}
-use Rattle.ieee.proofs.Numbers.Basic.{one-shl}
-use Rattle.ieee.proofs.Patterns.Whole.{half-shift}
+use Rattle.ieee.proofs.Patterns.Whole.{half-digit}
 use Rattle.rounding.proofs.ties_away.nearest_shift.Statement.{statement}
 use Rattle.rounding.proofs.ties_away.nearest_shift.Tie as tie
 
 sub-result : tie.Need-sub-result
 sub-result c = search needs
 
-shl-result : tie.Need-shl-result
-shl-result c = search needs
-
-add-result : tie.Need-add-result
-add-result c = let k = c .args .k in rw (one-shl (k - 1) (omega arith)) (omega (arith, pow-mono {i = k - 1} {j = 63} (omega arith)))
-
 shr-result : tie.Need-shr-result
 shr-result c = search needs
 
+add-result : tie.Need-add-result
+add-result c = omega (arith, div-le-self (c .args .n) (2 ^ (c .args .k - 1)))
+
 returns : tie.Need-returns
-returns c = let k = c .args .k in rw (one-shl (k - 1) (omega arith)) (half-shift (c .args .n) k (omega arith))
+returns c = half-digit (c .args .n) (c .args .k) (omega arith)
 
 pub nearest-shift-spec : {M : Type 1} → statement M
-nearest-shift-spec = tie.close (tie.spec sub-result shl-result add-result shr-result returns)
+nearest-shift-spec = tie.close (tie.spec sub-result shr-result add-result returns)

@@ -1,13 +1,12 @@
 // For the differential runs alone, and in no header: what C has no name for.
 ghost use lib.Dec.{eqb, leb, ltb};
-ghost use lib.Ieee.{binary32, binary64, ofBits, toSigned};
+ghost use lib.Ieee.{binary32, ofBits};
 ghost use lib.ListN.{length, replicate};
 ghost use mathlib.Core.Bool.{_&&_, cond};
 ghost use mathlib.Core.List.{_++_};
 ghost use mathlib.Core.Path.{_≡_};
 ghost use Prim.Native.Nat.{_+_, _*_, min};
 ghost use Rattle.ieee.specs.Cube.{cubeAbove};
-ghost use Rattle.ieee.specs.Integral.{halfAway};
 ghost use Rattle.ieee.specs.Single.{nought};
 ghost use Rattle.ids.specs.Lent.{cleared};
 ghost use Rattle.vertices.specs.Vertices.{vertexCount};
@@ -23,13 +22,6 @@ pub extern "C" fn probe_cube_above(s: u32, p: u32) -> bool
     ensures { λ r. ⌜ r ≡ cubeAbove (ofBits binary32 s) (ofBits binary32 p) ⌝ }
 {
     floats::cube_above_bits(s, p)
-}
-
-#[no_mangle]
-pub extern "C" fn probe_round_to_i64(x: u64) -> i64
-    ensures { λ r. ⌜ r ≡ toSigned 63 (halfAway binary64 (ofBits binary64 x)) ⌝ }
-{
-    floats::round_to_i64(floats::f64_of(x))
 }
 
 #[no_mangle]

@@ -38,7 +38,6 @@ pub use rounding::floor64;
 pub use rounding::floor64_bits;
 pub use rounding::narrow;
 pub use rounding::narrow_bits;
-pub use rounding::round_to_i64;
 pub use rounding::round32;
 pub use rounding::round32_bits;
 pub use rounding::round64;

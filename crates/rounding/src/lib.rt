@@ -1,13 +1,14 @@
-// Roundings: to a whole number of the format, and f64 to f32. Internal: `floats` passes it on.
+// Roundings: to a whole number of the format, and f64 to f32. Internal: `floats` passes on
+// what has no `requires`.
 mod narrowing; // f64 to f32
 mod ties_away; // to nearest, one tie rule
 mod ties_even; // and the other
-mod to_integer; // half away from zero, to an integer
+mod to_integer; // half away from zero, as an integer
 mod whole; // floor, ceiling, and rounding half away from zero
 
 pub use narrowing::narrow;
 pub use narrowing::narrow_bits;
-pub use to_integer::round_to_i64;
+pub use to_integer::half_size;
 pub use whole::ceiling32;
 pub use whole::ceiling32_bits;
 pub use whole::ceiling64;

@@ -1,12 +1,14 @@
 // `welded_indices`: vertices in one cell become the first of them. Internal: `qto` asks it where the given ids are not boundary-free.
 ghost use mathlib.Core.Path.{_≡_};
 ghost use mathlib.Core.List.{_++_};
-ghost use Prim.Native.Nat.{_+_, _*_, _/_, _%_, _≤_, _<_};
+ghost use Prim.Native.Nat.{_+_, _*_, _/_, _%_, _≤_, _<_, min};
 ghost use lib.ListN.{length, getD, replicate, set, take};
 ghost use Rattle.table.specs.Rows.{Found};
 ghost use Rattle.vertices.specs.Vertices.{vertexCount};
 ghost use Rattle.weld.specs.Weld.{epsilonOf, cellOf, weldAll, welded};
 ghost use Rattle.weld.specs.Table.{coded as codedOf, codeAt, sameCode, pair as pairOf, stored, slotIn, keyIn, hashOf, Searchable, Claimed, Welds, idBy, mapped};
+use patterns::FIELD;
+use patterns::SIGN;
 
 // A cell as three numbers.
 pub struct Code {
@@ -35,14 +37,29 @@ fn coded(z: i64) -> u64
     }
 }
 
-// The cell of a coordinate. A NaN, whose cell is 0, goes first, so that the others need no care.
+fn lesser(a: u64, b: u64) -> u64
+    ensures { λ r. ⌜ r ≡ min a b ⌝ }
+{
+    if a < b { a } else { b }
+}
+
+// The cell of a coordinate. A NaN, whose cell is 0, goes first. Below 2^52 the number comes from the pattern's fields, with no
+// float or signed integer between: twice the size, and one less below zero, unless that is 0.
 fn cell(x: f32, inv: f64) -> u64
     ensures { λ r. ⌜ r ≡ codedOf (cellOf inv x) ⌝ }
 {
     if x != x {
         return 0;
     }
-    coded(floats::round_to_i64(x as f64 * inv))
+    let y = x as f64 * inv;
+    let b = floats::bits64(y);
+    let e = b % SIGN / FIELD;
+    if e < 1075 {
+        let n = rounding::half_size(e, b % FIELD);
+        2 * n - lesser(b / SIGN, n)
+    } else {
+        coded(floats::to_i64(y))
+    }
 }
 
 // The cell of vertex v.

@@ -32,6 +32,5 @@ port! {
     mf_to_i32(x: u32) -> i32;
     mf_to_i64(x: u64) -> i64;
     mf_to_u64(x: u32) -> u64;
-    probe_round_to_i64(x: u64) -> i64;
     probe_cube_above(s: u32, p: u32) -> bool;
 }

@@ -1,8 +1,8 @@
 //! Each float helper of the C interface beside Rust's own operation, both on bit patterns.
 //!
 //! A pattern stands in a u64, an f32's in its lower half; so does an answer. Where Rust leaves the answer open, document
-//! 01 has the rule, and `rust` is held to it: `Answer::Open`. The last two the C interface does not have: half away to an
-//! i64 in one step, and 8s³ > p²; beside the latter stands our own exact form, and for the clock the original's, with `powf`.
+//! 01 has the rule, and `rust` is held to it: `Answer::Open`. The last helper is 8s³ > p², which the C interface does not
+//! have; beside it stands our own exact form, and for the clock the original's, with `powf`.
 
 use super::capi;
 use super::patterns::{partners, partners_of_cube};
@@ -116,8 +116,8 @@ macro_rules! two {
     };
 }
 
-/// In the order of the C interface, and behind them what it does not have.
-pub const HELPERS: [Helper; 19] = [
+/// In the order of the C interface, and 8s³ > p² behind them.
+pub const HELPERS: [Helper; 18] = [
     one!("root64", F64, mf_root64, |x| x.sqrt(), wide, f64::to_bits),
     // The sign goes and the digits stay, a NaN's too: Rust fixes every bit.
     one!("magnitude64", F64, mf_magnitude64, |x| x.abs(), |r: f64| Answer::Fixed(r.to_bits()), f64::to_bits),
@@ -136,8 +136,6 @@ pub const HELPERS: [Helper; 19] = [
     one!("to_i32", F32, mf_to_i32, |x| x as i32, |r: i32| Answer::Fixed(r as u64), |r: i32| r as u64),
     one!("to_i64", F64, mf_to_i64, |x| x as i64, |r: i64| Answer::Fixed(r as u64), |r: i64| r as u64),
     one!("to_u64", F32, mf_to_u64, |x| x as u64, Answer::Fixed, |r: u64| r),
-    one!("round_to_i64", F64, probe_round_to_i64, |x| x.round() as i64, |r: i64| Answer::Fixed(r as u64), |r: i64| r
-        as u64),
     Helper {
         name: "cube_above",
         width: Width::F32,

@@ -1,16 +1,11 @@
--- A float's nearest whole number as an integer, by its pattern: below 2 ^ 52 a word with its size, the sign put on; from there on it is whole. Assumes nothing.
-use mathlib.Core.Path.{_≡_, sym, ap, _∙_}
+-- A float's nearest whole number as an integer, by its pattern: below 2 ^ 52 its size and its sign; from there on it is whole. Assumes nothing.
+use mathlib.Core.Path.{_≡_, sym, ap}
 use mathlib.Core.Bool.{Bool, true, false, cond}
-use Prim.Native.Nat.{ℕ, _+_, _^_, _≤_, _<_}
+use Prim.Native.Nat.{ℕ, _^_, _≤_, _<_}
 use native.Mathlib.Nat.{lt-of-le-of-lt}
-use borrow.Author.Tests.{le-leb, lt-leb}
 use lib.Dec.{T, leb, leb→le, lit<}
-use lib.IntN.{pos, negℤ, _-ℤ_, +ℤ-idl}
 use lib.Ieee.{Float, binary64, fits, ofBits, toSigned, inFloat}
 use lib.Ieee.Back.{round-whole}
-use mir.Syntax.{w64}
-use mir.Val.{toZ}
-use mir.ValLaws.{toZ-pos}
 use Rattle.ieee.specs.Integral.{half, halfAway, toWhole}
 use Rattle.ieee.specs.WholeNumber.{signed}
 use Rattle.ieee.proofs.Integers.Floats.{toSigned-value}
@@ -29,11 +24,9 @@ module _ (x : Float) (b : ℕ) (is : ofBits binary64 b ≡ x) where
     by-sign : (s : Bool) → leb (2 ^ 63) b ≡ s → n ≡ toWhole (cond s half half) (size-of b) (2 ^ 1074) → signed s n ≡ toSigned 63 (halfAway binary64 x)
     by-sign s g e = rw (← small binary64 half half x b is s n g h e) (sym (toSigned-value 63 _ s n few (round-whole binary64 s n at-most)))
 
-    pub from-zero-up : b < 2 ^ 63 → toZ w64 n ≡ toSigned 63 (halfAway binary64 x)
-    from-zero-up g = toZ-pos w64 n few ∙ by-sign false (lt-leb (2 ^ 63) b g) r
-
-    pub below-zero : 2 ^ 63 ≤ b → pos 0 -ℤ toZ w64 n ≡ toSigned 63 (halfAway binary64 x)
-    below-zero g = rw (toZ-pos w64 n few) (+ℤ-idl (negℤ (pos n)) ∙ by-sign true (le-leb (2 ^ 63) b g) r)
+    pub nearest-signed : (s : Bool) → leb (2 ^ 63) b ≡ s → signed s n ≡ toSigned 63 (halfAway binary64 x)
+    nearest-signed false g = by-sign false g r
+    nearest-signed true g = by-sign true g r
 
   -- ---- from 2 ^ 52 on
   pub already : T (fits binary64 x) → 1075 ≤ field b → toSigned 63 x ≡ toSigned 63 (halfAway binary64 x)

@@ -7,7 +7,7 @@ use mathlib.Core.List.{List, [], _∷_}
 use lib.Dec.{eqb, ltb}
 use lib.IntN.{ℤ, pos, negsuc}
 use lib.ListN.{length}
-use lib.Ieee.{Float, binary32, binary64, mul, div, le, isNan, ofBits, toSigned}
+use lib.Ieee.{Float, binary64, mul, div, le, isNan, ofBits, toSigned}
 use Rattle.ieee.specs.Integral.{halfAway}
 use Rattle.ieee.specs.Order.{greatest}
 use Rattle.ieee.specs.Single.{_⊘_, nought, tiny}

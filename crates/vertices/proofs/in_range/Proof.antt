@@ -1,11 +1,9 @@
+-- `vertices::in_range` meets its contract. Assumes nothing.
 use denote.Ref.{now}
 use Rattle.vertices.proofs.Range.{in-range}
 use Rattle.vertices.proofs.in_range.Statement.{statement}
 use Rattle.vertices.proofs.in_range.Tie as tie
-use Rattle.vertices.proofs.in_range.Reads as reads
-use Rattle.vertices.proofs.in_range.Lts as lts
 
--- src/lib.rt:6:1
 returns : tie.Need-returns
 returns c = in-range (now (c .args .vertices)) (c .args .id)
 

@@ -3,3 +3,5 @@ pub mod Within
 pub mod Added
 pub mod Triangles
 pub mod Tally
+mod Gathering
+mod Behind

@@ -14,12 +14,12 @@ use Rattle.table.proofs.Tally.{rows-that}
 use Rattle.edges.specs.Rows.{EdgeTable, rowBit, homeOf, edgeAt, wordAt, usesAt, upsAt}
 use Rattle.edges.specs.Tests.{testOf}
 
--- a table of zeros means no uses
+-- rows whose words are 0 mean no uses
+pub empty-table : (n : ℕ) (t : List ℕ) → ((i : ℕ) → i < n → wordAt t i ≡ 0) → EdgeTable n t []
+empty-table n t word = empty sameEdge n (homeOf n) _ _ _ (λ i b. (none-used _ (word i b), none-up _ (word i b)))
+
 pub zero-table : (n m : ℕ) → 3 * n ≤ m → EdgeTable n (replicate m 0) []
-zero-table n m l = empty sameEdge n (homeOf n) _ _ _ (λ i b. (none-used _ (word i b), none-up _ (word i b)))
-  where
-    word : (i : ℕ) → i < n → wordAt (replicate m 0) i ≡ 0
-    word i b = getD-replicate m (3 * i + 2) 0 0 (omega arith)
+zero-table n m l = empty-table n (replicate m 0) (λ i b. getD-replicate m (3 * i + 2) 0 0 (omega arith))
 
 -- the rows' count is the edges'
 pub table-tally : (n : ℕ) (t : List ℕ) (es : List (Use Edge)) (test : ℕ → ℕ → Bool) → EdgeTable n t es → sumTo (rowBit test t) n ≡ edgesThat test es

@@ -1,10 +1,10 @@
 // The edges of the triangles of a list of ids, counted in a table in lent words. Internal: `chain` asks it.
 ghost use mathlib.Core.Path.{_≡_};
-ghost use mathlib.Core.Bool.{cond};
+ghost use mathlib.Core.Bool.{true, cond};
 ghost use mathlib.Core.List.{List, [], _∷_, _++_};
-ghost use Prim.Native.Nat.{_+_, _*_, _/_, _≤_, _<_};
+ghost use Prim.Native.Nat.{_+_, _-_, _*_, _/_, _≤_, _<_};
 ghost use lib.Dec.{ltb};
-ghost use lib.ListN.{length};
+ghost use lib.ListN.{length, take, drop};
 ghost use Rattle.ids.specs.Triangles.{overTriangles};
 ghost use Rattle.ids.specs.Uses.{Use, bit};
 ghost use Rattle.ids.specs.EdgeChain.{Edge, step as stepUse, properStep, around, aroundProper, present, unbalanced, crowded, unpaired, incoherent};
@@ -138,6 +138,22 @@ pub fn gather(ids: &[u32], work: &mut [u32], n: usize, whole: bool)
     let mut i = 0;
     while i + 2 < ids.len() {
         triangle_by(work, n, whole, ids[i], ids[i + 1], ids[i + 2]);
+        i += 3;
+    }
+}
+
+// The same, of whole triangles, where the ids stand in the lent area itself: from `at` on, behind the table.
+pub fn gather_behind(area: &mut [u32], at: usize, n: usize)
+    requires { ⌜ (at ≤ length (now area)) × (length (now area) ≤ at + 98304) × (length (now area) - at ≤ n) × (n ≤ 131072) × (3 * n ≤ at) × EdgeTable n (take at (now area)) [] ⌝ }
+    ensures { λ _. ⌜ EdgeTable n (take at (now (area .exit))) (overTriangles (edgesOf true) (drop at (now (area .entry))))
+        × (drop at (now (area .exit)) ≡ drop at (now (area .entry))) ⌝ }
+{
+    let mut i = at;
+    while i + 2 < area.len() {
+        let p = area[i];
+        let q = area[i + 1];
+        let r = area[i + 2];
+        triangle(&mut area[..at], n, p, q, r);
         i += 3;
     }
 }

@@ -3,5 +3,8 @@ pub mod Faces
 pub mod Parity
 pub mod Rows
 pub mod RowSums
+mod Adding
 pub mod Turns
+mod Summing
+mod Behind
 pub mod Answers

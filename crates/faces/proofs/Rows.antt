@@ -84,10 +84,12 @@ module _ (ids : List ℕ) (n : ℕ) (t : List ℕ) where
         | no p ↦ omega arith
       ]
 
--- zeros are a table with no use
-pub zero-table : (ids : List ℕ) (n m : ℕ) → 2 * n ≤ m → (0 < n → 0 < triangleCount ids) → FaceTable ids n (replicate m 0) []
-zero-table ids n m fits some = record {
-  named = λ i l. rw (getD-replicate {A = ℕ} m (2 * i) 0 0 (omega arith)) (some (omega arith));
-  means = empty sameFace n (homeOf n) (faceAt ids (replicate m 0)) (usesAt (replicate m 0)) (upsAt (replicate m 0))
-      (λ i l. let z : wordAt (replicate m 0) i ≡ 0 = getD-replicate {A = ℕ} m (2 * i + 1) 0 0 (omega arith) in (none-used _ z, none-up _ z));
+-- rows of zeros are a table with no use
+pub empty-table : (ids : List ℕ) (n : ℕ) (t : List ℕ) → (0 < n → 0 < triangleCount ids) → ((x : ℕ) → x < 2 * n → getD t x 0 ≡ 0) → FaceTable ids n t []
+empty-table ids n t some none = record {
+  named = λ i l. rw (none (2 * i) (omega arith)) (some (omega arith));
+  means = empty sameFace n (homeOf n) (faceAt ids t) (usesAt t) (upsAt t) (λ i l. (none-used _ (none (2 * i + 1) (omega arith)), none-up _ (none (2 * i + 1) (omega arith))));
 }
+
+pub zero-table : (ids : List ℕ) (n m : ℕ) → 2 * n ≤ m → (0 < n → 0 < triangleCount ids) → FaceTable ids n (replicate m 0) []
+zero-table ids n m fits some = empty-table ids n (replicate m 0) some (λ x l. getD-replicate {A = ℕ} m x 0 0 (omega arith))

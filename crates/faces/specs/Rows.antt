@@ -1,7 +1,8 @@
 -- The table of faces: rows of 2 words, a triangle and the word that counts the uses of its face. There are 2 rows for a triangle, so at most one in two is used.
 use Prim.Native.Nat.{ℕ, _+_, _*_, _%_, _<_}
-use mathlib.Core.List.{List}
-use lib.ListN.{length, getD, set}
+use mathlib.Core.Path.{_≡_}
+use mathlib.Core.List.{List, _++_}
+use lib.ListN.{length, getD, set, take, drop}
 use Rattle.ids.specs.Triangles.{triangle, triangleCount}
 use Rattle.ids.specs.Uses.{Use, bit}
 use Rattle.ids.specs.EdgeChain.{unbalanced}
@@ -45,6 +46,11 @@ pub record FaceTable (ids : List ℕ) (n : ℕ) (t : List ℕ) (es : List (Use F
 -- they mean some uses, and there is room for one more
 abbrev pub Room : List ℕ → ℕ → List ℕ → Type 0
 Room ids n t = (es : List (Use Face)) × (length es < n) × (length es < 32768) × FaceTable ids n t es
+
+-- where the ids stand behind the first `at` words of one list with the table, which goes from w to w′: they stay, and the table means the uses fs besides
+pub record AddedBehind (at n : ℕ) (w w′ : List ℕ) (fs : List (Use Face)) : Type 0 where
+  pub same : drop at w′ ≡ drop at w
+  pub adds : (es : List (Use Face)) → FaceTable (drop at w) n (take at w) es → FaceTable (drop at w) n (take at w′) (es ++ fs)
 
 -- what a row adds to the count of sums other than 0, and to the largest
 unfoldable pub rowOff : List ℕ → ℕ → ℕ

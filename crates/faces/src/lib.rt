@@ -3,14 +3,14 @@ ghost use mathlib.Core.Path.{_≡_};
 ghost use mathlib.Core.Bool.{cond};
 ghost use mathlib.Core.List.{List, [], _∷_, _++_};
 ghost use Prim.Native.Nat.{ℕ, _+_, _*_, _≤_, _<_};
-ghost use lib.ListN.{length};
+ghost use lib.ListN.{length, take, drop};
 ghost use Rattle.ids.specs.Triangles.{triangle, triangleCount};
 ghost use Rattle.ids.specs.Uses.{Use};
 ghost use Rattle.ids.specs.FaceNet.{Face, sameFace, sorted, faceUse, face, faces};
 ghost use Rattle.table.specs.Rows.{sumTo, Found, Free};
 ghost use Rattle.table.specs.Counts.{usesIn, upsIn, magnitude};
 ghost use Rattle.table.specs.Table.{maxTo};
-ghost use Rattle.faces.specs.Rows.{namedAt, faceAt, wordAt, usesAt, put, hashOf, FaceTable, Room, rowOff, rowSize};
+ghost use Rattle.faces.specs.Rows.{namedAt, faceAt, wordAt, usesAt, put, hashOf, FaceTable, Room, AddedBehind, rowOff, rowSize};
 
 // Three ids sorted.
 pub struct Sorted {
@@ -135,6 +135,70 @@ pub fn gather(ids: &[u32], work: &mut [u32], n: usize)
         t += 1;
     }
 }
+
+// ---- the same where the ids stand in the lent area itself: from `at` on, behind the table
+
+// The first row, from `start` on and round, that holds the face or is free.
+fn find_behind(
+    area: &[u32],
+    at: usize,
+    n: usize,
+    low: u32,
+    mid: u32,
+    high: u32,
+    start: usize,
+) -> usize
+    requires { ⌜ (at ≤ length (now area)) × (length (now area) ≤ at + 98304) × (start < n) × (n ≤ 65536) × (2 * n ≤ at)
+        × ((i : ℕ) → i < n → namedAt (take at (now area)) i < triangleCount (drop at (now area))) × Free n (usesAt (take at (now area))) ⌝ }
+    ensures { λ r. ⌜ Found n start (faceAt (drop at (now (area .entry))) (take at (now (area .entry)))) (usesAt (take at (now (area .entry)))) (record { low = low; mid = mid; high = high }) r ⌝ }
+{
+    find(&area[at..], &area[..at], n, low, mid, high, start)
+}
+
+// Adds the use that triangle t makes of its face.
+fn add_behind(area: &mut [u32], at: usize, n: usize, t: usize)
+    requires { ⌜ (at ≤ length (now area)) × (length (now area) ≤ at + 98304) × (t < triangleCount (drop at (now area))) × (n ≤ 65536) × (2 * n ≤ at)
+        × Room (drop at (now area)) n (take at (now area)) ⌝ }
+    ensures { λ _. ⌜ AddedBehind at n (now (area .entry)) (now (area .exit)) (faceUse (triangle (drop at (now (area .entry))) t) ∷ []) ⌝ }
+{
+    let s = sort(&area[at..], t);
+    let low = s.low;
+    let mid = s.mid;
+    let high = s.high;
+    let start = table::home(hash(low, mid, high), n);
+    let r = find_behind(area, at, n, low, mid, high, start);
+    let by = weight(&area[at..], t);
+    bump(&mut area[..at], r, t, by);
+}
+
+// Adds the use that triangle t makes: none if it repeats an id.
+fn triangle_behind(area: &mut [u32], at: usize, n: usize, t: usize)
+    requires { ⌜ (at ≤ length (now area)) × (length (now area) ≤ at + 98304) × (t < triangleCount (drop at (now area))) × (n ≤ 65536) × (2 * n ≤ at)
+        × Room (drop at (now area)) n (take at (now area)) ⌝ }
+    ensures { λ _. ⌜ AddedBehind at n (now (area .entry)) (now (area .exit)) (face (triangle (drop at (now (area .entry))) t)) ⌝ }
+{
+    if !table::distinct_at(&area[at..], t) {
+        return;
+    }
+    add_behind(area, at, n, t);
+}
+
+// Adds the uses of all triangles to an empty table of n rows.
+pub fn gather_behind(area: &mut [u32], at: usize, n: usize)
+    requires { ⌜ (at ≤ length (now area)) × (length (now area) ≤ at + 98304) × (triangleCount (drop at (now area)) ≤ n) × (n ≤ 65536) × (2 * n ≤ at)
+        × FaceTable (drop at (now area)) n (take at (now area)) [] ⌝ }
+    ensures { λ _. ⌜ FaceTable (drop at (now (area .entry))) n (take at (now (area .exit))) (faces (drop at (now (area .entry))))
+        × (drop at (now (area .exit)) ≡ drop at (now (area .entry))) ⌝ }
+{
+    let m = (area.len() - at) / 3;
+    let mut t = 0;
+    while t < m {
+        triangle_behind(area, at, n, t);
+        t += 1;
+    }
+}
+
+// ---- what the rows say
 
 // The magnitude of the sum that a word counts.
 fn size(word: u32) -> u32

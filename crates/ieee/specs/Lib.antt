@@ -12,4 +12,5 @@ pub mod Cube
 pub mod Answers
 pub mod Fields
 pub mod Single
+pub mod Double
 pub mod Examples

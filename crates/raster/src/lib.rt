@@ -156,7 +156,7 @@ fn tally(part: &[u8]) -> usize
 }
 
 // Zeroes the first n bytes.
-fn clear(area: &mut [u8], n: usize)
+pub fn clear(area: &mut [u8], n: usize)
     requires { ⌜ n ≤ length (now area) ⌝ }
     ensures { λ _. ⌜ now (area .exit) ≡ cleared n (now (area .entry)) ⌝ }
 {

@@ -1,4 +1,4 @@
--- Laws of tables whatever they hold, and of those that count uses; what clearing and searching do stands with each function.
+-- Laws of tables whatever they hold, of those that count uses, and of an area whose front was cleared; what searching does stands with each function.
 pub mod Search
 pub mod Sums
 pub mod Probe
@@ -6,3 +6,4 @@ pub mod Largest
 pub mod Signed
 pub mod Counts
 pub mod Tally
+pub mod Cleared

@@ -15,7 +15,7 @@ use Rattle.weld.specs.Table.{coded, codeOf, sameCode, hashOf, homeOf}
 
 -- ---- one to one
 
-coded-one : (a b : ℤ) → coded a ≡ coded b → a ≡ b
+pub coded-one : (a b : ℤ) → coded a ≡ coded b → a ≡ b
 unfolding coded
 coded-one (pos m) (pos n) e = ap pos (omega arith)
 coded-one (pos m) (negsuc n) e = absurd (omega arith)
@@ -42,14 +42,14 @@ pub code-refl : (a : Code) → sameCode a a ≡ true
 unfolding sameCode
 code-refl a = rw (eq-eqb (a .x) (a .x) refl, eq-eqb (a .y) (a .y) refl, eq-eqb (a .z) (a .z) refl)
 
-integer-eq : (a b : ℤ) → sameInteger a b ≡ true → a ≡ b
+pub integer-eq : (a b : ℤ) → sameInteger a b ≡ true → a ≡ b
 unfolding sameInteger
 integer-eq (pos m) (pos n) h = ap pos (eqb-true m n h)
 integer-eq (pos m) (negsuc n) h = absurd (false≢true h)
 integer-eq (negsuc m) (pos n) h = absurd (false≢true h)
 integer-eq (negsuc m) (negsuc n) h = ap negsuc (eqb-true m n h)
 
-integer-refl : (a : ℤ) → sameInteger a a ≡ true
+pub integer-refl : (a : ℤ) → sameInteger a a ≡ true
 unfolding sameInteger
 integer-refl (pos n) = eq-eqb n n refl
 integer-refl (negsuc n) = eq-eqb n n refl

@@ -8,9 +8,10 @@ use native.Mathlib.Decide.{ℕ-discrete, decLt}
 use borrow.Author.Tests.{le-ltb}
 use lib.Dec.{ltb}
 use lib.Ieee.{Float}
-use lib.ListN.{length, getD, set, take, drop, replicate, length-set, length-append, length-replicate, getD-replicate, List·getD-append}
+use lib.ListN.{length, getD, set, take, replicate, length-set, length-append, List·getD-append}
 use lib.Seq.{drop-at, getD-set-same, getD-set-other, getD-take, getD-append-add, ext-getD, length-take-le}
 use Rattle.ids.specs.Lent.{cleared}
+use Rattle.table.proofs.Cleared.{front-zero}
 use Rattle.vertices.specs.Vertices.{vertexCount}
 use Rattle.weld.specs.Weld.{named, weldId, weldAll, inverse, unwelded, welded}
 use Rattle.weld.specs.Table.{slotIn, nameIn, Welds, idBy, mapped}
@@ -93,11 +94,8 @@ mapped-none t (x ∷ ids) = rw (le-ltb x 0 (omega arith)) (ap (λ (l : List ℕ)
 
 -- the slots are free in the part that is lent of an area whose first k words are cleared
 pub slots-cleared : (k m : ℕ) (t z : List ℕ) → z ≡ cleared k t → (r : ℕ) → r < k → r < m → slotIn (take m z) r ≡ 0
-unfolding slotIn cleared
-slots-cleared k m t z e r l b =
-    let word : getD (take m z) r 0 ≡ 0 = getD-take m z r 0 b ∙ ap (λ (s : List ℕ). getD s r 0) e
-    ∙ List·getD-append (replicate k 0) (drop k t) 0 r (omega (arith, length-replicate {A = ℕ} k 0)) ∙ getD-replicate {A = ℕ} k r 0 0 l in
-    omega arith
+unfolding slotIn
+slots-cleared k m t z e r l b = omega (arith, front-zero k m t z e r l b)
 
 -- a front of m words is cleared
 cleared-front : (m : ℕ) (a b : List ℕ) → length a ≡ m → cleared m (a ++ b) ≡ replicate m 0 ++ b

@@ -1,4 +1,4 @@
-// `welded_indices`: vertices in one cell become the first of them. Internal: `qto` asks it where the given ids are not boundary-free.
+// `welded_indices`: vertices in one cell become the first of them. Internal: `verdict` asks it where the given ids are not boundary-free.
 ghost use mathlib.Core.Path.{_≡_};
 ghost use mathlib.Core.List.{_++_};
 ghost use Prim.Native.Nat.{_+_, _*_, _/_, _%_, _≤_, _<_, min};
@@ -27,7 +27,7 @@ pub fn epsilon(distance: f32, unit: f32) -> f32
 // ---- the cell of a vertex
 
 // An integer as an unsigned number: twice it, or for one below zero twice what is left of it above -1, and one more.
-fn coded(z: i64) -> u64
+pub fn coded(z: i64) -> u64
     ensures { λ r. ⌜ r ≡ codedOf z ⌝ }
 {
     if z >= 0 {
@@ -222,8 +222,8 @@ fn weld(vertices: &[f32], ids: &[u32], inv: f64, part: &mut [u32])
     table::clear(part, m);
 }
 
-// The ids as they are.
-fn keep(ids: &[u32], part: &mut [u32], m: usize)
+// The ids as they are, behind m words that are then zero.
+pub fn keep(ids: &[u32], part: &mut [u32], m: usize)
     requires { ⌜ length (now part) ≡ m + length (now ids) ⌝ }
     ensures { λ _. ⌜ now (part .exit) ≡ replicate m 0 ++ now (ids .entry) ⌝ }
 {

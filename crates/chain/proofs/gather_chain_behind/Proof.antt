@@ -1,0 +1,39 @@
+-- `chain::gather_chain_behind` meets its contract: with enough ids the table means the uses of all triangles, else none. Assumes nothing.
+use mathlib.Core.Path.{refl, sym, ap, _∙_}
+use borrow.Author.Needs.{needs}
+use lib.ListN.{drop, length-drop}
+use Rattle.ids.specs.EdgeChain.{enough}
+use Rattle.chain.proofs.Chain.{chain-all, chain-none}
+use Rattle.chain.proofs.gather_chain_behind.Statement.{statement}
+use Rattle.chain.proofs.gather_chain_behind.Tie as tie
+
+sub-enough : tie.Need-sub-enough
+sub-enough c = search needs
+
+enough-requires : tie.Need-enough-requires
+enough-requires c κs = search needs
+
+gather-behind-requires : tie.Need-gather-behind-requires
+gather-behind-requires c κs = search needs
+
+same-length : tie.Need-same-length
+same-length c = search needs
+
+returns : tie.Need-returns
+returns c =
+    let s = c .before .before .before .before .before .before .before in
+    let ids = drop (s .args .at) (s .args .area .now) in
+    let told = ap enough (length-drop (s .args .at) (s .args .area .now)) ∙ sym (c .before .before .before .before .before .enough .ensures) in
+    (rw (chain-all ids (told ∙ c .before .before .before .before .if1 .taken)) (c .before .before .gather-behind .ensures .0), c .before .before .gather-behind .ensures .1)
+
+returns-2 : tie.Need-returns-2
+returns-2 c =
+    let s = c .before .before .before in
+    let ids = drop (s .args .at) (s .args .area .now) in
+    let told = ap enough (length-drop (s .args .at) (s .args .area .now)) ∙ sym (c .before .enough .ensures) in
+    (rw (chain-none ids (told ∙ c .if1 .left)) (s .pre .5), refl)
+
+pub gather-chain-behind-spec : {M : Type 1} → statement M
+gather-chain-behind-spec =
+    tie.close
+    (tie.spec sub-enough enough-requires gather-behind-requires same-length returns returns-2)

@@ -1,0 +1,69 @@
+-- `faces::triangle_behind` meets its contract: no use where an id repeats, else the one that `add_behind` adds. Assumes nothing.
+use mathlib.Core.Path.{refl, sym, _∙_}
+use borrow.Author.Tests.{not-true, not-false}
+use borrow.Rule.Slice.PartAt.{part-to-end}
+use borrow.Author.Needs.{needs}
+use Rattle.faces.proofs.Behind.{ids-few}
+use Rattle.faces.proofs.Turns.{face-none, face-one}
+use Rattle.faces.proofs.triangle_behind.Statement.{statement}
+use Rattle.faces.proofs.triangle_behind.Tie as tie
+
+mul-distinct-at : tie.Need-mul-distinct-at
+mul-distinct-at c = search needs
+
+sub-distinct-at : tie.Need-sub-distinct-at
+sub-distinct-at c = search needs
+
+part-distinct-at-start : tie.Need-part-distinct-at-start
+part-distinct-at-start c = search needs
+
+part-distinct-at-end : tie.Need-part-distinct-at-end
+part-distinct-at-end c = search needs
+
+distinct-at-requires : tie.Need-distinct-at-requires
+distinct-at-requires c κs =
+    let s = c .before .before .before in
+    let at = s .args .at in
+    let area = s .args .area .now in
+    rw (part-to-end area at) (ids-few at area (s .pre .1), s .pre .2)
+
+same-length : tie.Need-same-length
+same-length c = search needs
+
+returns : tie.Need-returns
+returns c =
+    let s = c .before .before .before .before .before in
+    let at = s .args .at in
+    let area = s .args .area .now in
+    let told = sym (rw (part-to-end area at) at (c .before .distinct-at .ensures)) ∙ not-true (c .before .distinct-at .result) (c .if1 .taken) in
+    record { same = refl; adds = λ es m. rw (face-none es _ told) m }
+
+add-behind-requires : tie.Need-add-behind-requires
+add-behind-requires c κs = search needs
+
+same-length-2 : tie.Need-same-length-2
+same-length-2 c = search needs
+
+returns-2 : tie.Need-returns-2
+returns-2 c =
+    let s = c .before .before .before .before .before .before .before .before .before in
+    let at = s .args .at in
+    let area = s .args .area .now in
+    let told = sym (rw (part-to-end area at) at (c .before .before .before .before .before .distinct-at .ensures)) ∙ not-false (c .before .before .before .before .before .distinct-at .result) (c .before .before .before .before .if1 .left) in
+    let k = c .before .before .add-behind .ensures in
+    record { same = k .same; adds = λ es m. rw (face-one es _ told) (k .adds es m) }
+
+pub triangle-behind-spec : {M : Type 1} → statement M
+triangle-behind-spec =
+    tie.close
+    (tie.spec
+    mul-distinct-at
+    sub-distinct-at
+    part-distinct-at-start
+    part-distinct-at-end
+    distinct-at-requires
+    same-length
+    returns
+    add-behind-requires
+    same-length-2
+    returns-2)

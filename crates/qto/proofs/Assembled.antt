@@ -1,0 +1,49 @@
+-- The record, from the values that the code has on the way, each a variable here.
+use mathlib.Core.Path.{_≡_, _∙_, ap}
+use mathlib.Core.List.{List}
+use Prim.Native.Nat.{ℕ}
+use lib.Ieee.{Float}
+use Rattle.ieee.specs.Magnitude.{magnitude}
+use Rattle.ieee.specs.Single.{_⊗_}
+use Rattle.sums.specs.declared.Bounds.{Bounds}
+use Rattle.sums.specs.Box.{box, boxVolume}
+use Rattle.weld.specs.Weld.{epsilonOf}
+use Rattle.verdict.specs.declared.Quality.{Quality}
+use Rattle.verdict.specs.Verdict.{quality}
+use Rattle.volume.specs.declared.Best.{Best}
+use Rattle.volume.specs.Best.{prism, bestOf}
+use Rattle.record.specs.declared.MeshQto.{MeshQto}
+use Rattle.record.specs.declared.Profile.{Profile}
+use Rattle.qto.specs.declared.Measures.{Measures}
+use Rattle.qto.specs.Full.{distance, verdict, best, measures, recordFrom, recordBy, recordOf}
+
+pub assembled : (vs : List Float) (ids : List ℕ) (u : Float) (b : Bounds) (m : Measures) (aabb ε size : Float) (q : Quality) (e : Best) → b ≡ box vs
+    → aabb ≡ boxVolume b (u ⊗ u ⊗ u) → ε ≡ epsilonOf distance u → q ≡ quality vs ids ε (m .volume) aabb → size ≡ magnitude (m .volume)
+    → e ≡ bestOf q size (m .surface) aabb (prism vs ids b (u ⊗ u ⊗ u))
+    → _≡_ {A = MeshQto}
+    (record {
+      «volume_m3» = m .volume;
+      «aabb_volume_m3» = aabb;
+      «surface_area_m2» = m .surface;
+      «area_top_m2» = m .top;
+      «area_bottom_m2» = m .bottom;
+      «area_side_m2» = m .side;
+      «area_inclined_m2» = m .inclined;
+      «largest_surface_m2» = m .largest;
+      «smallest_surface_m2» = m .smallest;
+      «surface_count» = m .count;
+      «mesh_quality» = q;
+      «volume_reliable» = e .reliable;
+      «volume_method» = e .method;
+      «volume_best_m3» = e .volume;
+      «volume_prism_bound_m3» = e .prism;
+      «profile_invalid» = Profile.Valid;
+    })
+    (recordBy vs ids u m (verdict vs ids u (m .volume)))
+unfolding recordBy recordFrom verdict best
+assembled vs ids u b m aabb ε size q e hb ha hε hq hs he = rw (he, hs, hq, hε, ha, hb)
+
+-- the measures are those of the mesh
+pub of-mesh : (vs : List Float) (ids : List ℕ) (u : Float) (m : Measures) (r : MeshQto) → m ≡ measures vs ids u → r ≡ recordBy vs ids u m (verdict vs ids u (m .volume)) → r ≡ recordOf vs ids u
+unfolding recordOf
+of-mesh vs ids u m r hm hr = hr ∙ ap (λ (n : Measures). recordBy vs ids u n (verdict vs ids u (n .volume))) hm

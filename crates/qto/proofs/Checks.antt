@@ -1,0 +1,71 @@
+-- What it says of a mesh and of the lent areas that no row of the table of refusals applies.
+use mathlib.Core.Path.{_≡_, refl, ap}
+use mathlib.Core.Bool.{Bool, true, false, not, _||_, false≢true}
+use Prim.Native.Nat.{ℕ, _≤_}
+use native.Mathlib.Omega.{arith}
+use mathlib.Core.List.{List}
+use lib.Dec.{T, ltb}
+use lib.ListN.{length}
+use lib.Ieee.{Float}
+use borrow.Author.Tests.{ltb-false}
+use Rattle.sums.specs.Fine.{allFine}
+use Rattle.qto.specs.declared.Check.{Check}
+use Rattle.qto.specs.Refusals.{workWords, surfaceFloats, rasterBytes, unitFits, first, checkOf, Passes}
+
+neither : (p q : Bool) → (p || q) ≡ false → (p ≡ false) × (q ≡ false)
+neither false false e = (refl, refl)
+neither false true e = absurd (false≢true (ap not e))
+neither true q e = absurd (false≢true (ap not e))
+
+pub not-more : (a b : ℕ) → ltb a b ≡ false → b ≤ a
+not-more a b e = let h = ltb-false a b e in omega arith
+
+pub both-small : (f i : ℕ) → (ltb 98304 f || ltb 98304 i) ≡ false → (f ≤ 98304) × (i ≤ 98304)
+both-small f i e = let h = neither (ltb 98304 f) (ltb 98304 i) e in (not-more 98304 f (h .0), not-more 98304 i (h .1))
+
+isFull : Check → Bool
+isFull (Check.Refuse n) = false
+isFull Check.Zero = false
+isFull Check.Full = true
+
+-- each of the five tests failed
+five-left : (p q r s t : Bool) → first p (Check.Refuse 1) (first q Check.Zero (first (not r) (Check.Refuse 2) (first s (Check.Refuse 3) (first (not t) (Check.Refuse 4) Check.Full)))) ≡ Check.Full
+    → (p ≡ false) × (q ≡ false) × T r × (s ≡ false) × T t
+unfolding isFull
+five-left true q r s t e = absurd (false≢true (ap isFull e))
+five-left false true r s t e = absurd (false≢true (ap isFull e))
+five-left false false false s t e = absurd (false≢true (ap isFull e))
+five-left false false true true t e = absurd (false≢true (ap isFull e))
+five-left false false true false false e = absurd (false≢true (ap isFull e))
+five-left false false true false true e = (refl, refl, tt, refl, tt)
+
+-- the mesh passes, and the areas are long enough
+pub record Admitted (vs : List Float) (ids : List ℕ) (u : Float) (w r s : ℕ) : Type 0 where
+  pub mesh : Passes vs ids u
+  pub work : workWords (length vs) (length ids) ≤ w
+  pub raster : rasterBytes ≤ r
+  pub surfaces : surfaceFloats (length ids) ≤ s
+
+pub admitted : (vs : List Float) (ids : List ℕ) (u : Float) (w r s : ℕ) → checkOf vs ids u w r s ≡ Check.Full → Admitted vs ids u w r s
+unfolding checkOf
+admitted vs ids u w r s e =
+    let t = five-left (ltb 98304 (length vs) || ltb 98304 (length ids)) (ltb (length ids) 3 || ltb (length vs) 9) (unitFits u)
+    (ltb w (workWords (length vs) (length ids)) || (ltb r rasterBytes || ltb s (surfaceFloats (length ids)))) (allFine vs) e in
+    let most = both-small (length vs) (length ids) (t .0) in
+    let least = neither (ltb (length ids) 3) (ltb (length vs) 9) (t .1) in
+    let areas = neither (ltb w (workWords (length vs) (length ids))) (ltb r rasterBytes || ltb s (surfaceFloats (length ids))) (t .3) in
+    let others = neither (ltb r rasterBytes) (ltb s (surfaceFloats (length ids))) (areas .1) in
+    record {
+      mesh =
+          record {
+            floats-most = most .0;
+            ids-most = most .1;
+            floats-least = not-more (length vs) 9 (least .1);
+            ids-least = not-more (length ids) 3 (least .0);
+            unit = t .2;
+            fine = t .4;
+          };
+      work = not-more w (workWords (length vs) (length ids)) (areas .0);
+      raster = not-more r rasterBytes (others .0);
+      surfaces = not-more s (surfaceFloats (length ids)) (others .1);
+    }

@@ -1,0 +1,135 @@
+-- The measures and the surface rows, from what the walk over the triangles left.
+use mathlib.Core.Path.{_≡_, sym, _∙_, ap, subst}
+use mathlib.Core.Bool.{Bool, true, _&&_}
+use mathlib.Core.List.{List, _++_}
+use Prim.Native.Nat.{ℕ, _*_, _≤_}
+use native.Mathlib.Omega.{arith}
+use lib.Dec.{T}
+use lib.ListN.{length, take, drop}
+use lib.Seq.{take-at, drop-at}
+use lib.Ieee.{Float, binary32, binary64, le, ofBits}
+use lib.Ieee.Positive.{positive}
+use Rattle.ieee.specs.Rounded.{rounded}
+use Rattle.ieee.specs.Single.{_⊗_}
+use Rattle.ieee.specs.Double.{_⊠_, _⧄_}
+use Rattle.ids.specs.Triangles.{triangleCount}
+use Rattle.sums.specs.declared.Bounds.{Bounds}
+use Rattle.sums.specs.declared.Thresholds.{Thresholds}
+use Rattle.sums.specs.Box.{box, origin}
+use Rattle.sums.specs.Fine.{allFine}
+use Rattle.sums.specs.Totals.{thresholds}
+use Rattle.sums.proofs.Units.{square-positive}
+use Rattle.rows.specs.declared.PlanarSurface.{PlanarSurface}
+use Rattle.rows.specs.Rows.{flatten, rowsOf, scaled, sorted, largest, smallest, allPlain}
+use Rattle.rows.proofs.Flat.{rows-flat, length-flatten}
+use Rattle.rows.proofs.Areas.{length-scaled}
+use Rattle.rows.proofs.Order.{length-sorted}
+use Rattle.surfaces.specs.Surfaces.{rows}
+use Rattle.surfaces.proofs.Keys.{length-rows}
+use Rattle.walk.specs.declared.Sums.{Sums}
+use Rattle.walk.specs.Walk.{Walks}
+use Rattle.walk.proofs.Worth.{buckets-plain}
+use Rattle.qto.specs.declared.Measures.{Measures}
+use Rattle.qto.specs.Refusals.{unitFits}
+use Rattle.qto.specs.Full.{square, cube, totals, volumeOf, surfaceOf, buckets, surfaceRows, surfacesAfter, measuresFrom, measures}
+
+both : (p q : Bool) → T (p && q) → T p × T q
+both true true h = (tt, tt)
+
+unit-square : (u : Float) → T (unitFits u) → T (positive (square u))
+unfolding unitFits
+unit-square u h = let e = both (le (ofBits binary32 0x3580_0000) u) (le u (ofBits binary32 0x4180_0000)) h in square-positive u (e .0) (e .1)
+
+-- the walk from the box minimum o by the pair p found the sums r, left the index t, and made the surface area w of s
+module _
+    (vs : List Float)
+    (ids : List ℕ)
+    (u : Float)
+    (b : Bounds)
+    (o : List Float)
+    (p : Thresholds)
+    (s : List Float)
+    (r : Sums)
+    (t : List ℕ)
+    (w : List Float)
+    (is-box : b ≡ box vs)
+    (is-origin : o ≡ origin b)
+    (is-pair : p ≡ thresholds)
+    (walked : Walks vs o p ids s r t w)
+  where
+    walks : Walks vs (origin (box vs)) thresholds ids s r t w
+    walks =
+        subst (λ (q : Thresholds). Walks vs (origin (box vs)) q ids s r t w) is-pair
+        (subst (λ (q : List Float). Walks vs q p ids s r t w) (is-origin ∙ ap origin is-box) walked)
+
+    totalled : r .totals ≡ totals vs ids
+    unfolding totals
+    totalled = walks .totals
+
+    counted : r .rows ≡ length (buckets vs ids)
+    unfolding buckets
+    counted = walks .count
+
+    whole : w ≡ flatten (rows (buckets vs ids)) ++ drop (4 * length (buckets vs ids)) s
+    unfolding buckets
+    whole = walks .surfaces
+
+    long : length (flatten (rows (buckets vs ids))) ≡ 4 * r .rows
+    long = length-flatten (rows (buckets vs ids)) ∙ ap (λ (k : ℕ). 4 * k) (length-rows (buckets vs ids) ∙ sym counted)
+
+    pub few : length ids ≤ 98304 → r .rows ≤ 32768
+    few h = omega (arith, h, walks .few)
+
+    count-rows : r .rows ≡ length (surfaceRows vs ids u)
+    unfolding surfaceRows
+    count-rows =
+        sym
+        (length-sorted (scaled (square u) (rows (buckets vs ids))) ∙ length-scaled (square u) (rows (buckets vs ids)) ∙ length-rows (buckets vs ids) ∙ sym counted)
+
+    -- the first k floats, four a row, are the rows
+    module _ (k : ℕ) (is-front : k ≡ 4 * r .rows) where
+      front : take k w ≡ flatten (rows (buckets vs ids))
+      front = ap (take k) whole ∙ take-at (flatten (rows (buckets vs ids))) (drop (4 * length (buckets vs ids)) s) k (long ∙ sym is-front)
+
+      back : drop k w ≡ drop (4 * length (surfaceRows vs ids u)) s
+      back =
+          ap (drop k) whole ∙ drop-at (flatten (rows (buckets vs ids))) (drop (4 * length (buckets vs ids)) s) k (long ∙ sym is-front)
+          ∙ ap (λ (n : ℕ). drop (4 * n) s) (sym counted ∙ count-rows)
+
+      front-rows : rowsOf (take k w) ≡ rows (buckets vs ids)
+      front-rows = ap rowsOf front ∙ rows-flat (rows (buckets vs ids))
+
+      arranged-rows : sorted (scaled (square u) (rowsOf (take k w))) ≡ surfaceRows vs ids u
+      unfolding surfaceRows
+      arranged-rows = ap (λ (l : List PlanarSurface). sorted (scaled (square u) l)) front-rows
+
+      pub front-length : length (take k w) ≡ 4 * r .rows
+      front-length = ap length front ∙ long
+
+      pub front-plain : T (unitFits u) → T (allFine vs) → T (allPlain (scaled (square u) (rowsOf (take k w))))
+      unfolding buckets
+      front-plain h fine =
+          subst (λ (l : List PlanarSurface). T (allPlain (scaled (square u) l))) (sym front-rows) (buckets-plain vs ids (square u) (triangleCount ids) fine (unit-square u h))
+
+      pub measured : (l m volume surface c q : Float) → l ≡ largest (sorted (scaled (square u) (rowsOf (take k w)))) → m ≡ smallest (sorted (scaled (square u) (rowsOf (take k w))))
+          → volume ≡ rounded binary32 (r .totals .volume6 ⧄ ofBits binary64 0x4018_0000_0000_0000 ⊠ c) → c ≡ cube u
+          → surface ≡ rounded binary32 (r .totals .surface ⊠ q) → q ≡ square u
+          → _≡_ {A = Measures}
+          (record {
+            volume = volume;
+            surface = surface;
+            top = r .totals .top ⊗ square u;
+            bottom = r .totals .bottom ⊗ square u;
+            side = r .totals .side ⊗ square u;
+            inclined = r .totals .inclined ⊗ square u;
+            largest = l;
+            smallest = m;
+            count = r .rows;
+          })
+          (measures vs ids u)
+      unfolding measures measuresFrom volumeOf surfaceOf
+      measured l m volume surface c q hl hm hv hc hs hq = rw (hl, hm, hv, hc, hs, hq, arranged-rows, count-rows, totalled)
+
+      pub rows-after : (x y : List Float) → x ≡ flatten (sorted (scaled (square u) (rowsOf (take k w)))) → y ≡ drop (4 * r .rows) w → x ++ y ≡ surfacesAfter vs ids u s
+      unfolding surfacesAfter
+      rows-after x y hx hy = rw (hx, hy ∙ ap (λ (n : ℕ). drop n w) (sym is-front), back, arranged-rows)

@@ -1,0 +1,55 @@
+-- What comes back, by what the table of refusals says; and that it is one thing only.
+use mathlib.Core.Path.{_≡_, sym, _∙_, ap}
+use mathlib.Core.List.{List}
+use Prim.Native.Nat.{ℕ}
+use lib.ListN.{length}
+use lib.Ieee.{Float}
+use Rattle.ids.specs.Lent.{cleared}
+use Rattle.record.specs.declared.MeshQto.{MeshQto}
+use Rattle.record.specs.Record.{zeroRecord}
+use Rattle.qto.specs.declared.Answer.{Answer}
+use Rattle.qto.specs.declared.Check.{Check}
+use Rattle.qto.specs.Refusals.{checkOf, workWords, rasterBytes}
+use Rattle.qto.specs.Full.{recordOf, surfacesAfter}
+use Rattle.qto.specs.Compute.{answerAt, areaAt, Computes}
+
+module _ (vs : List Float) (ids : List ℕ) (u : Float) (w r : List ℕ) (s : List Float) where
+  abbrev said : Check
+  said = checkOf vs ids u (length w) (length r) (length s)
+
+  pub refused : (n : ℕ) → Check.Refuse n ≡ said → Computes vs ids u w r s (Answer.Refused n) w r s
+  unfolding answerAt areaAt
+  refused n e =
+      record {
+        answers = ap (λ (c : Check). answerAt c (recordOf vs ids u)) e;
+        work = ap (λ (c : Check). areaAt c (cleared (workWords (length vs) (length ids)) w) w) e;
+        raster = ap (λ (c : Check). areaAt c (cleared rasterBytes r) r) e;
+        surfaces = ap (λ (c : Check). areaAt c (surfacesAfter vs ids u s) s) e;
+      }
+
+  pub zero : (q : MeshQto) → Check.Zero ≡ said → q ≡ zeroRecord → Computes vs ids u w r s (Answer.Record q) w r s
+  unfolding answerAt areaAt
+  zero q e h =
+      record {
+        answers = ap Answer.Record h ∙ ap (λ (c : Check). answerAt c (recordOf vs ids u)) e;
+        work = ap (λ (c : Check). areaAt c (cleared (workWords (length vs) (length ids)) w) w) e;
+        raster = ap (λ (c : Check). areaAt c (cleared rasterBytes r) r) e;
+        surfaces = ap (λ (c : Check). areaAt c (surfacesAfter vs ids u s) s) e;
+      }
+
+  pub full : (q : MeshQto) (w′ r′ : List ℕ) (s′ : List Float) → Check.Full ≡ said → q ≡ recordOf vs ids u → w′ ≡ cleared (workWords (length vs) (length ids)) w
+      → r′ ≡ cleared rasterBytes r → s′ ≡ surfacesAfter vs ids u s → Computes vs ids u w r s (Answer.Record q) w′ r′ s′
+  unfolding answerAt areaAt
+  full q w′ r′ s′ e hq hw hr hs =
+      record {
+        answers = ap Answer.Record hq ∙ ap (λ (c : Check). answerAt c (recordOf vs ids u)) e;
+        work = hw ∙ ap (λ (c : Check). areaAt c (cleared (workWords (length vs) (length ids)) w) w) e;
+        raster = hr ∙ ap (λ (c : Check). areaAt c (cleared rasterBytes r) r) e;
+        surfaces = hs ∙ ap (λ (c : Check). areaAt c (surfacesAfter vs ids u s) s) e;
+      }
+
+-- any two answers that the contract allows are equal, and so is what is left in the areas
+pub compute-one : (vs : List Float) (ids : List ℕ) (u : Float) (w r : List ℕ) (s : List Float) (a a′ : Answer) (w₁ w₂ r₁ r₂ : List ℕ) (s₁ s₂ : List Float)
+    → Computes vs ids u w r s a w₁ r₁ s₁ → Computes vs ids u w r s a′ w₂ r₂ s₂ → (a ≡ a′) × (w₁ ≡ w₂) × (r₁ ≡ r₂) × (s₁ ≡ s₂)
+compute-one vs ids u w r s a a′ w₁ w₂ r₁ r₂ s₁ s₂ x y =
+    (x .answers ∙ sym (y .answers), x .work ∙ sym (y .work), x .raster ∙ sym (y .raster), x .surfaces ∙ sym (y .surfaces))

@@ -1,0 +1,70 @@
+-- `qto::compute` meets its contract: by what the table of refusals says. Assumes nothing.
+use Rattle.qto.proofs.Outcomes.{refused, zero, full}
+use Rattle.qto.proofs.Checks.{admitted}
+use mathlib.Core.Path.{sym, _∙_}
+use lib.ListN.{length}
+use borrow.Author.Needs.{needs}
+use Rattle.qto.proofs.compute.Statement.{statement}
+use Rattle.qto.proofs.compute.Tie as tie
+
+checked-requires : tie.Need-checked-requires
+checked-requires c κs = search needs
+
+enum-known-c : tie.Need-enum-known-c
+enum-known-c c = search needs
+
+enum-told : tie.Need-enum-told
+enum-told c = search needs
+
+zero-record-requires : tie.Need-zero-record-requires
+zero-record-requires c κs = search needs
+
+enum-told-2 : tie.Need-enum-told-2
+enum-told-2 c = search needs
+
+full-requires : tie.Need-full-requires
+full-requires c κs =
+    let args = c .before .before .before .before .before .before .before .before .before .before .before .args in
+    let a = admitted (args .vertices .now) (args .indices .now) (args .unit-scale) (length (args .work .now)) (length (args .raster .now)) (length (args .surfaces .now)) (sym (c .before .before .before .before .before .checked .ensures) ∙ c .before .before .before .enum-told2 .given .1) in (a .mesh, a .work, a .raster, a .surfaces)
+
+returns : tie.Need-returns
+returns c =
+    let args = c .before .before .before .before .before .before .before .before .before .args in
+    refused (args .vertices .now) (args .indices .now) (args .unit-scale) (args .work .now) (args .raster .now) (args .surfaces .now) _ (sym (c .before .c .given .1) ∙ c .before .before .before .checked .ensures)
+
+returns-2 : tie.Need-returns-2
+returns-2 c =
+    let args = c .before .before .before .before .before .before .before .before .before .args in
+    zero (args .vertices .now) (args .indices .now) (args .unit-scale) (args .work .now) (args .raster .now) (args .surfaces .now) _ (sym (c .before .enum-told .given .1) ∙ c .before .before .before .checked .ensures) (c .zero-record .ensures)
+
+same-length : tie.Need-same-length
+same-length c = search needs
+
+same-length-2 : tie.Need-same-length-2
+same-length-2 c = search needs
+
+same-length-3 : tie.Need-same-length-3
+same-length-3 c = search needs
+
+returns-3 : tie.Need-returns-3
+returns-3 c =
+    let args = c .before .before .before .before .before .before .before .before .before .before .before .before .before .before .before .before .before .before .args in
+    let the-full = c .before .before .before .before .before .before .full in
+    full (args .vertices .now) (args .indices .now) (args .unit-scale) (args .work .now) (args .raster .now) (args .surfaces .now) _ _ _ _ (sym (c .before .before .before .before .before .before .before .before .before .before .enum-told2 .given .1) ∙ c .before .before .before .before .before .before .before .before .before .before .before .before .checked .ensures) (the-full .ensures .0) (the-full .ensures .1) (the-full .ensures .2) (the-full .ensures .3)
+
+pub compute-spec : {M : Type 1} → statement M
+compute-spec =
+    tie.close
+    (tie.spec
+    checked-requires
+    enum-known-c
+    enum-told
+    zero-record-requires
+    enum-told-2
+    full-requires
+    returns
+    returns-2
+    same-length
+    same-length-2
+    same-length-3
+    returns-3)

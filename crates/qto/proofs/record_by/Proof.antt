@@ -1,0 +1,53 @@
+-- `qto::record_by` meets its contract: by its parts. Assumes nothing.
+use Rattle.qto.proofs.Assembled.{assembled}
+use Rattle.qto.specs.Refusals.{workWords}
+use borrow.Author.Needs.{needs}
+use Rattle.qto.proofs.record_by.Statement.{statement}
+use Rattle.qto.proofs.record_by.Tie as tie
+
+box-volume-requires : tie.Need-box-volume-requires
+box-volume-requires c κs = search needs
+
+epsilon-requires : tie.Need-epsilon-requires
+epsilon-requires c κs = search needs
+
+classify-mesh-quality-requires : tie.Need-classify-mesh-quality-requires
+unfolding workWords
+classify-mesh-quality-requires c κs = (c .before .before .before .before .before .before .before .pre .0, c .before .before .before .before .before .before .before .pre .1, c .before .before .before .before .before .before .before .pre .4)
+
+magnitude32-requires : tie.Need-magnitude32-requires
+magnitude32-requires c κs = search needs
+
+best-volume-requires : tie.Need-best-volume-requires
+best-volume-requires c κs = search needs
+
+cast-t21 : tie.Need-cast-t21
+cast-t21 c = search needs
+
+same-length : tie.Need-same-length
+same-length c = search needs
+
+same-length-2 : tie.Need-same-length-2
+same-length-2 c = search needs
+
+returns : tie.Need-returns
+unfolding workWords
+returns c =
+    let args = c .before .before .before .before .before .before .before .before .before .before .before .before .before .before .before .before .args in
+    let the-classify-mesh-quality = c .before .before .before .before .before .before .before .before .classify-mesh-quality in
+    let the-best-volume = c .before .before .before .best-volume in
+    (assembled (args .vertices .now) (args .indices .now) (args .unit-scale) (args .b) (args .m) _ _ _ _ _ (c .before .before .before .before .before .before .before .before .before .before .before .before .before .before .before .before .pre .2) (c .before .before .before .before .before .before .before .before .before .before .before .box-volume .ensures) (c .before .before .before .before .before .before .before .before .before .before .epsilon .ensures) (the-classify-mesh-quality .ensures .0) (c .before .before .before .before .before .magnitude32 .ensures) (the-best-volume .ensures .0), the-classify-mesh-quality .ensures .1, the-best-volume .ensures .1)
+
+pub record-by-spec : {M : Type 1} → statement M
+record-by-spec =
+    tie.close
+    (tie.spec
+    box-volume-requires
+    epsilon-requires
+    classify-mesh-quality-requires
+    magnitude32-requires
+    best-volume-requires
+    cast-t21
+    same-length
+    same-length-2
+    returns)

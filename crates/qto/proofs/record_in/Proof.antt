@@ -1,0 +1,68 @@
+-- `qto::record_in` meets its contract: the measures are those of the mesh. Assumes nothing.
+use Rattle.qto.proofs.Assembled.{of-mesh}
+use Rattle.qto.specs.Refusals.{workWords}
+use Rattle.qto.proofs.Fronts.{front-kept}
+use mathlib.Core.Path.{_∙_}
+use Prim.Native.Nat.{_*_, _/_}
+use lib.ListN.{length}
+use native.Mathlib.Omega.{arith}
+use borrow.Author.Needs.{needs}
+use Rattle.qto.proofs.record_in.Statement.{statement}
+use Rattle.qto.proofs.record_in.Tie as tie
+
+box-of-requires : tie.Need-box-of-requires
+box-of-requires c κs = search needs
+
+mul-n : tie.Need-mul-n
+mul-n c = search needs
+
+sub-measure : tie.Need-sub-measure
+sub-measure c = search needs
+
+part-measure-start : tie.Need-part-measure-start
+part-measure-start c = search needs
+
+part-measure-end : tie.Need-part-measure-end
+unfolding workWords
+part-measure-end c = omega (arith, c .before .before .before .before .before .before .pre .1)
+
+measure-requires : tie.Need-measure-requires
+measure-requires c κs = search needs
+
+record-by-requires : tie.Need-record-by-requires
+record-by-requires c κs =
+    let args = c .before .before .before .before .before .before .before .before .before .before .before .before .before .before .before .args in
+    let the-measure = c .before .before .before .before .before .before .measure in
+    (c .before .before .before .before .before .before .before .before .before .before .before .before .before .before .before .pre .0 .floats-most, c .before .before .before .before .before .before .before .before .before .before .before .before .before .before .before .pre .0 .ids-most, c .before .before .before .before .before .before .before .before .before .box-of .ensures, the-measure .ensures .1, front-kept (5 * (length (args .indices .now) / 3)) (args .work .now) (the-measure .last .1 .1 .1 .1 .0) (the-measure .kept .1 .1 .1 .1 .0) ∙ c .before .before .before .before .before .before .before .before .before .before .before .before .before .before .before .pre .1, c .before .before .before .before .before .before .before .before .before .before .before .before .before .before .before .pre .2)
+
+same-length : tie.Need-same-length
+same-length c = search needs
+
+same-length-2 : tie.Need-same-length-2
+same-length-2 c = search needs
+
+same-length-3 : tie.Need-same-length-3
+same-length-3 c = search needs
+
+returns : tie.Need-returns
+returns c =
+    let args = c .before .before .before .before .before .before .before .before .before .before .before .before .before .before .before .before .before .before .before .before .args in
+    let the-measure = c .before .before .before .before .before .before .before .before .before .before .before .measure in
+    let the-record-by = c .before .before .before .before .record-by in
+    (of-mesh (args .vertices .now) (args .indices .now) (args .unit-scale) (the-measure .result) (the-record-by .result) (the-measure .ensures .0) (the-record-by .ensures .0), the-record-by .ensures .1, the-record-by .ensures .2, the-measure .ensures .2)
+
+pub record-in-spec : {M : Type 1} → statement M
+record-in-spec =
+    tie.close
+    (tie.spec
+    box-of-requires
+    mul-n
+    sub-measure
+    part-measure-start
+    part-measure-end
+    measure-requires
+    record-by-requires
+    same-length
+    same-length-2
+    same-length-3
+    returns)

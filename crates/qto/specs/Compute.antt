@@ -1,0 +1,32 @@
+-- What comes back of `compute`, and what it leaves in the lent areas (01): for every input one answer, and one later content of each area.
+use mathlib.Core.Path.{_≡_}
+use Prim.Native.Nat.{ℕ}
+use mathlib.Core.List.{List}
+use lib.ListN.{length}
+use lib.Ieee.{Float}
+use Rattle.ids.specs.Lent.{cleared}
+use Rattle.record.specs.declared.MeshQto.{MeshQto}
+use Rattle.record.specs.Record.{zeroRecord}
+use Rattle.qto.specs.declared.Answer.{Answer}
+use Rattle.qto.specs.declared.Check.{Check}
+use Rattle.qto.specs.Refusals.{checkOf, workWords, rasterBytes}
+use Rattle.qto.specs.Full.{recordOf, surfacesAfter}
+
+-- a refusal returns its number only
+unfoldable pub answerAt : Check → MeshQto → Answer
+answerAt (Check.Refuse n) q = Answer.Refused n
+answerAt Check.Zero q = Answer.Record zeroRecord
+answerAt Check.Full q = Answer.Record q
+
+-- refusals and the zero record leave a lent area untouched
+unfoldable pub areaAt : {A : Type 0} → Check → List A → List A → List A
+areaAt (Check.Refuse n) after area = area
+areaAt Check.Zero after area = area
+areaAt Check.Full after area = after
+
+-- The complete contract: of floats vs, ids, a unit, and lent work area w, raster r and surface area s come the answer a and the later w′, r′ and s′.
+pub record Computes (vs : List Float) (ids : List ℕ) (u : Float) (w r : List ℕ) (s : List Float) (a : Answer) (w′ r′ : List ℕ) (s′ : List Float) : Type 0 where
+  pub answers : a ≡ answerAt (checkOf vs ids u (length w) (length r) (length s)) (recordOf vs ids u)
+  pub work : w′ ≡ areaAt (checkOf vs ids u (length w) (length r) (length s)) (cleared (workWords (length vs) (length ids)) w) w
+  pub raster : r′ ≡ areaAt (checkOf vs ids u (length w) (length r) (length s)) (cleared rasterBytes r) r
+  pub surfaces : s′ ≡ areaAt (checkOf vs ids u (length w) (length r) (length s)) (surfacesAfter vs ids u s) s

@@ -1,0 +1,116 @@
+-- Rules of the record (01): the record of a mesh that passes the checks, each float step rounded once, as 000 writes it.
+use Prim.Native.Nat.{ℕ, _*_}
+use mathlib.Core.List.{List, _++_}
+use lib.ListN.{length, drop}
+use lib.Ieee.{Float, binary32, binary64, ofBits}
+use Rattle.ieee.specs.Magnitude.{magnitude}
+use Rattle.ieee.specs.Rounded.{rounded}
+use Rattle.ieee.specs.Single.{_⊗_}
+use Rattle.ieee.specs.Double.{_⊠_, _⧄_}
+use Rattle.ids.specs.Triangles.{triangleCount}
+use Rattle.sums.specs.declared.Totals.{Totals}
+use Rattle.sums.specs.Box.{box, origin, boxVolume}
+use Rattle.sums.specs.Totals.{thresholds, totalsTo}
+use Rattle.rows.specs.declared.PlanarSurface.{PlanarSurface}
+use Rattle.rows.specs.Rows.{flatten, scaled, sorted, largest, smallest}
+use Rattle.surfaces.specs.Surfaces.{Bucket, rows}
+use Rattle.walk.specs.Walk.{bucketsTo}
+use Rattle.weld.specs.Weld.{epsilonOf}
+use Rattle.verdict.specs.declared.Quality.{Quality}
+use Rattle.verdict.specs.Verdict.{quality}
+use Rattle.volume.specs.declared.Best.{Best}
+use Rattle.volume.specs.Best.{prism, bestOf}
+use Rattle.record.specs.declared.MeshQto.{MeshQto}
+use Rattle.record.specs.declared.Profile.{Profile}
+use Rattle.qto.specs.declared.Measures.{Measures}
+
+-- u² and u³ in f32
+abbrev pub square : Float → Float
+square u = u ⊗ u
+
+abbrev pub cube : Float → Float
+cube u = u ⊗ u ⊗ u
+
+-- ---- triangles and slope: the sums over the mesh
+
+unfoldable pub totals : List Float → List ℕ → Totals
+totals vs ids = totalsTo vs (origin (box vs)) thresholds ids (triangleCount ids)
+
+-- the volume: a sixth of the sum, times u³ in f64, to f32; the surface area: times u² likewise
+unfoldable pub volumeOf : Totals → Float → Float
+volumeOf t u = rounded binary32 (t .volume6 ⧄ ofBits binary64 0x4018_0000_0000_0000 ⊠ cube u)
+
+unfoldable pub surfaceOf : Totals → Float → Float
+surfaceOf t u = rounded binary32 (t .surface ⊠ square u)
+
+-- ---- surfaces: the rows, in order
+
+unfoldable pub buckets : List Float → List ℕ → List Bucket
+buckets vs ids = bucketsTo vs (origin (box vs)) ids (triangleCount ids)
+
+unfoldable pub surfaceRows : List Float → List ℕ → Float → List PlanarSurface
+surfaceRows vs ids u = sorted (scaled (square u) (rows (buckets vs ids)))
+
+-- the surface area s holds its rows first; the rest is untouched
+unfoldable pub surfacesAfter : List Float → List ℕ → Float → List Float → List Float
+surfacesAfter vs ids u s = flatten (surfaceRows vs ids u) ++ drop (4 * length (surfaceRows vs ids u)) s
+
+-- ---- what is measured
+
+unfoldable pub measuresFrom : Totals → List PlanarSurface → Float → Measures
+measuresFrom t rs u =
+    record {
+      volume = volumeOf t u;
+      surface = surfaceOf t u;
+      top = t .top ⊗ square u;
+      bottom = t .bottom ⊗ square u;
+      side = t .side ⊗ square u;
+      inclined = t .inclined ⊗ square u;
+      largest = largest rs;
+      smallest = smallest rs;
+      count = length rs;
+    }
+
+unfoldable pub measures : List Float → List ℕ → Float → Measures
+measures vs ids u = measuresFrom (totals vs ids) (surfaceRows vs ids u) u
+
+-- ---- verdict and best volume
+
+-- the weld distance: 1e-4 metres
+abbrev pub distance : Float
+distance = ofBits binary32 0x38d1_b717
+
+unfoldable pub verdict : List Float → List ℕ → Float → Float → Quality
+verdict vs ids u volume = quality vs ids (epsilonOf distance u) volume (boxVolume (box vs) (cube u))
+
+unfoldable pub best : List Float → List ℕ → Float → Measures → Quality → Best
+best vs ids u m q = bestOf q (magnitude (m .volume)) (m .surface) (boxVolume (box vs) (cube u)) (prism vs ids (box vs) (cube u))
+
+-- ---- the record
+
+unfoldable pub recordFrom : Measures → Float → Quality → Best → MeshQto
+recordFrom m aabb q b =
+    record {
+      «volume_m3» = m .volume;
+      «aabb_volume_m3» = aabb;
+      «surface_area_m2» = m .surface;
+      «area_top_m2» = m .top;
+      «area_bottom_m2» = m .bottom;
+      «area_side_m2» = m .side;
+      «area_inclined_m2» = m .inclined;
+      «largest_surface_m2» = m .largest;
+      «smallest_surface_m2» = m .smallest;
+      «surface_count» = m .count;
+      «mesh_quality» = q;
+      «volume_reliable» = b .reliable;
+      «volume_method» = b .method;
+      «volume_best_m3» = b .volume;
+      «volume_prism_bound_m3» = b .prism;
+      «profile_invalid» = Profile.Valid;
+    }
+
+unfoldable pub recordBy : List Float → List ℕ → Float → Measures → Quality → MeshQto
+recordBy vs ids u m q = recordFrom m (boxVolume (box vs) (cube u)) q (best vs ids u m q)
+
+unfoldable pub recordOf : List Float → List ℕ → Float → MeshQto
+recordOf vs ids u = recordBy vs ids u (measures vs ids u) (verdict vs ids u (measures vs ids u .volume))

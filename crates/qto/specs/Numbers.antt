@@ -1,0 +1,72 @@
+-- The record as the C interface has it: 17 words, and refusals as numbers. Flag values that are none are refusal 5, tried first.
+use mathlib.Core.Path.{_≡_}
+use Prim.Native.Nat.{ℕ, _+_}
+use mathlib.Core.Bool.{Bool, not, _&&_}
+use mathlib.Core.List.{List, [], _∷_}
+use lib.Dec.{eqb, leb}
+use lib.ListN.{length}
+use lib.Ieee.{Float, binary32, toBits}
+use Rattle.ids.specs.Lent.{cleared}
+use Rattle.ids.specs.Uses.{bit}
+use Rattle.record.specs.declared.MeshQto.{MeshQto}
+use Rattle.record.specs.Record.{zeroRecord}
+use Rattle.record.specs.Flags.{flagged}
+use Rattle.record.specs.Numbers.{qualityNumber, methodNumber, profileNumber, profileAt, prismNumber, prismBits}
+use Rattle.qto.specs.declared.Check.{Check}
+use Rattle.qto.specs.Refusals.{checkOf, first, workWords, rasterBytes}
+use Rattle.qto.specs.Full.{recordOf, surfacesAfter}
+use Rattle.qto.specs.Compute.{areaAt}
+
+-- the 17 words
+unfoldable pub wordsOf : MeshQto → List ℕ
+wordsOf q =
+    qualityNumber (q .«mesh_quality»)
+    ∷ bit (q .«volume_reliable»)
+    ∷ methodNumber (q .«volume_method»)
+    ∷ profileNumber (q .«profile_invalid»)
+    ∷ toBits binary32 (q .«volume_m3»)
+    ∷ toBits binary32 (q .«aabb_volume_m3»)
+    ∷ toBits binary32 (q .«surface_area_m2»)
+    ∷ toBits binary32 (q .«area_top_m2»)
+    ∷ toBits binary32 (q .«area_bottom_m2»)
+    ∷ toBits binary32 (q .«area_side_m2»)
+    ∷ toBits binary32 (q .«area_inclined_m2»)
+    ∷ toBits binary32 (q .«largest_surface_m2»)
+    ∷ toBits binary32 (q .«smallest_surface_m2»)
+    ∷ toBits binary32 (q .«volume_best_m3»)
+    ∷ prismNumber (q .«volume_prism_bound_m3»)
+    ∷ prismBits (q .«volume_prism_bound_m3»)
+    ∷ q .«surface_count»
+    ∷ []
+
+-- clip is 0 or 1, defect 0 to 4
+unfoldable pub flagsFit : ℕ → ℕ → Bool
+flagsFit clip defect = leb clip 1 && leb defect 4
+
+abbrev pub withFlags : ℕ → ℕ → MeshQto → MeshQto
+withFlags clip defect q = flagged (eqb clip 1) (profileAt defect) q
+
+-- the number that comes back, and the record's words afterwards
+unfoldable pub numberAt : Check → ℕ
+numberAt (Check.Refuse n) = 0x8000_0000 + n
+numberAt Check.Zero = 0
+numberAt Check.Full = 0
+
+unfoldable pub wordsAt : Check → ℕ → ℕ → MeshQto → List ℕ → List ℕ
+wordsAt (Check.Refuse n) clip defect q words = words
+wordsAt Check.Zero clip defect q words = wordsOf (withFlags clip defect zeroRecord)
+wordsAt Check.Full clip defect q words = wordsOf (withFlags clip defect q)
+
+unfoldable pub checkFlags : ℕ → ℕ → Check → Check
+checkFlags clip defect c = first (not (flagsFit clip defect)) (Check.Refuse 5) c
+
+abbrev pub checkAll : List Float → List ℕ → Float → ℕ → ℕ → List ℕ → List ℕ → List Float → Check
+checkAll vs ids u clip defect w r s = checkFlags clip defect (checkOf vs ids u (length w) (length r) (length s))
+
+-- The contract of mf_compute: `words` are the record's before, words′ afterwards, and n is what comes back.
+pub record ComputesNumbered (vs : List Float) (ids : List ℕ) (u : Float) (clip defect : ℕ) (w r : List ℕ) (s : List Float) (words : List ℕ) (n : ℕ) (w′ r′ : List ℕ) (s′ : List Float) (words′ : List ℕ) : Type 0 where
+  pub number : n ≡ numberAt (checkAll vs ids u clip defect w r s)
+  pub record-words : words′ ≡ wordsAt (checkAll vs ids u clip defect w r s) clip defect (recordOf vs ids u) words
+  pub work : w′ ≡ areaAt (checkAll vs ids u clip defect w r s) (cleared (workWords (length vs) (length ids)) w) w
+  pub raster : r′ ≡ areaAt (checkAll vs ids u clip defect w r s) (cleared rasterBytes r) r
+  pub surfaces : s′ ≡ areaAt (checkAll vs ids u clip defect w r s) (surfacesAfter vs ids u s) s

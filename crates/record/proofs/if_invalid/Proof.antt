@@ -1,0 +1,27 @@
+-- `record::if_invalid` meets its contract. Assumes nothing.
+use Rattle.record.specs.Flags.{ifInvalid}
+use borrow.Author.Needs.{needs}
+use Rattle.record.proofs.if_invalid.Statement.{statement}
+use Rattle.record.proofs.if_invalid.Tie as tie
+
+enum-told : tie.Need-enum-told
+enum-told c = search needs
+
+enum-known-profile : tie.Need-enum-known-profile
+enum-known-profile c = search needs
+
+mark-profile-invalid-requires : tie.Need-mark-profile-invalid-requires
+mark-profile-invalid-requires c κs = search needs
+
+returns : tie.Need-returns
+unfolding ifInvalid
+returns c = rw (c .enum-told .given .1)
+
+returns-2 : tie.Need-returns-2
+unfolding ifInvalid
+returns-2 c = rw (c .before .before .profile .given .1) (c .mark-profile-invalid .ensures)
+
+pub if-invalid-spec : {M : Type 1} → statement M
+if-invalid-spec =
+    tie.close
+    (tie.spec enum-told enum-known-profile mark-profile-invalid-requires returns returns-2)

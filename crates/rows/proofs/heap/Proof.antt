@@ -1,0 +1,52 @@
+-- `rows::heap` meets its contract. The loop only sinks rows. Assumes nothing.
+use mathlib.Core.Path.{_≡_, refl}
+use Prim.Native.Nat.{_≤_}
+use native.Mathlib.Omega.{arith}
+use borrow.Author.Needs.{needs}
+use lib.ListN.{length}
+use Rattle.rows.specs.Rows.{rowsOf}
+use Rattle.rows.specs.Sorting.{SameRows}
+use Rattle.rows.proofs.Counts.{same-rows, same-then}
+use Rattle.rows.proofs.heap.Statement.{statement}
+use Rattle.rows.proofs.heap.Tie as tie
+
+abbrev Inv-loop : tie.InvT-loop
+Inv-loop rows₀ n i₀ rows i = (i ≤ n) × (length rows ≡ length rows₀) × SameRows (rowsOf rows₀) (rowsOf rows)
+
+abbrev μ-loop : tie.MeasureT-loop
+μ-loop rows₀ n i₀ rows i = i
+
+loop-holds : tie.Need-loop-holds Inv-loop μ-loop
+loop-holds c = (omega arith, refl, same-rows (rowsOf (c .before .args .rows .now)))
+
+sub-i : tie.Need-sub-i Inv-loop μ-loop
+sub-i c = search needs
+
+sink-requires : tie.Need-sink-requires Inv-loop μ-loop
+sink-requires c κs = search needs
+
+loop-less : tie.Need-loop-less Inv-loop μ-loop
+loop-less c = search needs
+
+loop-again : tie.Need-loop-again Inv-loop μ-loop
+loop-again c = (omega arith, omega (arith, c .before .before .sink .kept), same-then (rowsOf (c .before .before .before .before .before .before .before .args .rows .now)) (rowsOf (c .before .before .before .before .before .loop .rows)) _ (c .before .before .before .before .before .loop .inv .2) (c .before .before .sink .ensures))
+
+same-length : tie.Need-same-length Inv-loop μ-loop
+same-length c = search needs
+
+returns : tie.Need-returns Inv-loop μ-loop
+returns c = c .before .loop .inv .2
+
+pub heap-spec : {M : Type 1} → statement M
+heap-spec =
+    tie.close
+    (tie.spec
+    Inv-loop
+    μ-loop
+    loop-holds
+    sub-i
+    sink-requires
+    loop-less
+    loop-again
+    same-length
+    returns)

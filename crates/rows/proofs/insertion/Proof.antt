@@ -1,0 +1,58 @@
+-- `rows::insertion` meets its contract. The first rows are rising, one more each turn. Assumes nothing.
+use mathlib.Core.Path.{_≡_, refl}
+use Prim.Native.Nat.{_-_, _≤_}
+use native.Mathlib.Omega.{arith}
+use borrow.Author.Needs.{needs}
+use lib.ListN.{length}
+use Rattle.rows.specs.Rows.{rowsOf}
+use Rattle.rows.specs.Sorting.{Settled}
+use Rattle.rows.proofs.Counts.{same-rows, same-then}
+use Rattle.rows.proofs.insertion.Statement.{statement}
+use Rattle.rows.proofs.insertion.Tie as tie
+
+abbrev Inv-loop : tie.InvT-loop
+Inv-loop rows₀ n next₀ rows next = (next ≤ n) × (length rows ≡ length rows₀) × Settled next (rowsOf rows₀) (rowsOf rows)
+
+abbrev μ-loop : tie.MeasureT-loop
+μ-loop rows₀ n next₀ rows next = n - next
+
+loop-holds : tie.Need-loop-holds Inv-loop μ-loop
+loop-holds c = (omega arith, refl, record { same = same-rows (rowsOf (c .before .args .rows .now)); rising = λ k h. absurd (omega arith) })
+
+settle-requires : tie.Need-settle-requires Inv-loop μ-loop
+settle-requires c κs = (omega arith, c .before .before .loop .inv .2 .rising)
+
+add-next : tie.Need-add-next Inv-loop μ-loop
+add-next c = search needs
+
+loop-less : tie.Need-loop-less Inv-loop μ-loop
+loop-less c = search needs
+
+loop-again : tie.Need-loop-again Inv-loop μ-loop
+loop-again c =
+    let t = c .before .before .before .before .before .before .before .args .rows .now in
+    let l = c .before .before .before .before .before .loop in
+    let m = c .before .before .settle .ensures in
+    (omega arith, omega (arith, c .before .before .settle .kept), record { same = same-then (rowsOf t) (rowsOf (l .rows)) _ (l .inv .2 .same) (m .same); rising = m .rising })
+
+same-length : tie.Need-same-length Inv-loop μ-loop
+same-length c = search needs
+
+returns : tie.Need-returns Inv-loop μ-loop
+returns c =
+    let l = c .before .loop in
+    record { same = l .inv .2 .same; rising = λ k h. l .inv .2 .rising k (omega arith) }
+
+pub insertion-spec : {M : Type 1} → statement M
+insertion-spec =
+    tie.close
+    (tie.spec
+    Inv-loop
+    μ-loop
+    loop-holds
+    settle-requires
+    add-next
+    loop-less
+    loop-again
+    same-length
+    returns)

@@ -1,0 +1,243 @@
+// The rows of planar surfaces in a lent area: scaled, put in order in place by n log n steps, and asked for the largest and the smallest. Internal: `qto` asks it.
+ghost use mathlib.Core.Path.{_≡_};
+ghost use Prim.Native.Nat.{_+_, _*_, _≤_, _<_};
+ghost use lib.Dec.{T};
+ghost use lib.ListN.{length, set};
+ghost use Rattle.rows.specs.Rows.{flatten, rowsOf, thenBy, precedes as precedesOf, sorted, scaled, scaledRow, largest as largestOf, smallest as smallestOf, lessAbove, allPlain};
+ghost use Rattle.rows.specs.Sorting.{rowAt, swapped, SameRows, Rising, Settled};
+
+// One planar surface: the summed area of the triangles with one key, and the key's direction.
+pub struct PlanarSurface {
+    pub area: f32,
+    pub nx: f32,
+    pub ny: f32,
+    pub nz: f32,
+}
+
+// By the first, or where that is even by the rest.
+fn then_by(less: bool, more: bool, rest: bool) -> bool
+    ensures { λ b. ⌜ b ≡ thenBy less more rest ⌝ }
+{
+    less | (!more & rest)
+}
+
+// Does r's row come before s's?
+fn precedes(r: PlanarSurface, s: PlanarSurface) -> bool
+    ensures { λ b. ⌜ b ≡ precedesOf r s ⌝ }
+{
+    let by_ny = then_by(r.ny < s.ny, s.ny < r.ny, r.nz < s.nz);
+    let by_nx = then_by(r.nx < s.nx, s.nx < r.nx, by_ny);
+    then_by(s.area < r.area, r.area < s.area, by_nx)
+}
+
+// ---- one row
+
+fn get(rows: &[f32], j: usize) -> PlanarSurface
+    requires { ⌜ 4 * j + 4 ≤ length (now rows) ⌝ }
+    ensures { λ r. ⌜ r ≡ rowAt (rowsOf (now (rows .entry))) j ⌝ }
+{
+    let at = 4 * j;
+    PlanarSurface {
+        area: rows[at],
+        nx: rows[at + 1],
+        ny: rows[at + 2],
+        nz: rows[at + 3],
+    }
+}
+
+fn put(rows: &mut [f32], j: usize, r: PlanarSurface)
+    requires { ⌜ 4 * j + 4 ≤ length (now rows) ⌝ }
+    ensures { λ _. ⌜ rowsOf (now (rows .exit)) ≡ set (rowsOf (now (rows .entry))) j r ⌝ }
+{
+    let at = 4 * j;
+    rows[at] = r.area;
+    rows[at + 1] = r.nx;
+    rows[at + 2] = r.ny;
+    rows[at + 3] = r.nz;
+}
+
+// Rows i and j change places.
+fn swap(rows: &mut [f32], i: usize, j: usize)
+    requires { ⌜ (4 * i + 4 ≤ length (now rows)) × (4 * j + 4 ≤ length (now rows)) ⌝ }
+    ensures { λ _. ⌜ rowsOf (now (rows .exit)) ≡ swapped (rowsOf (now (rows .entry))) i j ⌝ }
+{
+    let r = get(rows, i);
+    let s = get(rows, j);
+    put(rows, i, s);
+    put(rows, j, r);
+}
+
+// Does row i precede row j?
+fn ahead(rows: &[f32], i: usize, j: usize) -> bool
+    requires { ⌜ (4 * i + 4 ≤ length (now rows)) × (4 * j + 4 ≤ length (now rows)) ⌝ }
+    ensures { λ b. ⌜ b ≡ precedesOf (rowAt (rowsOf (now (rows .entry))) i) (rowAt (rowsOf (now (rows .entry))) j) ⌝ }
+{
+    precedes(get(rows, i), get(rows, j))
+}
+
+// ---- a heap sort: quick, and proved to lose and to double no row. Row k has the children 2k + 1 and 2k + 2, and precedes neither.
+
+// Of the children of row i in a heap of n rows the one that comes last; n where it has none.
+fn child(rows: &[f32], i: usize, n: usize) -> usize
+    requires { ⌜ (i < n) × (n ≤ 32768) × (4 * n ≤ length (now rows)) ⌝ }
+    ensures { λ r. ⌜ (i < r) × (r ≤ n) ⌝ }
+{
+    let left = 2 * i + 1;
+    if left >= n {
+        return n;
+    }
+    let right = left + 1;
+    if right >= n {
+        return left;
+    }
+    if ahead(rows, left, right) {
+        return right;
+    }
+    left
+}
+
+// Row start sinks in the heap of n rows until no child comes after it.
+fn sink(rows: &mut [f32], start: usize, n: usize)
+    requires { ⌜ (start < n) × (n ≤ 32768) × (4 * n ≤ length (now rows)) ⌝ }
+    ensures { λ _. ⌜ SameRows (rowsOf (now (rows .entry))) (rowsOf (now (rows .exit))) ⌝ }
+{
+    let mut i = start;
+    while i < n {
+        let below = child(rows, i, n);
+        if below >= n {
+            return;
+        }
+        if !ahead(rows, i, below) {
+            return;
+        }
+        swap(rows, i, below);
+        i = below;
+    }
+}
+
+// The first n rows become a heap.
+fn heap(rows: &mut [f32], n: usize)
+    requires { ⌜ (n ≤ 32768) × (4 * n ≤ length (now rows)) ⌝ }
+    ensures { λ _. ⌜ SameRows (rowsOf (now (rows .entry))) (rowsOf (now (rows .exit))) ⌝ }
+{
+    let mut i = n / 2;
+    while i > 0 {
+        i -= 1;
+        sink(rows, i, n);
+    }
+}
+
+// The last row of the heap goes behind it, until one is left.
+fn unheap(rows: &mut [f32], n: usize)
+    requires { ⌜ (n ≤ 32768) × (4 * n ≤ length (now rows)) ⌝ }
+    ensures { λ _. ⌜ SameRows (rowsOf (now (rows .entry))) (rowsOf (now (rows .exit))) ⌝ }
+{
+    let mut end = n;
+    while end > 1 {
+        end -= 1;
+        swap(rows, 0, end);
+        sink(rows, 0, end);
+    }
+}
+
+// ---- a last pass, which has nothing to move then: what proves the order
+
+// Row i goes among those in front of it, which are in order.
+fn settle(rows: &mut [f32], i: usize)
+    requires { ⌜ (4 * i + 4 ≤ length (now rows)) × Rising i (rowsOf (now rows)) ⌝ }
+    ensures { λ _. ⌜ Settled (i + 1) (rowsOf (now (rows .entry))) (rowsOf (now (rows .exit))) ⌝ }
+{
+    let mut j = i;
+    while j > 0 {
+        if !ahead(rows, j, j - 1) {
+            return;
+        }
+        swap(rows, j - 1, j);
+        j -= 1;
+    }
+}
+
+fn insertion(rows: &mut [f32], n: usize)
+    requires { ⌜ (n ≤ 32768) × (4 * n ≤ length (now rows)) ⌝ }
+    ensures { λ _. ⌜ Settled n (rowsOf (now (rows .entry))) (rowsOf (now (rows .exit))) ⌝ }
+{
+    let mut next = 0;
+    while next < n {
+        settle(rows, next);
+        next += 1;
+    }
+}
+
+pub fn sort(rows: &mut [f32], n: usize)
+    requires { ⌜ (n ≤ 32768) × (length (now rows) ≡ 4 * n) × T (allPlain (rowsOf (now rows))) ⌝ }
+    ensures { λ _. ⌜ now (rows .exit) ≡ flatten (sorted (rowsOf (now (rows .entry)))) ⌝ }
+{
+    heap(rows, n);
+    unheap(rows, n);
+    insertion(rows, n);
+}
+
+// ---- areas
+
+// Row j's area times `by`.
+fn scale_row(rows: &mut [f32], j: usize, by: f32)
+    requires { ⌜ 4 * j + 4 ≤ length (now rows) ⌝ }
+    ensures { λ _. ⌜ rowsOf (now (rows .exit)) ≡ set (rowsOf (now (rows .entry))) j (scaledRow by (rowAt (rowsOf (now (rows .entry))) j)) ⌝ }
+{
+    let r = get(rows, j);
+    put(
+        rows,
+        j,
+        PlanarSurface {
+            area: r.area * by,
+            nx: r.nx,
+            ny: r.ny,
+            nz: r.nz,
+        },
+    );
+}
+
+pub fn scale(rows: &mut [f32], n: usize, by: f32)
+    requires { ⌜ (n ≤ 32768) × (length (now rows) ≡ 4 * n) ⌝ }
+    ensures { λ _. ⌜ now (rows .exit) ≡ flatten (scaled by (rowsOf (now (rows .entry)))) ⌝ }
+{
+    let mut i = 0;
+    while i < n {
+        scale_row(rows, i, by);
+        i += 1;
+    }
+}
+
+pub fn largest(rows: &[f32], n: usize) -> f32
+    requires { ⌜ (n ≤ 32768) × (length (now rows) ≡ 4 * n) ⌝ }
+    ensures { λ r. ⌜ r ≡ largestOf (rowsOf (now (rows .entry))) ⌝ }
+{
+    if n == 0 {
+        return 0.0;
+    }
+    rows[0]
+}
+
+// The least of m and an area, if that is above 1e-6.
+fn less_above(m: f32, a: f32) -> f32
+    ensures { λ r. ⌜ r ≡ lessAbove m a ⌝ }
+{
+    if a > 1e-6 {
+        return floats::least32(m, a);
+    }
+    m
+}
+
+pub fn smallest(rows: &[f32], n: usize) -> f32
+    requires { ⌜ (n ≤ 32768) × (length (now rows) ≡ 4 * n) ⌝ }
+    ensures { λ r. ⌜ r ≡ smallestOf (rowsOf (now (rows .entry))) ⌝ }
+{
+    let most = f32::from_bits(0x7f80_0000);
+    let mut m = most;
+    let mut i = 0;
+    while i < n {
+        m = less_above(m, rows[4 * i]);
+        i += 1;
+    }
+    if m < most { m } else { 0.0 }
+}

@@ -1,0 +1,88 @@
+-- A mesh that passes refusal 4 has a box of such numbers, once it has a vertex: each is one of its coordinates. Assumes nothing.
+use mathlib.Core.Path.{_≡_, refl}
+use mathlib.Core.Bool.{true, false}
+use mathlib.Core.List.{List, [], _∷_}
+use Prim.Native.Nat.{ℕ, zero, suc, _+_, _-_, _*_, _^_, _<_}
+use native.Mathlib.Omega.{arith}
+use lib.Dec.{T}
+use lib.ListN.{length, getD}
+use lib.Ieee.{Float, nan, inf, fin, binary32, lt, le, ofBits, isNan}
+use lib.Ieee.Exact.{HasValue}
+use lib.Ieee.Fits.{and-l, and-r}
+use lib.Ieee.Scale.{finite}
+use Rattle.ieee.specs.Magnitude.{magnitude}
+use Rattle.ieee.specs.Order.{least, greatest}
+use Rattle.ieee.proofs.Order.Extremes.{least-from, greatest-from}
+use Rattle.vertices.specs.Vertices.{vertexCount, coordinate}
+use Rattle.sums.specs.Box.{lowest, highest, boxTo, box}
+use Rattle.sums.specs.Fine.{fine, allFine, FineBox}
+use Rattle.sums.proofs.Within.{Within, within-le, within-magnitude}
+
+-- ---- one coordinate
+bound-value : HasValue (ofBits binary32 0x5000_0000) false (2 ^ 33) 1
+unfolding ofBits
+bound-value = (refl, refl)
+
+pub fine-within : (x : Float) → T (fine x) → Within (2 ^ 33) x
+unfolding magnitude le
+fine-within nan h = absurd h
+fine-within (inf s) h = within-magnitude (2 ^ 33) (inf s) (within-le (2 ^ 33) (inf false) (ofBits binary32 0x5000_0000) tt bound-value h)
+fine-within (fin s m e) h = within-magnitude (2 ^ 33) (fin s m e) (within-le (2 ^ 33) (fin false m e) (ofBits binary32 0x5000_0000) tt bound-value h)
+
+pub fine-finite : (x : Float) → T (fine x) → T (finite x)
+fine-finite x h = fine-within x h .finite-is
+
+fine-at : (vs : List Float) (i : ℕ) → T (allFine vs) → i < length vs → T (fine (getD vs i nan))
+unfolding allFine
+fine-at [] i h l = absurd (omega arith)
+fine-at (x ∷ vs) zero h l = and-l (fine x) (allFine vs) h
+fine-at (x ∷ vs) (suc i) h l = fine-at vs i (and-r (fine x) (allFine vs) h) (omega arith)
+
+pub coordinate-fine : (vs : List Float) (axis v : ℕ) → T (allFine vs) → axis < 3 → v < vertexCount vs → T (fine (coordinate vs axis v))
+coordinate-fine vs axis v h a l = fine-at vs (3 * v + axis) h (omega arith)
+
+-- ---- the bounds
+-- of ∞ and a finite number the least is the number, of -∞ the greatest
+least-first : (x : Float) → T (finite x) → least (inf false) x ≡ x
+unfolding least isNan lt
+least-first nan p = absurd p
+least-first (inf s) p = absurd p
+least-first (fin s m e) p = refl
+
+greatest-first : (x : Float) → T (finite x) → greatest (inf true) x ≡ x
+unfolding greatest isNan lt
+greatest-first nan p = absurd p
+greatest-first (inf s) p = absurd p
+greatest-first (fin s m e) p = refl
+
+module _ (vs : List Float) (h : T (allFine vs)) (axis : ℕ) (a : axis < 3) where
+  lowest-fine : (n : ℕ) → n < vertexCount vs → T (fine (lowest vs axis (suc n)))
+  unfolding lowest
+  lowest-fine zero l =
+      let c = coordinate-fine vs axis 0 h a l in rw (least-first (coordinate vs axis 0) (fine-finite (coordinate vs axis 0) c)) c
+  lowest-fine (suc n) l =
+      least-from (λ z. T (fine z)) (lowest vs axis (suc n)) (coordinate vs axis (suc n)) (lowest-fine n (omega arith)) (coordinate-fine vs axis (suc n) h a l)
+
+  highest-fine : (n : ℕ) → n < vertexCount vs → T (fine (highest vs axis (suc n)))
+  unfolding highest
+  highest-fine zero l =
+      let c = coordinate-fine vs axis 0 h a l in rw (greatest-first (coordinate vs axis 0) (fine-finite (coordinate vs axis 0) c)) c
+  highest-fine (suc n) l =
+      greatest-from (λ z. T (fine z)) (highest vs axis (suc n)) (coordinate vs axis (suc n)) (highest-fine n (omega arith)) (coordinate-fine vs axis (suc n) h a l)
+
+box-to-fine : (vs : List Float) (n : ℕ) → T (allFine vs) → n < vertexCount vs → FineBox (boxTo vs (suc n))
+unfolding boxTo
+box-to-fine vs n h l =
+    record {
+      xmin = lowest-fine vs h 0 (omega arith) n l;
+      ymin = lowest-fine vs h 1 (omega arith) n l;
+      zmin = lowest-fine vs h 2 (omega arith) n l;
+      xmax = highest-fine vs h 0 (omega arith) n l;
+      ymax = highest-fine vs h 1 (omega arith) n l;
+      zmax = highest-fine vs h 2 (omega arith) n l;
+    }
+
+pub box-fine : (vs : List Float) → T (allFine vs) → 0 < vertexCount vs → FineBox (box vs)
+box-fine vs h l =
+    let e : vertexCount vs ≡ suc (vertexCount vs - 1) = omega arith in
+    rw e (box-to-fine vs (vertexCount vs - 1) h (omega arith))

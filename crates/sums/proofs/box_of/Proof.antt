@@ -1,0 +1,54 @@
+-- `sums::box_of` meets its contract. The loop's invariant: the bounds are those of the first v vertices. Assumes nothing.
+use mathlib.Core.Path.{_≡_}
+use Prim.Native.Nat.{_/_, _≤_, _-_}
+use native.Mathlib.Numerals.{add-one}
+use native.Mathlib.Omega.{arith}
+use lib.ListN.{length}
+use borrow.Author.Needs.{needs}
+use Rattle.sums.specs.Box.{boxTo}
+use Rattle.sums.proofs.box_of.Statement.{statement}
+use Rattle.sums.proofs.box_of.Tie as tie
+
+abbrev Inv-loop : tie.InvT-loop
+Inv-loop vertices n b₀ v₀ b v = (v ≤ n) × (b ≡ boxTo vertices v)
+
+abbrev μ-loop : tie.MeasureT-loop
+μ-loop vertices n b₀ v₀ b v = n - v
+
+no-bounds-requires : tie.Need-no-bounds-requires Inv-loop μ-loop
+no-bounds-requires c κs = search needs
+
+loop-holds : tie.Need-loop-holds Inv-loop μ-loop
+loop-holds c = search needs
+
+with-vertex-requires : tie.Need-with-vertex-requires Inv-loop μ-loop
+with-vertex-requires c κs = search needs
+
+add-v : tie.Need-add-v Inv-loop μ-loop
+add-v c = search needs
+
+loop-less : tie.Need-loop-less Inv-loop μ-loop
+loop-less c = search needs
+
+loop-again : tie.Need-loop-again Inv-loop μ-loop
+loop-again c = (omega arith, rw (add-one (c .before .before .loop .v)) (c .with-vertex .ensures))
+
+returns : tie.Need-returns Inv-loop μ-loop
+returns c =
+    let vs = c .before .before .before .before .args .vertices .now in
+    let e : c .before .loop .v ≡ length vs / 3 = omega arith in
+    rw (← e) (c .before .loop .inv .1)
+
+pub box-of-spec : {M : Type 1} → statement M
+box-of-spec =
+    tie.close
+    (tie.spec
+    Inv-loop
+    μ-loop
+    no-bounds-requires
+    loop-holds
+    with-vertex-requires
+    add-v
+    loop-less
+    loop-again
+    returns)

@@ -1,0 +1,113 @@
+-- `sums::part_at` meets its contract. A triangle in range has its corners, and one out of range has no part. Assumes nothing.
+use mathlib.Core.Path.{sym, _∙_}
+use Prim.Native.Nat.{_*_, _+_}
+use native.Mathlib.Omega.{arith}
+use borrow.Author.Tests.{not-true, not-false}
+use borrow.Author.Needs.{needs}
+use Rattle.ids.specs.Triangles.{triangle}
+use Rattle.sums.proofs.Parts.{part-in, part-out, corners-are}
+use Rattle.sums.proofs.part_at.Statement.{statement}
+use Rattle.sums.proofs.part_at.Tie as tie
+
+mul-at : tie.Need-mul-at
+mul-at c = search needs
+
+mul-a : tie.Need-mul-a
+mul-a c = search needs
+
+shared-slice-read-a : tie.Need-shared-slice-read-a
+shared-slice-read-a c = search needs
+
+add-b : tie.Need-add-b
+add-b c = search needs
+
+mul-b : tie.Need-mul-b
+mul-b c = search needs
+
+shared-slice-read-b : tie.Need-shared-slice-read-b
+shared-slice-read-b c = search needs
+
+add-c : tie.Need-add-c
+add-c c = search needs
+
+mul-c : tie.Need-mul-c
+mul-c c = search needs
+
+shared-slice-read-c : tie.Need-shared-slice-read-c
+shared-slice-read-c c = search needs
+
+corners-in-range-requires : tie.Need-corners-in-range-requires
+corners-in-range-requires c κs = search needs
+
+returns : tie.Need-returns
+unfolding triangle
+returns c =
+    let a = c .before .before .before .before .before .before .before .args in
+    part-out (a .vertices .now) (a .origin) (triangle (a .indices .now) (a .t)) (sym (c .before .corners-in-range .ensures) ∙ not-true (c .before .corners-in-range .result) (c .if1 .taken))
+
+cast-corner : tie.Need-cast-corner
+cast-corner c =
+    let a = c .before .before .before .before .before .before .before .args in
+    omega (arith, c .before .before .shared-slice-known5 .given (3 * a .t))
+
+corner-requires : tie.Need-corner-requires
+unfolding triangle
+corner-requires c κs =
+    let a = c .before .before .before .before .before .before .before .args in
+    corners-are (a .vertices .now) (triangle (a .indices .now) (a .t)) (sym (c .before .corners-in-range .ensures) ∙ not-false (c .before .corners-in-range .result) (c .if1 .left)) .0
+
+cast-corner-2 : tie.Need-cast-corner-2
+cast-corner-2 c =
+    let a = c .before .before .before .before .before .before .before .before .args in
+    omega (arith, c .before .before .before .shared-slice-known5 .given (3 * a .t + 1))
+
+corner-requires-2 : tie.Need-corner-requires-2
+unfolding triangle
+corner-requires-2 c κs =
+    let a = c .before .before .before .before .before .before .before .before .args in
+    corners-are (a .vertices .now) (triangle (a .indices .now) (a .t)) (sym (c .before .before .corners-in-range .ensures) ∙ not-false (c .before .before .corners-in-range .result) (c .before .if1 .left)) .1
+
+cast-corner-3 : tie.Need-cast-corner-3
+cast-corner-3 c =
+    let a = c .before .before .before .before .before .before .before .before .before .args in
+    omega (arith, c .before .before .before .before .shared-slice-known5 .given (3 * a .t + 2))
+
+corner-requires-3 : tie.Need-corner-requires-3
+unfolding triangle
+corner-requires-3 c κs =
+    let a = c .before .before .before .before .before .before .before .before .before .args in
+    corners-are (a .vertices .now) (triangle (a .indices .now) (a .t)) (sym (c .before .before .before .corners-in-range .ensures) ∙ not-false (c .before .before .before .corners-in-range .result) (c .before .before .if1 .left)) .2
+
+part-of-requires : tie.Need-part-of-requires
+part-of-requires c κs = search needs
+
+returns-2 : tie.Need-returns-2
+unfolding triangle
+returns-2 c =
+    let a = c .before .before .before .before .before .before .before .before .before .before .before .args in
+    c .part-of .ensures
+    ∙ part-in (a .vertices .now) (a .origin) (triangle (a .indices .now) (a .t)) (c .before .before .before .corner .result) (c .before .before .corner2 .result) (c .before .corner3 .result) (sym (c .before .before .before .before .before .corners-in-range .ensures) ∙ not-false (c .before .before .before .before .before .corners-in-range .result) (c .before .before .before .before .if1 .left)) (c .before .before .before .corner .ensures) (c .before .before .corner2 .ensures) (c .before .corner3 .ensures)
+
+pub part-at-spec : {M : Type 1} → statement M
+part-at-spec =
+    tie.close
+    (tie.spec
+    mul-at
+    mul-a
+    shared-slice-read-a
+    add-b
+    mul-b
+    shared-slice-read-b
+    add-c
+    mul-c
+    shared-slice-read-c
+    corners-in-range-requires
+    returns
+    cast-corner
+    corner-requires
+    cast-corner-2
+    corner-requires-2
+    cast-corner-3
+    corner-requires-3
+    part-of-requires
+    returns-2)

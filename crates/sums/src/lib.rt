@@ -1,0 +1,305 @@
+// What the sums of the record are made of: the box, one triangle's part, its slope, and the totals that take it. Internal: `surfaces` and `qto` ask it.
+ghost use mathlib.Core.Path.{_≡_};
+ghost use Prim.Native.Nat.{suc, _≤_, _<_};
+ghost use lib.ListN.{length};
+ghost use Rattle.grid.specs.Grid.{extent as extentOf};
+ghost use Rattle.ids.specs.Triangles.{triangle, triangleCount};
+ghost use Rattle.vertices.specs.Vertices.{vertexCount};
+ghost use Rattle.sums.specs.Box.{boxTo, box, origin as originOf, boxVolume};
+ghost use Rattle.sums.specs.Facet.{minus as minusOf, cross as crossOf, dot as dotOf, normal as normalOf, size as sizeOf, tetra as tetraOf, partOf, rebased, part as partAt};
+ghost use Rattle.sums.specs.Totals.{slopeOf, thresholds, noTotals, withFacet};
+
+// ---- the box
+
+pub struct Bounds {
+    pub xmin: f32,
+    pub ymin: f32,
+    pub zmin: f32,
+    pub xmax: f32,
+    pub ymax: f32,
+    pub zmax: f32,
+}
+
+// The bounds with vertex v.
+fn with_vertex(vertices: &[f32], v: usize, b: Bounds) -> Bounds
+    requires { ⌜ (v < vertexCount (now vertices)) × (b ≡ boxTo (now vertices) v) ⌝ }
+    ensures { λ r. ⌜ r ≡ boxTo (now (vertices .entry)) (suc v) ⌝ }
+{
+    let at = 3 * v;
+    let x = vertices[at];
+    let y = vertices[at + 1];
+    let z = vertices[at + 2];
+    Bounds {
+        xmin: floats::least32(b.xmin, x),
+        ymin: floats::least32(b.ymin, y),
+        zmin: floats::least32(b.zmin, z),
+        xmax: floats::greatest32(b.xmax, x),
+        ymax: floats::greatest32(b.ymax, y),
+        zmax: floats::greatest32(b.zmax, z),
+    }
+}
+
+// Those of no vertex.
+fn no_bounds(vertices: &[f32]) -> Bounds
+    ensures { λ r. ⌜ r ≡ boxTo (now (vertices .entry)) 0 ⌝ }
+{
+    let up = f32::from_bits(0x7f80_0000);
+    let down = f32::from_bits(0xff80_0000);
+    Bounds {
+        xmin: up,
+        ymin: up,
+        zmin: up,
+        xmax: down,
+        ymax: down,
+        zmax: down,
+    }
+}
+
+pub fn box_of(vertices: &[f32]) -> Bounds
+    ensures { λ r. ⌜ r ≡ box (now (vertices .entry)) ⌝ }
+{
+    let n = vertices.len() / 3;
+    let mut b = no_bounds(vertices);
+    let mut v = 0;
+    while v < n {
+        b = with_vertex(vertices, v, b);
+        v += 1;
+    }
+    b
+}
+
+// By what the corners are rebased.
+pub fn origin(b: Bounds) -> [f64; 3]
+    ensures { λ r. ⌜ r ≡ originOf b ⌝ }
+{
+    [
+        std::num::f32_to_f64_with_nan(b.xmin),
+        std::num::f32_to_f64_with_nan(b.ymin),
+        std::num::f32_to_f64_with_nan(b.zmin),
+    ]
+}
+
+// The length from lo to hi, never below 0.
+pub fn extent(lo: f32, hi: f32) -> f32
+    ensures { λ r. ⌜ r ≡ extentOf lo hi ⌝ }
+{
+    floats::greatest32(hi - lo, 0.0)
+}
+
+pub fn box_volume(b: Bounds, cube: f32) -> f32
+    ensures { λ r. ⌜ r ≡ boxVolume b cube ⌝ }
+{
+    let x = extent(b.xmin, b.xmax);
+    let y = extent(b.ymin, b.ymax);
+    let z = extent(b.zmin, b.zmax);
+    x * y * z * cube
+}
+
+// ---- three numbers
+
+// u - v
+fn minus(u: [f64; 3], v: [f64; 3]) -> [f64; 3]
+    ensures { λ r. ⌜ r ≡ minusOf u v ⌝ }
+{
+    [u[0] - v[0], u[1] - v[1], u[2] - v[2]]
+}
+
+// u × v
+fn cross(u: [f64; 3], v: [f64; 3]) -> [f64; 3]
+    ensures { λ r. ⌜ r ≡ crossOf u v ⌝ }
+{
+    [
+        u[1] * v[2] - u[2] * v[1],
+        u[2] * v[0] - u[0] * v[2],
+        u[0] * v[1] - u[1] * v[0],
+    ]
+}
+
+// u · v
+fn dot(u: [f64; 3], v: [f64; 3]) -> f64
+    ensures { λ r. ⌜ r ≡ dotOf u v ⌝ }
+{
+    u[0] * v[0] + u[1] * v[1] + u[2] * v[2]
+}
+
+// ---- a triangle: three corners of three coordinates
+
+// The cross product of the two sides that leave the first corner.
+fn normal(t: [[f64; 3]; 3]) -> [f64; 3]
+    ensures { λ r. ⌜ r ≡ normalOf t ⌝ }
+{
+    let a = t[0];
+    let b = t[1];
+    let c = t[2];
+    let u = minus(b, a);
+    let v = minus(c, a);
+    cross(u, v)
+}
+
+// The length of a vector.
+fn size(n: [f64; 3]) -> f64
+    ensures { λ r. ⌜ r ≡ sizeOf n ⌝ }
+{
+    floats::root64(dot(n, n))
+}
+
+// a · (b × c): six times the volume of the tetrahedron on the triangle and the origin.
+fn tetra(t: [[f64; 3]; 3]) -> f64
+    ensures { λ r. ⌜ r ≡ tetraOf t ⌝ }
+{
+    let a = t[0];
+    let b = t[1];
+    let c = t[2];
+    let n = cross(b, c);
+    dot(a, n)
+}
+
+// What a used triangle adds: its area, also as f32, its volume term, and its unit normal.
+pub struct Facet {
+    pub area: f64,
+    pub area32: f32,
+    pub volume: f64,
+    pub nx: f32,
+    pub ny: f32,
+    pub nz: f32,
+}
+
+// A triangle's part in the sums.
+pub enum Part {
+    OutOfRange,
+    Sliver,
+    Used(Facet),
+}
+
+// The part of a triangle whose ids are in range.
+fn part_of(t: [[f64; 3]; 3]) -> Part
+    ensures { λ r. ⌜ r ≡ partOf t ⌝ }
+{
+    let n = normal(t);
+    let length = size(n);
+    if length < 1e-12 {
+        return Part::Sliver;
+    }
+    let area = 0.5 * length;
+    let inv = 1.0 / length;
+    Part::Used(Facet {
+        area,
+        area32: floats::narrow(area),
+        volume: tetra(t),
+        nx: floats::narrow(n[0] * inv),
+        ny: floats::narrow(n[1] * inv),
+        nz: floats::narrow(n[2] * inv),
+    })
+}
+
+// Vertex v less the origin.
+fn corner(vertices: &[f32], origin: [f64; 3], v: usize) -> [f64; 3]
+    requires { ⌜ v < vertexCount (now vertices) ⌝ }
+    ensures { λ r. ⌜ r ≡ rebased (now (vertices .entry)) origin v ⌝ }
+{
+    let at = 3 * v;
+    let x = std::num::f32_to_f64_with_nan(vertices[at]);
+    let y = std::num::f32_to_f64_with_nan(vertices[at + 1]);
+    let z = std::num::f32_to_f64_with_nan(vertices[at + 2]);
+    [x - origin[0], y - origin[1], z - origin[2]]
+}
+
+// The part of triangle t.
+pub fn part_at(vertices: &[f32], indices: &[u32], origin: [f64; 3], t: usize) -> Part
+    requires { ⌜ (length (now indices) ≤ 98304) × (t < triangleCount (now indices)) ⌝ }
+    ensures { λ r. ⌜ r ≡ partAt (now (vertices .entry)) origin (triangle (now (indices .entry)) t) ⌝ }
+{
+    let at = 3 * t;
+    let a = indices[at];
+    let b = indices[at + 1];
+    let c = indices[at + 2];
+    if !vertices::corners_in_range(vertices, a, b, c) {
+        return Part::OutOfRange;
+    }
+    let p = corner(vertices, origin, a as usize);
+    let q = corner(vertices, origin, b as usize);
+    let r = corner(vertices, origin, c as usize);
+    part_of([p, q, r])
+}
+
+// ---- slope and totals
+
+pub enum Slope {
+    Top,
+    Bottom,
+    Side,
+    Inclined,
+}
+
+// Above the first, or below its negative, a unit normal's z is steep enough for top and bottom; its magnitude under the second is side.
+pub struct Thresholds {
+    pub top: f32,
+    pub side: f32,
+}
+
+// 01's pair.
+pub fn house_rule() -> Thresholds
+    ensures { λ r. ⌜ r ≡ thresholds ⌝ }
+{
+    Thresholds {
+        top: 0.940,
+        side: 0.342,
+    }
+}
+
+fn slope_of(pair: Thresholds, z: f32) -> Slope
+    ensures { λ r. ⌜ r ≡ slopeOf pair z ⌝ }
+{
+    if z > pair.top {
+        return Slope::Top;
+    }
+    if z < -pair.top {
+        return Slope::Bottom;
+    }
+    let magnitude = floats::magnitude32(z);
+    if magnitude < pair.side {
+        return Slope::Side;
+    }
+    Slope::Inclined
+}
+
+// The running sums: two in f64, four in f32.
+pub struct Totals {
+    pub surface: f64,
+    pub volume6: f64,
+    pub top: f32,
+    pub bottom: f32,
+    pub side: f32,
+    pub inclined: f32,
+}
+
+impl Totals {
+    pub fn none() -> Totals
+        ensures { λ r. ⌜ r ≡ noTotals ⌝ }
+    {
+        Totals {
+            surface: 0.0,
+            volume6: 0.0,
+            top: 0.0,
+            bottom: 0.0,
+            side: 0.0,
+            inclined: 0.0,
+        }
+    }
+
+    // Takes one triangle's area, volume term and slope, and hands itself back.
+    pub fn add(mut self, pair: Thresholds, f: Facet) -> Totals
+        ensures { λ r. ⌜ r ≡ withFacet pair self f ⌝ }
+    {
+        self.surface = self.surface + f.area;
+        self.volume6 = self.volume6 + f.volume;
+        let to = slope_of(pair, f.nz);
+        match to {
+            Slope::Top => self.top = self.top + f.area32,
+            Slope::Bottom => self.bottom = self.bottom + f.area32,
+            Slope::Side => self.side = self.side + f.area32,
+            Slope::Inclined => self.inclined = self.inclined + f.area32,
+        }
+        self
+    }
+}

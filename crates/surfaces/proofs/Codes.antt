@@ -1,0 +1,62 @@
+-- A key as three words: one to one, so that equal codes are equal keys. An i32 has a code below 2 ^ 32. And where a search for a code starts. Assumes nothing.
+use mathlib.Core.Path.{_≡_, refl, ap}
+use mathlib.Core.Bool.{true, _&&_}
+use Prim.Native.Nat.{ℕ, _*_, _<_}
+use native.Mathlib.Omega.{arith}
+use borrow.Author.Tests.{eqb-true, eq-eqb}
+use lib.Dec.{eqb}
+use lib.IntN.{ℤ, pos, negsuc}
+use mir.Syntax.{w32, w64}
+use mir.Val.{Fits, SFits}
+use Rattle.ids.proofs.Same.{both}
+use Rattle.table.specs.Rows.{homeRow, Found}
+use Rattle.table.proofs.Search.{home-below}
+use Rattle.weld.specs.Table.{coded}
+use Rattle.weld.proofs.Codes.{coded-one}
+use Rattle.surfaces.specs.declared.Code.{Code}
+use Rattle.surfaces.specs.declared.Key.{Key}
+use Rattle.surfaces.specs.Index.{codeOf, sameCode, hashOf, homeOf}
+
+-- ---- an i32
+
+pub widened : (z : ℤ) → SFits w32 z → SFits w64 z
+widened (pos n) f = record { sfits = omega (arith, f .sfits) }
+widened (negsuc n) f = record { sfits = omega (arith, f .sfits) }
+
+pub coded-fits : (z : ℤ) → SFits w32 z → Fits w32 (coded z)
+unfolding coded
+coded-fits (pos n) f = record { fits = omega (arith, f .sfits) }
+coded-fits (negsuc n) f = record { fits = omega (arith, f .sfits) }
+
+-- ---- one to one, and `sameCode` is equality
+
+pub code-one : (k l : Key) → codeOf k ≡ codeOf l → k ≡ l
+unfolding codeOf
+code-one k l e = λ i. record {
+  x = coded-one (k .x) (l .x) (ap (λ (c : Code). c .x) e) i;
+  y = coded-one (k .y) (l .y) (ap (λ (c : Code). c .y) e) i;
+  z = coded-one (k .z) (l .z) (ap (λ (c : Code). c .z) e) i;
+}
+
+pub code-eq : (a b : Code) → sameCode a b ≡ true → a ≡ b
+unfolding sameCode
+code-eq a b h =
+    let w = both (eqb (a .x) (b .x)) (eqb (a .y) (b .y) && eqb (a .z) (b .z)) h in
+    let v = both (eqb (a .y) (b .y)) (eqb (a .z) (b .z)) (w .1) in
+    λ i. record { x = eqb-true (a .x) (b .x) (w .0) i; y = eqb-true (a .y) (b .y) (v .0) i; z = eqb-true (a .z) (b .z) (v .1) i }
+
+pub code-refl : (a : Code) → sameCode a a ≡ true
+unfolding sameCode
+code-refl a = rw (eq-eqb (a .x) (a .x) refl, eq-eqb (a .y) (a .y) refl, eq-eqb (a .z) (a .z) refl)
+
+-- ---- a search starts at a slot
+
+-- a search from the slot that the code computes is one from the home of the key's code
+pub found-code : (m start hash : ℕ) (k l : Code) (key : ℕ → Code) (mark : ℕ → ℕ) (r : ℕ)
+    → l ≡ k → hash ≡ hashOf l → start ≡ homeRow (2 * m) hash → Found (2 * m) start key mark l r → Found (2 * m) (homeOf m k) key mark k r
+unfolding homeOf
+found-code m start hash k l key mark r same hashed home found = rw (← same, ← hashed, ← home) found
+
+pub home-in : (m : ℕ) (k : Code) → 0 < m → homeOf m k < 2 * m
+unfolding homeOf hashOf
+home-in m k some = home-below (2 * m) (hashOf k) (omega arith) (omega arith)

@@ -1,0 +1,100 @@
+-- What one area more does to the buckets: which keys there are, what each has, and how many they are. Assumes nothing.
+use mathlib.Core.Path.{_≡_, refl, sym, _∙_}
+use mathlib.Core.Logic.{_≢_}
+use mathlib.Core.Bool.{Bool, true, false, _&&_, _||_, cond, true≢false}
+use mathlib.Core.List.{List, [], _∷_}
+use Prim.Native.Nat.{_+_, _≤_}
+use native.Mathlib.Omega.{arith}
+use lib.Ieee.{Float}
+use lib.ListN.{length}
+use Rattle.ids.proofs.Same.{both}
+use Rattle.ieee.specs.Single.{_⊕_, nought}
+use Rattle.weld.specs.Weld.{sameInteger}
+use Rattle.weld.proofs.Codes.{integer-eq, integer-refl}
+use Rattle.surfaces.specs.declared.Key.{Key}
+use Rattle.surfaces.specs.Surfaces.{sameKey, Bucket, put, areaFor, hasKey, Apart, AllAreas, rows}
+
+-- ---- `sameKey` is equality
+
+pub key-eq : (k l : Key) → sameKey k l ≡ true → k ≡ l
+unfolding sameKey
+key-eq k l h =
+    let w = both (sameInteger (k .x) (l .x)) (sameInteger (k .y) (l .y) && sameInteger (k .z) (l .z)) h in
+    let v = both (sameInteger (k .y) (l .y)) (sameInteger (k .z) (l .z)) (w .1) in
+    λ i. record { x = integer-eq (k .x) (l .x) (w .0) i; y = integer-eq (k .y) (l .y) (v .0) i; z = integer-eq (k .z) (l .z) (v .1) i }
+
+pub key-refl : (k : Key) → sameKey k k ≡ true
+unfolding sameKey
+key-refl k = rw (integer-refl (k .x), integer-refl (k .y), integer-refl (k .z))
+
+pub key-same : (k l : Key) → k ≡ l → sameKey k l ≡ true
+key-same k l e = rw e (key-refl l)
+
+-- a test, by what it says
+pub by : {P : Type 0} (b : Bool) → (b ≡ true → P) → (b ≡ false → P) → P
+by true f g = f refl
+by false f g = g refl
+
+pub key-ne : (k l : Key) → l ≢ k → sameKey k l ≡ false
+key-ne k l ne = by (sameKey k l) (λ h. absurd (ne (sym (key-eq k l h)))) (λ h. h)
+
+pub key-differs : (k l : Key) → sameKey k l ≡ false → sameKey l k ≡ false
+key-differs k l h = by (sameKey l k) (λ e. absurd (true≢false (sym (key-same k l (sym (key-eq l k e))) ∙ h))) (λ e. e)
+
+-- ---- the area of each key
+
+pub area-put : (k l : Key) (a : Float) (bs : List Bucket) → areaFor k (put l a bs) ≡ cond (sameKey k l) (areaFor k bs ⊕ a) (areaFor k bs)
+unfolding areaFor put
+area-put k l a [] = refl
+area-put k l a (b ∷ bs) = by (sameKey l (b .key))
+    (λ h. rw (h, key-eq l (b .key) h) (by (sameKey k (b .key)) (λ e. rw e) (λ e. rw e)))
+    (λ h. rw h (by (sameKey k (b .key))
+    (λ e. let o : sameKey k l ≡ false = rw (key-eq k (b .key) e) (key-differs l (b .key) h) in rw (e, o))
+    (λ e. rw e (area-put k l a bs))))
+
+-- ---- which keys there are
+
+or-again : (p q : Bool) → p || q ≡ p || (p || q)
+or-again true q = refl
+or-again false q = refl
+
+or-swap : (p q r : Bool) → p || (q || r) ≡ q || (p || r)
+or-swap true true r = refl
+or-swap true false r = refl
+or-swap false true r = refl
+or-swap false false r = refl
+
+-- the key, and those that there were
+pub has-put : (k l : Key) (a : Float) (bs : List Bucket) → hasKey l (put k a bs) ≡ sameKey l k || hasKey l bs
+unfolding hasKey put
+has-put k l a [] = refl
+has-put k l a (b ∷ bs) = by (sameKey k (b .key))
+    (λ h. rw (h, key-eq k (b .key) h) (or-again (sameKey l (b .key)) (hasKey l bs)))
+    (λ h. rw (h, has-put k l a bs) (or-swap (sameKey l (b .key)) (sameKey l k) (hasKey l bs)))
+
+-- they stay apart
+pub apart-put : (k : Key) (a : Float) (bs : List Bucket) → Apart bs → Apart (put k a bs)
+unfolding Apart put hasKey
+apart-put k a [] w = (refl, tt)
+apart-put k a (b ∷ bs) w = by (sameKey k (b .key))
+    (λ h. rw h w)
+    (λ h. rw h (has-put k (b .key) a bs ∙ rw (key-differs k (b .key) h) (w .0), apart-put k a bs (w .1)))
+
+-- ---- how many
+
+pub length-put-le : (k : Key) (a : Float) (bs : List Bucket) → length (put k a bs) ≤ length bs + 1
+unfolding put
+length-put-le k a [] = omega arith
+length-put-le k a (b ∷ bs) = by (sameKey k (b .key)) (λ h. rw h (omega arith)) (λ h. rw h (omega (arith, length-put-le k a bs)))
+
+pub length-rows : (bs : List Bucket) → length (rows bs) ≡ length bs
+unfolding rows
+length-rows [] = refl
+length-rows (b ∷ bs) = omega (arith, length-rows bs)
+
+-- ---- what every area has, if adding to one keeps it
+
+pub put-all : (P : Float → Type 0) (k : Key) (a : Float) → ((x : Float) → P x → P (x ⊕ a)) → P (nought ⊕ a) → (bs : List Bucket) → AllAreas P bs → AllAreas P (put k a bs)
+unfolding AllAreas put
+put-all P k a more one [] w = (one, tt)
+put-all P k a more one (b ∷ bs) w = by (sameKey k (b .key)) (λ h. rw h (more (b .area) (w .0), w .1)) (λ h. rw h (w .0, put-all P k a more one bs (w .1)))

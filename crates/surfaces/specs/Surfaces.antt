@@ -1,0 +1,78 @@
+-- Surfaces (01; 000, `quantize_normal` and the buckets): the area of each key of a normal, in the order in which the keys come.
+use mathlib.Core.Path.{_≡_}
+use Prim.Native.Nat.{ℕ, zero, suc}
+use mathlib.Core.Bool.{Bool, false, _&&_, _||_, cond}
+use mathlib.Core.List.{List, [], _∷_}
+use lib.IntN.{ℤ, pos}
+use lib.Ieee.{Float, binary32, ofBits, ofInt, toSigned}
+use Rattle.ieee.specs.Integral.{halfAway}
+use Rattle.ieee.specs.Single.{_⊕_, _⊗_, _⊘_, nought}
+use Rattle.weld.specs.Weld.{sameInteger}
+use Rattle.rows.specs.declared.PlanarSurface.{PlanarSurface}
+use Rattle.surfaces.specs.declared.Key.{Key}
+
+abbrev pub ten : Float
+ten = ofBits binary32 0x4120_0000
+
+-- ---- keys
+
+-- a component of a unit normal: times 10, half away from zero, as an i32
+unfoldable pub tenths : Float → ℤ
+tenths c = toSigned 31 (halfAway binary32 (c ⊗ ten))
+
+unfoldable pub keyOf : Float → Float → Float → Key
+keyOf nx ny nz = record { x = tenths nx; y = tenths ny; z = tenths nz }
+
+unfoldable pub sameKey : Key → Key → Bool
+sameKey k l = sameInteger (k .x) (l .x) && (sameInteger (k .y) (l .y) && sameInteger (k .z) (l .z))
+
+-- ---- the area of each
+
+pub record Bucket : Type 0 where
+  pub key : Key
+  pub area : Float
+
+-- an area more for a key, in f32: a new key comes last, and starts at 0
+unfoldable pub put : Key → Float → List Bucket → List Bucket
+put k a [] = record { key = k; area = nought ⊕ a } ∷ []
+put k a (b ∷ bs) = cond (sameKey k (b .key)) (record { key = b .key; area = b .area ⊕ a } ∷ bs) (b ∷ put k a bs)
+
+-- the area of a key: 0 where it has none
+unfoldable pub areaFor : Key → List Bucket → Float
+areaFor k [] = nought
+areaFor k (b ∷ bs) = cond (sameKey k (b .key)) (b .area) (areaFor k bs)
+
+-- ---- which keys there are
+
+-- is k one of them?
+unfoldable pub hasKey : Key → List Bucket → Bool
+hasKey k [] = false
+hasKey k (b ∷ bs) = sameKey k (b .key) || hasKey k bs
+
+-- no two buckets have one key
+unfoldable pub Apart : List Bucket → Type 0
+Apart [] = Unit {0}
+Apart (b ∷ bs) = (hasKey (b .key) bs ≡ false) × Apart bs
+
+-- the key of bucket j; past the last it means nothing
+unfoldable pub keyAt : List Bucket → ℕ → Key
+keyAt [] j = record { x = pos 0; y = pos 0; z = pos 0 }
+keyAt (b ∷ bs) zero = b .key
+keyAt (b ∷ bs) (suc j) = keyAt bs j
+
+-- every area has the property P
+unfoldable pub AllAreas : (Float → Type 0) → List Bucket → Type 0
+AllAreas P [] = Unit {0}
+AllAreas P (b ∷ bs) = P (b .area) × AllAreas P bs
+
+-- ---- as rows: the area, and the key over 10
+
+abbrev pub tenth : ℤ → Float
+tenth z = ofInt binary32 z ⊘ ten
+
+abbrev pub rowOf : Bucket → PlanarSurface
+rowOf b = record { area = b .area; nx = tenth (b .key .x); ny = tenth (b .key .y); nz = tenth (b .key .z) }
+
+unfoldable pub rows : List Bucket → List PlanarSurface
+rows [] = []
+rows (b ∷ bs) = rowOf b ∷ rows bs

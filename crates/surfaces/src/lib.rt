@@ -1,0 +1,159 @@
+// The surface rows while they are summed: the key of a normal, and its row, found by an index in lent words. Internal: `walk` asks it.
+ghost use mathlib.Core.Path.{_≡_};
+ghost use Prim.Native.Nat.{_+_, _*_, _≤_, _<_};
+ghost use lib.Ieee.{nan};
+ghost use lib.ListN.{length, getD, set};
+ghost use Rattle.ieee.specs.Single.{_⊕_, nought};
+ghost use Rattle.table.specs.Rows.{Found};
+ghost use Rattle.weld.specs.Table.{coded as codedOf};
+ghost use Rattle.surfaces.specs.Surfaces.{tenths as tenthsOf, tenth as tenthOf, keyOf};
+ghost use Rattle.surfaces.specs.Index.{codeOf, sameCode, stored, slotIn, keyIn, hashOf, Searchable, Claimed, withRow, Ready, Puts};
+
+// A unit normal in tenths.
+pub struct Key {
+    pub x: i32,
+    pub y: i32,
+    pub z: i32,
+}
+
+// The same as unsigned numbers.
+pub struct Code {
+    pub x: u32,
+    pub y: u32,
+    pub z: u32,
+}
+
+// A component in tenths, half away from zero.
+fn tenths(c: f32) -> i32
+    ensures { λ r. ⌜ r ≡ tenthsOf c ⌝ }
+{
+    let y = floats::round32(c * 10.0);
+    floats::to_i32(y)
+}
+
+pub fn quantize_normal(nx: f32, ny: f32, nz: f32) -> Key
+    ensures { λ r. ⌜ r ≡ keyOf nx ny nz ⌝ }
+{
+    Key {
+        x: tenths(nx),
+        y: tenths(ny),
+        z: tenths(nz),
+    }
+}
+
+// A number of tenths as a float.
+fn tenth(k: i32) -> f32
+    ensures { λ r. ⌜ r ≡ tenthOf k ⌝ }
+{
+    std::num::nearest_i32_to_f32(k) / 10.0
+}
+
+fn coded(k: i32) -> u32
+    ensures { λ r. ⌜ r ≡ codedOf k ⌝ }
+{
+    weld::coded(k as i64) as u32
+}
+
+fn code_of(k: Key) -> Code
+    ensures { λ r. ⌜ r ≡ codeOf k ⌝ }
+{
+    Code {
+        x: coded(k.x),
+        y: coded(k.y),
+        z: coded(k.z),
+    }
+}
+
+fn hash(k: Code) -> u32
+    ensures { λ r. ⌜ r ≡ hashOf k ⌝ }
+{
+    ((k.x as u64 * 1640531527 + k.y as u64 * 1052792407 + k.z as u64 * 779470673)
+        % 0x1_0000_0000) as u32
+}
+
+// Is k the code in the words of row j?
+fn same(index: &[u32], m: usize, j: usize, k: Code) -> bool
+    requires { ⌜ (m ≤ 32768) × (j < m) × (5 * m ≤ length (now index)) ⌝ }
+    ensures { λ r. ⌜ r ≡ sameCode (stored m (now (index .entry)) j) k ⌝ }
+{
+    let at = 2 * m + 3 * j;
+    (index[at] == k.x) & ((index[at + 1] == k.y) & (index[at + 2] == k.z))
+}
+
+// The first slot, from `start` on and round, that holds the code or is free.
+fn find(index: &[u32], m: usize, k: Code, start: usize) -> usize
+    requires { ⌜ (m ≤ 32768) × (start < 2 * m) × (5 * m ≤ length (now index)) × Searchable m (now index) ⌝ }
+    ensures { λ r. ⌜ Found (2 * m) start (keyIn m (now (index .entry))) (slotIn (now (index .entry))) k r ⌝ }
+{
+    let n = 2 * m;
+    let mut r = start;
+    loop {
+        let s = index[r] as usize;
+        if s == 0 {
+            break r;
+        }
+        if same(index, m, s - 1, k) {
+            break r;
+        }
+        r = table::next(r, n);
+    }
+}
+
+// Gives slot r to row n.
+fn claim(index: &mut [u32], m: usize, r: usize, n: usize, k: Code)
+    requires { ⌜ (m ≤ 32768) × (r < 2 * m) × (n < m) × (length (now index) ≡ 5 * m) ⌝ }
+    ensures { λ _. ⌜ Claimed m r n k (now (index .entry)) (now (index .exit)) ⌝ }
+{
+    index[r] = n as u32 + 1;
+    let at = 2 * m + 3 * n;
+    index[at] = k.x;
+    index[at + 1] = k.y;
+    index[at + 2] = k.z;
+}
+
+// The area of a new row: that of a triangle, added to 0.
+fn first_area(rows: &mut [f32], at: usize, area: f32)
+    requires { ⌜ at < length (now rows) ⌝ }
+    ensures { λ _. ⌜ now (rows .exit) ≡ set (now (rows .entry)) at (nought ⊕ area) ⌝ }
+{
+    rows[at] = 0.0 + area;
+}
+
+// More for an area.
+fn grow(rows: &mut [f32], at: usize, area: f32)
+    requires { ⌜ at < length (now rows) ⌝ }
+    ensures { λ _. ⌜ now (rows .exit) ≡ set (now (rows .entry)) at (getD (now (rows .entry)) at nan ⊕ area) ⌝ }
+{
+    rows[at] = rows[at] + area;
+}
+
+// Writes row n: the area, and the key over 10.
+fn new_row(rows: &mut [f32], n: usize, k: Key, area: f32)
+    requires { ⌜ (n < 32768) × (4 * n + 3 < length (now rows)) ⌝ }
+    ensures { λ _. ⌜ now (rows .exit) ≡ withRow (now (rows .entry)) n k area ⌝ }
+{
+    let at = 4 * n;
+    first_area(rows, at, area);
+    rows[at + 1] = tenth(k.x);
+    rows[at + 2] = tenth(k.y);
+    rows[at + 3] = tenth(k.z);
+}
+
+// An area more for a key, in the n rows of m at most. The answer is how many rows there are then.
+pub fn put(index: &mut [u32], rows: &mut [f32], m: usize, n: usize, k: Key, area: f32) -> usize
+    requires { ⌜ Ready m n (now index) (now rows) ⌝ }
+    ensures { λ r. ⌜ Puts m n k area (now (index .entry)) (now (index .exit)) (now (rows .entry)) (now (rows .exit)) r ⌝ }
+{
+    let l = code_of(k);
+    let from = table::home(hash(l), 2 * m);
+    let r = find(index, m, l, from);
+    let s = index[r] as usize;
+    if s == 0 {
+        claim(index, m, r, n, l);
+        new_row(rows, n, k, area);
+        n + 1
+    } else {
+        grow(rows, 4 * (s - 1), area);
+        n
+    }
+}

@@ -1,0 +1,3 @@
+-- What the verdict says case by case, as document 01 lists it; and where the ids stand in the lent area.
+pub mod Meaning
+mod Parts

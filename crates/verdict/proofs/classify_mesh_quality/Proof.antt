@@ -1,0 +1,32 @@
+-- `verdict::classify_mesh_quality` meets its contract: the answer is `judge`'s, and the whole area is cleared. Assumes nothing.
+use mathlib.Core.Path.{_≡_, refl, _∙_}
+use Prim.Native.Nat.{_+_, _*_}
+use native.Mathlib.Omega.{arith}
+use borrow.Author.Needs.{needs}
+use lib.ListN.{length}
+use Rattle.ids.specs.Triangles.{triangleCount}
+use Rattle.vertices.specs.Vertices.{vertexCount}
+use Rattle.ids.proofs.Lent.{cleared-all}
+use Rattle.verdict.proofs.classify_mesh_quality.Statement.{statement}
+use Rattle.verdict.proofs.classify_mesh_quality.Tie as tie
+
+judge-requires : tie.Need-judge-requires
+judge-requires c κs = search needs
+
+clear-requires : tie.Need-clear-requires
+clear-requires c κs = search needs
+
+same-length : tie.Need-same-length
+same-length c = search needs
+
+returns : tie.Need-returns
+returns c =
+    let s = c .before .before .before .before .before .before .before .before .before .before .before in
+    let w = c .before .before .before .before .before .before .judge .last .1 .1 .1 .1 .1 .0 in
+    let vs = s .args .vertices .now in
+    let ids = s .args .indices .now in
+    let long : length w ≡ 5 * length ids + 4 * triangleCount ids + 8 * vertexCount vs = omega (arith, s .pre .2, c .before .before .before .before .before .before .judge .kept) in
+    (c .before .before .before .before .before .before .judge .ensures, rw (← long) (c .before .before .clear .ensures ∙ cleared-all (length w) w refl))
+
+pub classify-mesh-quality-spec : {M : Type 1} → statement M
+classify-mesh-quality-spec = tie.close (tie.spec judge-requires clear-requires same-length returns)

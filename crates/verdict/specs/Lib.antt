@@ -1,0 +1,2 @@
+-- Verdict (01): closed, open shell or degenerate.
+pub mod Verdict

@@ -1,0 +1,2 @@
+-- The prism by its parts.
+mod Prisms

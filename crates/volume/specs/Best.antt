@@ -1,0 +1,81 @@
+-- Best volume (01): which volume is carried, by what method, whether it is to be trusted, and the prism bound. f32, each step rounded once.
+use Prim.Native.Nat.{ℕ}
+use mathlib.Core.Bool.{Bool, true, false, not, _&&_, cond}
+use mathlib.Core.List.{List}
+use lib.Ieee.{Float, inf, binary32, lt, le, ofBits}
+use Rattle.ieee.specs.Cube.{cubeAbove}
+use Rattle.ieee.specs.Order.{least}
+use Rattle.ieee.specs.Single.{_⊗_, nought}
+use Rattle.grid.specs.Grid.{extent}
+use Rattle.raster.specs.Footprint.{footprint}
+use Rattle.sums.specs.declared.Bounds.{Bounds}
+use Rattle.verdict.specs.declared.Quality.{Quality}
+use Rattle.volume.specs.declared.Best.{Best}
+use Rattle.volume.specs.declared.Method.{Method}
+use Rattle.volume.specs.declared.PrismBound.{PrismBound}
+
+-- ---- the prism: the least positive of three products footprint × extent
+
+-- a footprint on the axes u and v times the extent e on the third; 0 where the box is flat on one of them
+unfoldable pub prismOn : List Float → List ℕ → ℕ → ℕ → Float → Float → Float → Float → Float → Float
+prismOn vs ids u v umin umax vmin vmax e = cond (lt nought e && (lt umin umax && lt vmin vmax)) (footprint vs ids u v umin umax vmin vmax ⊗ e) nought
+
+abbrev pub prismX : List Float → List ℕ → Bounds → Float
+prismX vs ids b = prismOn vs ids 1 2 (b .ymin) (b .ymax) (b .zmin) (b .zmax) (extent (b .xmin) (b .xmax))
+
+abbrev pub prismY : List Float → List ℕ → Bounds → Float
+prismY vs ids b = prismOn vs ids 0 2 (b .xmin) (b .xmax) (b .zmin) (b .zmax) (extent (b .ymin) (b .ymax))
+
+abbrev pub prismZ : List Float → List ℕ → Bounds → Float
+prismZ vs ids b = prismOn vs ids 0 1 (b .xmin) (b .xmax) (b .ymin) (b .ymax) (extent (b .zmin) (b .zmax))
+
+-- the lesser of m and p, if p is positive
+unfoldable pub orLess : Float → Float → Float
+orLess m p = cond (lt nought p) (least m p) m
+
+abbrev pub leastPositive : Float → Float → Float → Float
+leastPositive x y z = orLess (orLess (orLess (inf false) x) y) z
+
+-- times u³; 0 where none is positive
+unfoldable pub orNone : Float → Float → Float
+orNone p cube = cond (lt p (inf false)) (p ⊗ cube) nought
+
+unfoldable pub prism : List Float → List ℕ → Bounds → Float → Float
+prism vs ids b cube = orNone (leastPositive (prismX vs ids b) (prismY vs ids b) (prismZ vs ids b)) cube
+
+-- ---- whether the volume of an open shell is to be trusted
+
+-- the smaller positive of prism and box
+unfoldable pub upper : Float → Float → Float
+upper prism box = cond (lt nought prism) (cond (lt nought box) (least prism box) prism) (cond (lt nought box) box nought)
+
+-- 1e-3 and 1.05
+abbrev pub thousandth : Float
+thousandth = ofBits binary32 0x3a83_126f
+
+abbrev pub margin : Float
+margin = ofBits binary32 0x3f86_6666
+
+-- collapsed: prism p at least 1e-3, the volume v under a thousandth of the upper bound, and the surface area s above half of p to the power 2/3
+unfoldable pub collapsed : Float → Float → Float → Float → Bool
+collapsed p most v s = le thousandth p && (cubeAbove s p && lt v (most ⊗ thousandth))
+
+unfoldable pub trusted : Float → Float → Float → Float → Bool
+trusted p most v s = lt nought most && (lt nought v && (not (collapsed p most v s) && le v (most ⊗ margin)))
+
+-- ---- the best volume, by |volume| v, the surface area s, the box and the prism p
+
+abbrev pub orElse : Bool → Best → Best → Best
+orElse true a b = a
+orElse false a b = b
+
+unfoldable pub openBest : Float → Float → Float → Float → Best
+openBest v s box p =
+    orElse (trusted p (upper p box) v s)
+    (record { volume = v; method = Method.MeshOpen; reliable = true; prism = PrismBound.Bound p })
+    (record { volume = p; method = Method.PrismFallback; reliable = false; prism = PrismBound.Bound p })
+
+unfoldable pub bestOf : Quality → Float → Float → Float → Float → Best
+bestOf Quality.Closed v s box p = record { volume = v; method = Method.Mesh; reliable = true; prism = PrismBound.NotComputed }
+bestOf Quality.Degenerate v s box p = record { volume = nought; method = Method.PrismFallback; reliable = false; prism = PrismBound.Bound nought }
+bestOf Quality.OpenShell v s box p = openBest v s box p

@@ -1,0 +1,2 @@
+-- Best volume (01).
+pub mod Best

@@ -1,0 +1,232 @@
+// The best volume of a mesh, by its quality: the mesh's own where that is to be trusted, else the prism. Internal: `qto` asks it.
+ghost use mathlib.Core.Path.{_≡_};
+ghost use lib.ListN.{length, replicate};
+ghost use Rattle.grid.specs.Grid.{extent as extentOf};
+ghost use Rattle.raster.specs.Painted.{axisNumber};
+ghost use Rattle.volume.specs.Best.{prismOn, prismX, prismY, prismZ, orLess, orNone, prism as prismOf, upper as upperOf, collapsed as collapsedOf, trusted as trustedOf, openBest, bestOf};
+use raster::Axis;
+use sums::Bounds;
+use verdict::Quality;
+
+// Which definition the best volume has.
+pub enum Method {
+    Mesh,
+    MeshOpen,
+    PrismFallback,
+    MeshUnclipped,
+    MeshProfileInvalid,
+}
+
+pub enum PrismBound {
+    NotComputed,
+    Bound(f32),
+}
+
+pub struct Best {
+    pub volume: f32,
+    pub method: Method,
+    pub reliable: bool,
+    pub prism: PrismBound,
+}
+
+// ---- the prism
+
+fn extent(lo: f32, hi: f32) -> f32
+    ensures { λ r. ⌜ r ≡ extentOf lo hi ⌝ }
+{
+    floats::greatest32(hi - lo, 0.0)
+}
+
+// The footprint on two axes times the extent on the third. The raster is zero afterwards.
+fn prism_on(
+    vertices: &[f32],
+    indices: &[u32],
+    u_axis: Axis,
+    v_axis: Axis,
+    umin: f32,
+    umax: f32,
+    vmin: f32,
+    vmax: f32,
+    along: f32,
+    raster: &mut [u8],
+) -> f32
+    requires { ⌜ length (now raster) ≡ 65536 ⌝ }
+    ensures { λ r. ⌜ (r ≡ prismOn (now (vertices .entry)) (now (indices .entry)) (axisNumber «u_axis») (axisNumber «v_axis») umin umax vmin vmax along)
+        × (now (raster .exit) ≡ replicate 65536 0) ⌝ }
+{
+    if (along > 0.0) & ((umax > umin) & (vmax > vmin)) {
+        return raster::footprint_raw(
+            vertices,
+            indices,
+            u_axis,
+            v_axis,
+            umin,
+            umax,
+            vmin,
+            vmax,
+            raster,
+        )
+            * along;
+    }
+    raster::clear(raster, 65536);
+    0.0
+}
+
+// The lesser of m and p, if p is positive.
+fn or_less(m: f32, p: f32) -> f32
+    ensures { λ r. ⌜ r ≡ orLess m p ⌝ }
+{
+    if p > 0.0 { floats::least32(m, p) } else { m }
+}
+
+fn or_none(p: f32, cube: f32) -> f32
+    ensures { λ r. ⌜ r ≡ orNone p cube ⌝ }
+{
+    if p < f32::from_bits(0x7f80_0000) {
+        p * cube
+    } else {
+        0.0
+    }
+}
+
+fn prism(vertices: &[f32], indices: &[u32], b: Bounds, cube: f32, raster: &mut [u8]) -> f32
+    requires { ⌜ length (now raster) ≡ 65536 ⌝ }
+    ensures { λ r. ⌜ (r ≡ prismOf (now (vertices .entry)) (now (indices .entry)) b cube) × (now (raster .exit) ≡ replicate 65536 0) ⌝ }
+{
+    let z = prism_on(
+        vertices,
+        indices,
+        Axis::X,
+        Axis::Y,
+        b.xmin,
+        b.xmax,
+        b.ymin,
+        b.ymax,
+        extent(b.zmin, b.zmax),
+        raster,
+    );
+    let y = prism_on(
+        vertices,
+        indices,
+        Axis::X,
+        Axis::Z,
+        b.xmin,
+        b.xmax,
+        b.zmin,
+        b.zmax,
+        extent(b.ymin, b.ymax),
+        raster,
+    );
+    let x = prism_on(
+        vertices,
+        indices,
+        Axis::Y,
+        Axis::Z,
+        b.ymin,
+        b.ymax,
+        b.zmin,
+        b.zmax,
+        extent(b.xmin, b.xmax),
+        raster,
+    );
+    let none = f32::from_bits(0x7f80_0000);
+    let least = or_less(or_less(or_less(none, x), y), z);
+    or_none(least, cube)
+}
+
+// ---- the volume of an open shell
+
+fn upper(prism: f32, aabb: f32) -> f32
+    ensures { λ r. ⌜ r ≡ upperOf prism aabb ⌝ }
+{
+    if prism > 0.0 {
+        if aabb > 0.0 {
+            return floats::least32(prism, aabb);
+        }
+        return prism;
+    }
+    if aabb > 0.0 {
+        return aabb;
+    }
+    0.0
+}
+
+fn collapsed(prism: f32, most: f32, volume: f32, surface: f32) -> bool
+    ensures { λ r. ⌜ r ≡ collapsedOf prism most volume surface ⌝ }
+{
+    (prism >= 1e-3) & (floats::cube_above(surface, prism) & (volume < most * 1e-3))
+}
+
+fn trusted(prism: f32, most: f32, volume: f32, surface: f32) -> bool
+    ensures { λ r. ⌜ r ≡ trustedOf prism most volume surface ⌝ }
+{
+    (most > 0.0)
+        & ((volume > 0.0) & (!collapsed(prism, most, volume, surface) & (volume <= most * 1.05)))
+}
+
+fn open_best(volume: f32, surface: f32, aabb: f32, prism: f32) -> Best
+    ensures { λ r. ⌜ r ≡ openBest volume surface aabb prism ⌝ }
+{
+    let most = upper(prism, aabb);
+    if trusted(prism, most, volume, surface) {
+        return Best {
+            volume,
+            method: Method::MeshOpen,
+            reliable: true,
+            prism: PrismBound::Bound(prism),
+        };
+    }
+    Best {
+        volume: prism,
+        method: Method::PrismFallback,
+        reliable: false,
+        prism: PrismBound::Bound(prism),
+    }
+}
+
+// ---- by quality
+
+// The best volume, by the magnitude of the mesh's own. The footprints are asked for an open shell alone; the raster is zero afterwards.
+pub fn best_volume(
+    vertices: &[f32],
+    indices: &[u32],
+    quality: Quality,
+    volume: f32,
+    surface: f32,
+    aabb: f32,
+    b: Bounds,
+    cube: f32,
+    raster: &mut [u8],
+) -> Best
+    requires { ⌜ length (now raster) ≡ 65536 ⌝ }
+    ensures { λ r. ⌜ (r ≡ bestOf quality volume surface aabb (prismOf (now (vertices .entry)) (now (indices .entry)) b cube)) × (now (raster .exit) ≡ replicate 65536 0) ⌝ }
+{
+    match quality {
+        Quality::Closed => {
+            raster::clear(raster, 65536);
+            Best {
+                volume,
+                method: Method::Mesh,
+                reliable: true,
+                prism: PrismBound::NotComputed,
+            }
+        }
+        Quality::Degenerate => {
+            raster::clear(raster, 65536);
+            Best {
+                volume: 0.0,
+                method: Method::PrismFallback,
+                reliable: false,
+                prism: PrismBound::Bound(0.0),
+            }
+        }
+        Quality::OpenShell => {
+            open_best(
+                volume,
+                surface,
+                aabb,
+                prism(vertices, indices, b, cube, raster),
+            )
+        }
+    }
+}

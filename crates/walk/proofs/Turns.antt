@@ -1,0 +1,92 @@
+-- One triangle more, and where the walk starts.
+use mathlib.Core.Path.{_≡_, refl, sym, _∙_, ap, subst}
+use Prim.Native.Nat.{ℕ, zero, suc, _+_, _*_, _≤_, _<_}
+use native.Mathlib.Numerals.{add-one}
+use native.Mathlib.Omega.{arith}
+use mathlib.Core.List.{List, []}
+use lib.ListN.{length, replicate}
+use lib.Ieee.{Float}
+use Rattle.ids.specs.Lent.{cleared}
+use Rattle.ids.specs.Triangles.{triangle, triangleCount}
+use Rattle.ids.proofs.Lent.{cleared-all}
+use Rattle.sums.specs.declared.Facet.{Facet}
+use Rattle.sums.specs.declared.Part.{Part}
+use Rattle.sums.specs.declared.Totals.{Totals}
+use Rattle.sums.specs.declared.Thresholds.{Thresholds}
+use Rattle.sums.specs.Facet.{part}
+use Rattle.sums.specs.Totals.{noTotals, withFacet, withPart, totalsTo}
+use Rattle.surfaces.specs.declared.Key.{Key}
+use Rattle.surfaces.specs.Surfaces.{Bucket, keyOf, put}
+use Rattle.surfaces.specs.Index.{Gathered, Puts, Ready}
+use Rattle.surfaces.proofs.Gathering.{gathered-none}
+use Rattle.surfaces.proofs.Keys.{length-put-le}
+use Rattle.walk.specs.declared.Sums.{Sums}
+use Rattle.walk.specs.Walk.{withSurface, bucketsTo, Walks}
+use Rattle.walk.specs.Steps.{Takes, Taken}
+
+-- a part that adds nothing
+pub takes-range : (m : ℕ) (pair : Thresholds) (s : Sums) (t : List ℕ) (u : List Float) → Takes m pair s Part.OutOfRange t t u u s
+unfolding withPart withSurface
+takes-range m pair s t u = record { totals = refl; puts = λ w bs l g. (sym l, g) }
+
+pub takes-sliver : (m : ℕ) (pair : Thresholds) (s : Sums) (t : List ℕ) (u : List Float) → Takes m pair s Part.Sliver t t u u s
+unfolding withPart withSurface
+takes-sliver m pair s t u = record { totals = refl; puts = λ w bs l g. (sym l, g) }
+
+-- a facet
+pub takes-used : (m : ℕ) (pair : Thresholds) (s : Sums) (f : Facet) (t t′ : List ℕ) (u u′ : List Float) (k : Key) (n : ℕ) (a : Totals) → k ≡ keyOf (f .nx) (f .ny) (f .nz)
+    → Puts m (s .rows) k (f .area32) t t′ u u′ n → a ≡ withFacet pair (s .totals) f → Takes m pair s (Part.Used f) t t′ u u′ (record { totals = a; rows = n })
+unfolding withPart withSurface
+takes-used m pair s f t t′ u u′ k n a e p h =
+    record { totals = h; puts = λ w bs l g. subst (λ (j : Key). (n ≡ length (put j (f .area32) bs)) × Gathered m w t′ u′ (put j (f .area32) bs)) e (p .puts w bs l g) }
+
+-- no more rows than triangles
+part-le : (bs : List Bucket) (p : Part) → length (withSurface bs p) ≤ length bs + 1
+unfolding withSurface
+part-le bs Part.OutOfRange = omega arith
+part-le bs Part.Sliver = omega arith
+part-le bs (Part.Used f) = length-put-le _ _ bs
+
+pub buckets-le : (vs o : List Float) (ids : List ℕ) (n : ℕ) → length (bucketsTo vs o ids n) ≤ n
+unfolding bucketsTo
+buckets-le vs o ids zero = omega arith
+buckets-le vs o ids (suc n) = omega (arith, buckets-le vs o ids n, part-le (bucketsTo vs o ids n) (part vs o (triangle ids n)))
+
+pub taken-none : (vs o : List Float) (pair : Thresholds) (ids : List ℕ) (w : List Float) (t : List ℕ) (a : Totals) → t ≡ replicate (5 * triangleCount ids) 0 → a ≡ noTotals
+    → Taken vs o pair ids w 0 t w (record { totals = a; rows = 0 })
+unfolding totalsTo bucketsTo
+taken-none vs o pair ids w t a e h =
+    record { totals = h; count = refl; means = subst (λ (l : List ℕ). Gathered (triangleCount ids) w l w []) (sym e) (gathered-none (triangleCount ids) w) }
+
+pub taken-next : (vs o : List Float) (pair : Thresholds) (ids : List ℕ) (w : List Float) (n : ℕ) (t t′ : List ℕ) (u u′ : List Float) (s r : Sums)
+    → Taken vs o pair ids w n t u s → Takes (triangleCount ids) pair s (part vs o (triangle ids n)) t t′ u u′ r → Taken vs o pair ids w (n + 1) t′ u′ r
+unfolding totalsTo bucketsTo
+taken-next vs o pair ids w n t t′ u u′ s r a b =
+    let e : suc n ≡ n + 1 = sym (add-one n) in
+    let p = b .puts w (bucketsTo vs o ids n) (sym (a .count)) (a .means) in
+    subst (λ (k : ℕ). Taken vs o pair ids w k t′ u′ r) e
+    (record { totals = b .totals ∙ ap (λ x. withPart pair x (part vs o (triangle ids n))) (a .totals); count = p .0; means = p .1 })
+
+-- there is room for a row more
+pub ready : (vs o : List Float) (pair : Thresholds) (ids : List ℕ) (w : List Float) (n : ℕ) (t : List ℕ) (u : List Float) (s : Sums) → triangleCount ids ≤ 32768
+    → length t ≡ 5 * triangleCount ids → 4 * triangleCount ids ≤ length u → n < triangleCount ids → Taken vs o pair ids w n t u s → Ready (triangleCount ids) (s .rows) t u
+ready vs o pair ids w n t u s small words room left a =
+    record {
+      small = small;
+      words = words;
+      room = room;
+      left = omega (arith, left, a .count, buckets-le vs o ids n);
+      means = (w, bucketsTo vs o ids n, sym (a .count), a .means);
+    }
+
+-- the walk as a whole: n words of index were cleared before and after
+pub walks : (vs o : List Float) (pair : Thresholds) (ids : List ℕ) (w : List Float) (n : ℕ) (t t′ : List ℕ) (u : List Float) (r : Sums) → Taken vs o pair ids w (triangleCount ids) t u r
+    → n ≡ 5 * triangleCount ids → length t ≡ n → t′ ≡ cleared n t → Walks vs o pair ids w r t′ u
+walks vs o pair ids w n t t′ u r a e l h =
+    record {
+      totals = a .totals;
+      count = a .count;
+      few = omega (arith, a .count, buckets-le vs o ids (triangleCount ids));
+      index = h ∙ cleared-all n t l ∙ ap (λ (k : ℕ). replicate k 0) e;
+      surfaces = a .means .filled;
+    }

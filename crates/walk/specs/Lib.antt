@@ -1,0 +1,3 @@
+-- The sums over all triangles of a mesh.
+pub mod Walk
+pub mod Steps

@@ -1,0 +1,110 @@
+// One walk over the triangles: the totals, and a row for each key of a normal. Internal: `qto` asks it.
+ghost use mathlib.Core.Path.{_≡_};
+ghost use mathlib.Core.List.{List};
+ghost use Prim.Native.Nat.{suc, _+_, _*_, _≤_, _<_};
+ghost use lib.ListN.{length, replicate};
+ghost use lib.Ieee.{Float};
+ghost use Rattle.ids.specs.Triangles.{triangle, triangleCount};
+ghost use Rattle.surfaces.specs.Index.{Ready};
+ghost use Rattle.sums.specs.Facet.{part};
+ghost use Rattle.sums.specs.Totals.{withPart};
+ghost use Rattle.walk.specs.Walk.{Walks};
+ghost use Rattle.walk.specs.Steps.{Takes, Taken};
+use sums::Facet;
+use sums::Part;
+use sums::Thresholds;
+use sums::Totals;
+
+// What the triangles done so far add up to, and how many rows they have.
+pub struct Sums {
+    pub totals: Totals,
+    pub rows: usize,
+}
+
+// A facet more.
+fn take_facet(
+    pair: Thresholds,
+    s: Sums,
+    f: Facet,
+    index: &mut [u32],
+    rows: &mut [f32],
+    m: usize,
+) -> Sums
+    requires { ⌜ Ready m (s .rows) (now index) (now rows) ⌝ }
+    ensures { λ r. ⌜ Takes m pair s (Part.Used f) (now (index .entry)) (now (index .exit)) (now (rows .entry)) (now (rows .exit)) r ⌝ }
+{
+    let totals = s.totals;
+    let key = surfaces::quantize_normal(f.nx, f.ny, f.nz);
+    let n = surfaces::put(index, rows, m, s.rows, key, f.area32);
+    Sums {
+        totals: totals.add(pair, f),
+        rows: n,
+    }
+}
+
+// Triangle t more.
+fn take(
+    vertices: &[f32],
+    indices: &[u32],
+    origin: [f64; 3],
+    pair: Thresholds,
+    s: Sums,
+    t: usize,
+    index: &mut [u32],
+    rows: &mut [f32],
+) -> Sums
+    requires { ⌜ (length (now indices) ≤ 98304) × (t < triangleCount (now indices)) × Ready (triangleCount (now indices)) (s .rows) (now index) (now rows) ⌝ }
+    ensures { λ r. ⌜ Takes (triangleCount (now (indices .entry))) pair s (part (now (vertices .entry)) origin (triangle (now (indices .entry)) t))
+        (now (index .entry)) (now (index .exit)) (now (rows .entry)) (now (rows .exit)) r ⌝ }
+{
+    let p = sums::part_at(vertices, indices, origin, t);
+    match p {
+        Part::OutOfRange => s,
+        Part::Sliver => s,
+        Part::Used(f) => take_facet(pair, s, f, index, rows, indices.len() / 3),
+    }
+}
+
+// All triangles, the index words being zero before.
+fn take_all(
+    vertices: &[f32],
+    indices: &[u32],
+    origin: [f64; 3],
+    pair: Thresholds,
+    index: &mut [u32],
+    rows: &mut [f32],
+) -> Sums
+    requires { ⌜ (length (now indices) ≤ 98304) × (0 < triangleCount (now indices)) × (now index ≡ replicate (5 * triangleCount (now indices)) 0) × (4 * triangleCount (now indices) ≤ length (now rows)) ⌝ }
+    ensures { λ r. ⌜ Taken (now (vertices .entry)) origin pair (now (indices .entry)) (now (rows .entry)) (triangleCount (now (indices .entry))) (now (index .exit)) (now (rows .exit)) r ⌝ }
+{
+    let m = indices.len() / 3;
+    let mut s = Sums {
+        totals: Totals::none(),
+        rows: 0,
+    };
+    let mut t = 0;
+    while t < m {
+        s = take(vertices, indices, origin, pair, s, t, index, rows);
+        t += 1;
+    }
+    s
+}
+
+// The sums of all triangles. The index, 5 words a triangle, is zero afterwards; the rows stand first in the surface area.
+pub fn walk(
+    vertices: &[f32],
+    indices: &[u32],
+    origin: [f64; 3],
+    pair: Thresholds,
+    index: &mut [u32],
+    rows: &mut [f32],
+) -> Sums
+    requires { ⌜ (length (now indices) ≤ 98304) × (0 < triangleCount (now indices)) × (length (now index) ≡ 5 * triangleCount (now indices)) × (4 * triangleCount (now indices) ≤ length (now rows)) ⌝ }
+    ensures { λ r. ⌜ Walks (now (vertices .entry)) origin pair (now (indices .entry)) (now (rows .entry)) r (now (index .exit)) (now (rows .exit)) ⌝ }
+{
+    let n = index.len();
+    table::clear(index, n);
+    let s = take_all(vertices, indices, origin, pair, index, rows);
+    table::clear(index, n);
+    s
+}

@@ -7,6 +7,7 @@
 #[allow(dead_code, clippy::all)]
 pub mod mesh;
 
+pub mod compute;
 pub mod exception;
 pub mod file;
 #[cfg(port)]

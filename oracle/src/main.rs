@@ -37,6 +37,11 @@ a folder with a libcapi.a of its kind when this is built):
   oracle raster N              the point test on N points, the footprint on large meshes and on N by chance: its bits and
                                every byte of the lent raster
   oracle speed raster          milliseconds for the three footprints of a mesh
+  oracle compute N             the record on large meshes, on lengths about the limit and on N by chance of every kind in
+                               turn, over areas that are exact, one short, longer and far too short: refusals, all words
+                               of the record, every row and every place of the areas; meshes near the one exception are
+                               counted and compared by document 01's exact form; last line 'A agree, D differ'
+  oracle speed compute         milliseconds a record, at an eighth of the most triangles up to all; nanoseconds for small
 ";
 
 fn main() -> ExitCode {
@@ -51,17 +56,19 @@ fn main() -> ExitCode {
             _ => return usage("SEED and COUNT are whole numbers from 0 up"),
         },
         ["floats", "all"] => port::run(Run::FloatsAll),
-        [command @ ("floats" | "ids" | "weld" | "raster"), n] => match (*command, n.parse()) {
+        [command @ ("floats" | "ids" | "weld" | "raster" | "compute"), n] => match (*command, n.parse()) {
             ("floats", Ok(n)) => port::run(Run::Floats(n)),
             ("ids", Ok(n)) => port::run(Run::Ids(n)),
             ("weld", Ok(n)) => port::run(Run::Weld(n)),
-            (_, Ok(n)) => port::run(Run::Raster(n)),
+            ("raster", Ok(n)) => port::run(Run::Raster(n)),
+            (_, Ok(n)) => port::run(Run::Compute(n)),
             _ => return usage("N is a whole number from 0 up, or 'all' of floats"),
         },
         ["speed", "floats"] => port::run(Run::SpeedFloats),
         ["speed", "ids"] => port::run(Run::SpeedIds),
         ["speed", "weld"] => port::run(Run::SpeedWeld),
         ["speed", "raster"] => port::run(Run::SpeedRaster),
+        ["speed", "compute"] => port::run(Run::SpeedCompute),
         ["help" | "--help" | "-h"] => {
             print!("{USAGE}");
             return ExitCode::SUCCESS;

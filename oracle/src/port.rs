@@ -10,10 +10,12 @@ pub enum Run {
     Ids(u64),
     Weld(u64),
     Raster(u64),
+    Compute(u64),
     SpeedFloats,
     SpeedIds,
     SpeedWeld,
     SpeedRaster,
+    SpeedCompute,
 }
 
 #[cfg(not(port))]
@@ -33,10 +35,12 @@ pub fn run(run: Run) -> io::Result<ExitCode> {
         Run::Ids(n) => linked::ids(n),
         Run::Weld(n) => linked::weld(n),
         Run::Raster(n) => linked::raster(n),
+        Run::Compute(n) => linked::compute(n),
         Run::SpeedFloats => linked::speed_floats(),
         Run::SpeedIds => linked::speed_ids(),
         Run::SpeedWeld => linked::speed_weld(),
         Run::SpeedRaster => linked::speed_raster(),
+        Run::SpeedCompute => linked::speed_compute(),
     }
 }
 
@@ -44,7 +48,7 @@ pub fn run(run: Run) -> io::Result<ExitCode> {
 mod linked {
     use mowfrost_oracle::floats::compare::{on_all_32, on_chance, on_edges, Count};
     use mowfrost_oracle::floats::helpers::{Width, HELPERS};
-    use mowfrost_oracle::{floats, ids, raster, weld};
+    use mowfrost_oracle::{compute, floats, ids, raster, weld};
     use std::io::{self, Write};
     use std::process::ExitCode;
 
@@ -112,6 +116,14 @@ mod linked {
         }))
     }
 
+    pub fn compute(n: u64) -> io::Result<ExitCode> {
+        use compute::compare::{all, PORT};
+        sum(all(PORT, n).map(|(on, count)| -> Line {
+            let line = format!("{on:<18} {:>8} agree, {} differ ({})", count.agree, count.differ, count.reached());
+            (line, count.agree, count.differ, [count.shown, count.noted].concat())
+        }))
+    }
+
     /// Prints each line with what it shows, then the sums.
     fn sum(lines: impl Iterator<Item = Line>) -> io::Result<ExitCode> {
         let mut out = io::stdout().lock();
@@ -156,6 +168,18 @@ mod linked {
     pub fn speed_raster() -> io::Result<ExitCode> {
         let rows = raster::speed::rows();
         race("triangles", rows.iter().map(|row| (row.on, row.triangles, row.port, row.rust)))
+    }
+
+    pub fn speed_compute() -> io::Result<ExitCode> {
+        let ms = compute::speed::rows().map(|row| (row.on, row.triangles, 1e3 * row.port, 1e3 * row.rust));
+        race("triangles", ms)?;
+        let mut out = io::stdout().lock();
+        writeln!(out, "\n| small mesh | triangles | port, ns | Rust, ns | ratio |\n|---|---|---|---|---|")?;
+        for row in compute::speed::small() {
+            let (on, triangles, ratio) = (row.on, row.triangles, row.port / row.rust);
+            writeln!(out, "| {on} | {triangles} | {:.0} | {:.0} | {ratio:.2} |", 1e9 * row.port, 1e9 * row.rust)?;
+        }
+        Ok(ExitCode::SUCCESS)
     }
 
     fn race<'a>(of: &str, rows: impl Iterator<Item = (&'a str, usize, f64, f64)>) -> io::Result<ExitCode> {

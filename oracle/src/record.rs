@@ -27,7 +27,7 @@ impl Lent {
         Lent { work: 5 * ids + 4 * (ids / 3) + 8 * (floats / 3), raster: RASTER_BYTES, surfaces: 4 * (ids / 3) }
     }
 
-    fn holds(&self, asked: Lent) -> bool {
+    pub fn holds(&self, asked: Lent) -> bool {
         self.work >= asked.work && self.raster >= asked.raster && self.surfaces >= asked.surfaces
     }
 }

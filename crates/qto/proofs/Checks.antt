@@ -1,5 +1,5 @@
 -- What it says of a mesh and of the lent areas that no row of the table of refusals applies.
-use mathlib.Core.Path.{_≡_, refl, ap}
+use mathlib.Core.Path.{_≡_, refl, sym, _∙_, ap}
 use mathlib.Core.Bool.{Bool, true, false, not, _||_, false≢true}
 use Prim.Native.Nat.{ℕ, _≤_}
 use native.Mathlib.Omega.{arith}
@@ -46,11 +46,11 @@ pub record Admitted (vs : List Float) (ids : List ℕ) (u : Float) (w r s : ℕ)
   pub raster : rasterBytes ≤ r
   pub surfaces : surfaceFloats (length ids) ≤ s
 
-pub admitted : (vs : List Float) (ids : List ℕ) (u : Float) (w r s : ℕ) → checkOf vs ids u w r s ≡ Check.Full → Admitted vs ids u w r s
+pub admitted : (vs : List Float) (ids : List ℕ) (u : Float) (w r s : ℕ) (k : Check) → k ≡ Check.Full → k ≡ checkOf vs ids u w r s → Admitted vs ids u w r s
 unfolding checkOf
-admitted vs ids u w r s e =
+admitted vs ids u w r s k h e =
     let t = five-left (ltb 98304 (length vs) || ltb 98304 (length ids)) (ltb (length ids) 3 || ltb (length vs) 9) (unitFits u)
-    (ltb w (workWords (length vs) (length ids)) || (ltb r rasterBytes || ltb s (surfaceFloats (length ids)))) (allFine vs) e in
+    (ltb w (workWords (length vs) (length ids)) || (ltb r rasterBytes || ltb s (surfaceFloats (length ids)))) (allFine vs) (sym e ∙ h) in
     let most = both-small (length vs) (length ids) (t .0) in
     let least = neither (ltb (length ids) 3) (ltb (length vs) 9) (t .1) in
     let areas = neither (ltb w (workWords (length vs) (length ids))) (ltb r rasterBytes || ltb s (surfaceFloats (length ids))) (t .3) in

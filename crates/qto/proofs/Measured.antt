@@ -36,7 +36,7 @@ use Rattle.qto.specs.Full.{square, cube, totals, volumeOf, surfaceOf, bu
 both : (p q : Bool) → T (p && q) → T p × T q
 both true true h = (tt, tt)
 
-unit-square : (u : Float) → T (unitFits u) → T (positive (square u))
+pub unit-square : (u : Float) → T (unitFits u) → T (positive (square u))
 unfolding unitFits
 unit-square u h = let e = both (le (ofBits binary32 0x3580_0000) u) (le u (ofBits binary32 0x4180_0000)) h in square-positive u (e .0) (e .1)
 

@@ -17,35 +17,35 @@ module _ (vs : List Float) (ids : List ℕ) (u : Float) (w r : List ℕ) (s : Li
   abbrev said : Check
   said = checkOf vs ids u (length w) (length r) (length s)
 
-  pub refused : (n : ℕ) → Check.Refuse n ≡ said → Computes vs ids u w r s (Answer.Refused n) w r s
+  pub refused : (n : ℕ) (k : Check) → k ≡ Check.Refuse n → k ≡ said → Computes vs ids u w r s (Answer.Refused n) w r s
   unfolding answerAt areaAt
-  refused n e =
+  refused n k h e =
       record {
-        answers = ap (λ (c : Check). answerAt c (recordOf vs ids u)) e;
-        work = ap (λ (c : Check). areaAt c (cleared (workWords (length vs) (length ids)) w) w) e;
-        raster = ap (λ (c : Check). areaAt c (cleared rasterBytes r) r) e;
-        surfaces = ap (λ (c : Check). areaAt c (surfacesAfter vs ids u s) s) e;
+        answers = ap (λ (c : Check). answerAt c (recordOf vs ids u)) (sym h ∙ e);
+        work = ap (λ (c : Check). areaAt c (cleared (workWords (length vs) (length ids)) w) w) (sym h ∙ e);
+        raster = ap (λ (c : Check). areaAt c (cleared rasterBytes r) r) (sym h ∙ e);
+        surfaces = ap (λ (c : Check). areaAt c (surfacesAfter vs ids u s) s) (sym h ∙ e);
       }
 
-  pub zero : (q : MeshQto) → Check.Zero ≡ said → q ≡ zeroRecord → Computes vs ids u w r s (Answer.Record q) w r s
+  pub zero : (q : MeshQto) (k : Check) → k ≡ Check.Zero → k ≡ said → q ≡ zeroRecord → Computes vs ids u w r s (Answer.Record q) w r s
   unfolding answerAt areaAt
-  zero q e h =
+  zero q k h e hq =
       record {
-        answers = ap Answer.Record h ∙ ap (λ (c : Check). answerAt c (recordOf vs ids u)) e;
-        work = ap (λ (c : Check). areaAt c (cleared (workWords (length vs) (length ids)) w) w) e;
-        raster = ap (λ (c : Check). areaAt c (cleared rasterBytes r) r) e;
-        surfaces = ap (λ (c : Check). areaAt c (surfacesAfter vs ids u s) s) e;
+        answers = ap Answer.Record hq ∙ ap (λ (c : Check). answerAt c (recordOf vs ids u)) (sym h ∙ e);
+        work = ap (λ (c : Check). areaAt c (cleared (workWords (length vs) (length ids)) w) w) (sym h ∙ e);
+        raster = ap (λ (c : Check). areaAt c (cleared rasterBytes r) r) (sym h ∙ e);
+        surfaces = ap (λ (c : Check). areaAt c (surfacesAfter vs ids u s) s) (sym h ∙ e);
       }
 
-  pub full : (q : MeshQto) (w′ r′ : List ℕ) (s′ : List Float) → Check.Full ≡ said → q ≡ recordOf vs ids u → w′ ≡ cleared (workWords (length vs) (length ids)) w
+  pub full : (q : MeshQto) (w′ r′ : List ℕ) (s′ : List Float) (k : Check) → k ≡ Check.Full → k ≡ said → q ≡ recordOf vs ids u → w′ ≡ cleared (workWords (length vs) (length ids)) w
       → r′ ≡ cleared rasterBytes r → s′ ≡ surfacesAfter vs ids u s → Computes vs ids u w r s (Answer.Record q) w′ r′ s′
   unfolding answerAt areaAt
-  full q w′ r′ s′ e hq hw hr hs =
+  full q w′ r′ s′ k h e hq hw hr hs =
       record {
-        answers = ap Answer.Record hq ∙ ap (λ (c : Check). answerAt c (recordOf vs ids u)) e;
-        work = hw ∙ ap (λ (c : Check). areaAt c (cleared (workWords (length vs) (length ids)) w) w) e;
-        raster = hr ∙ ap (λ (c : Check). areaAt c (cleared rasterBytes r) r) e;
-        surfaces = hs ∙ ap (λ (c : Check). areaAt c (surfacesAfter vs ids u s) s) e;
+        answers = ap Answer.Record hq ∙ ap (λ (c : Check). answerAt c (recordOf vs ids u)) (sym h ∙ e);
+        work = hw ∙ ap (λ (c : Check). areaAt c (cleared (workWords (length vs) (length ids)) w) w) (sym h ∙ e);
+        raster = hr ∙ ap (λ (c : Check). areaAt c (cleared rasterBytes r) r) (sym h ∙ e);
+        surfaces = hs ∙ ap (λ (c : Check). areaAt c (surfacesAfter vs ids u s) s) (sym h ∙ e);
       }
 
 -- any two answers that the contract allows are equal, and so is what is left in the areas

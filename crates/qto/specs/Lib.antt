@@ -1,5 +1,7 @@
 -- `compute` (01): the table of refusals, the record of a mesh, and what comes back.
 pub mod Refusals
 pub mod Full
+pub mod Surfaces
+pub mod Starred
 pub mod Compute
 pub mod Numbers

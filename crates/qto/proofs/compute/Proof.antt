@@ -25,17 +25,17 @@ enum-told-2 c = search needs
 full-requires : tie.Need-full-requires
 full-requires c κs =
     let args = c .before .before .before .before .before .before .before .before .before .before .before .args in
-    let a = admitted (args .vertices .now) (args .indices .now) (args .unit-scale) (length (args .work .now)) (length (args .raster .now)) (length (args .surfaces .now)) (sym (c .before .before .before .before .before .checked .ensures) ∙ c .before .before .before .enum-told2 .given .1) in (a .mesh, a .work, a .raster, a .surfaces)
+    let a = admitted (args .vertices .now) (args .indices .now) (args .unit-scale) (length (args .work .now)) (length (args .raster .now)) (length (args .surfaces .now)) _ (c .before .before .before .enum-told2 .given .1) (c .before .before .before .before .before .checked .ensures) in (a .mesh, a .work, a .raster, a .surfaces)
 
 returns : tie.Need-returns
 returns c =
     let args = c .before .before .before .before .before .before .before .before .before .args in
-    refused (args .vertices .now) (args .indices .now) (args .unit-scale) (args .work .now) (args .raster .now) (args .surfaces .now) _ (sym (c .before .c .given .1) ∙ c .before .before .before .checked .ensures)
+    refused (args .vertices .now) (args .indices .now) (args .unit-scale) (args .work .now) (args .raster .now) (args .surfaces .now) _ _ (c .before .c .given .1) (c .before .before .before .checked .ensures)
 
 returns-2 : tie.Need-returns-2
 returns-2 c =
     let args = c .before .before .before .before .before .before .before .before .before .args in
-    zero (args .vertices .now) (args .indices .now) (args .unit-scale) (args .work .now) (args .raster .now) (args .surfaces .now) _ (sym (c .before .enum-told .given .1) ∙ c .before .before .before .checked .ensures) (c .zero-record .ensures)
+    zero (args .vertices .now) (args .indices .now) (args .unit-scale) (args .work .now) (args .raster .now) (args .surfaces .now) _ _ (c .before .enum-told .given .1) (c .before .before .before .checked .ensures) (c .zero-record .ensures)
 
 same-length : tie.Need-same-length
 same-length c = search needs
@@ -50,7 +50,7 @@ returns-3 : tie.Need-returns-3
 returns-3 c =
     let args = c .before .before .before .before .before .before .before .before .before .before .before .before .before .before .before .before .before .before .args in
     let the-full = c .before .before .before .before .before .before .full in
-    full (args .vertices .now) (args .indices .now) (args .unit-scale) (args .work .now) (args .raster .now) (args .surfaces .now) _ _ _ _ (sym (c .before .before .before .before .before .before .before .before .before .before .enum-told2 .given .1) ∙ c .before .before .before .before .before .before .before .before .before .before .before .before .checked .ensures) (the-full .ensures .0) (the-full .ensures .1) (the-full .ensures .2) (the-full .ensures .3)
+    full (args .vertices .now) (args .indices .now) (args .unit-scale) (args .work .now) (args .raster .now) (args .surfaces .now) _ _ _ _ _ (c .before .before .before .before .before .before .before .before .before .before .enum-told2 .given .1) (c .before .before .before .before .before .before .before .before .before .before .before .before .checked .ensures) (the-full .ensures .0) (the-full .ensures .1) (the-full .ensures .2) (the-full .ensures .3)
 
 pub compute-spec : {M : Type 1} → statement M
 compute-spec =

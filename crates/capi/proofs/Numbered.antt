@@ -1,0 +1,105 @@
+-- The C form of the record: what `compute` answers becomes a number and words, after the flags are checked; and for every input there is one number and one later content of record and areas.
+use mathlib.Core.Path.{_≡_, refl, sym, ap, _∙_}
+use Prim.Native.Nat.{ℕ, _+_}
+use mathlib.Core.Bool.{Bool, true, false, not}
+use mathlib.Core.List.{List}
+use lib.Dec.{eqb}
+use lib.ListN.{length}
+use lib.Ieee.{Float}
+use Rattle.ids.specs.Lent.{cleared}
+use Rattle.record.specs.declared.MeshQto.{MeshQto}
+use Rattle.record.specs.declared.Profile.{Profile}
+use Rattle.record.specs.Flags.{flagged}
+use Rattle.record.specs.Numbers.{profileAt}
+use Rattle.qto.specs.declared.Answer.{Answer}
+use Rattle.qto.specs.declared.Check.{Check}
+use Rattle.qto.specs.Refusals.{checkOf, first, workWords, rasterBytes}
+use Rattle.qto.specs.Full.{recordOf, surfacesAfter}
+use Rattle.qto.specs.Compute.{answerAt, areaAt, Computes}
+use Rattle.qto.specs.Numbers.{wordsOf, flagsFit, withFlags, numberAt, wordsAt, checkFlags, ComputesNumbered}
+
+-- ---- an answer as a number and as words
+
+answerNumber : Answer → ℕ
+answerNumber (Answer.Record q) = 0
+answerNumber (Answer.Refused n) = 0x8000_0000 + n
+
+answerWords : ℕ → ℕ → List ℕ → Answer → List ℕ
+answerWords clip defect words (Answer.Record q) = wordsOf (withFlags clip defect q)
+answerWords clip defect words (Answer.Refused n) = words
+
+number-of-answer : (c : Check) (q : MeshQto) → answerNumber (answerAt c q) ≡ numberAt c
+unfolding answerAt numberAt answerNumber
+number-of-answer (Check.Refuse n) q = refl
+number-of-answer Check.Zero q = refl
+number-of-answer Check.Full q = refl
+
+words-of-answer : (c : Check) (clip defect : ℕ) (q : MeshQto) (words : List ℕ) → answerWords clip defect words (answerAt c q) ≡ wordsAt c clip defect q words
+unfolding answerAt wordsAt answerWords
+words-of-answer (Check.Refuse n) clip defect q words = refl
+words-of-answer Check.Zero clip defect q words = refl
+words-of-answer Check.Full clip defect q words = refl
+
+-- ---- the contract of mf_compute
+
+module _ (vs : List Float) (ids : List ℕ) (u : Float) (clip defect : ℕ) (w r : List ℕ) (s : List Float) (words : List ℕ) where
+  abbrev said : Check
+  said = checkOf vs ids u (length w) (length r) (length s)
+
+  -- the check once the flags are tested
+  fit : (b t : Bool) → t ≡ flagsFit clip defect → not t ≡ b → first b (Check.Refuse 5) said ≡ checkFlags clip defect said
+  unfolding checkFlags
+  fit b t e h = ap (λ (f : Bool). first f (Check.Refuse 5) said) (sym h ∙ ap not e)
+
+  -- by what the flags and the table of refusals say
+  by-check : (c : Check) (n : ℕ) (w′ r′ : List ℕ) (s′ : List Float) (words′ : List ℕ) → c ≡ checkFlags clip defect said → n ≡ numberAt c → words′ ≡ wordsAt c clip defect (recordOf vs ids u) words
+      → w′ ≡ areaAt c (cleared (workWords (length vs) (length ids)) w) w → r′ ≡ areaAt c (cleared rasterBytes r) r → s′ ≡ areaAt c (surfacesAfter vs ids u s) s
+      → ComputesNumbered vs ids u clip defect w r s words n w′ r′ s′ words′
+  by-check c n w′ r′ s′ words′ e hn hwords hw hr hs =
+      record {
+        number = hn ∙ ap numberAt e;
+        record-words = hwords ∙ ap (λ (d : Check). wordsAt d clip defect (recordOf vs ids u) words) e;
+        work = hw ∙ ap (λ (d : Check). areaAt d (cleared (workWords (length vs) (length ids)) w) w) e;
+        raster = hr ∙ ap (λ (d : Check). areaAt d (cleared rasterBytes r) r) e;
+        surfaces = hs ∙ ap (λ (d : Check). areaAt d (surfacesAfter vs ids u s) s) e;
+      }
+
+  -- where a flag value is none, nothing is done
+  pub flags-refused : (t : Bool) → t ≡ flagsFit clip defect → not t ≡ true → ComputesNumbered vs ids u clip defect w r s words 0x8000_0005 w r s words
+  unfolding numberAt wordsAt areaAt
+  flags-refused t e h = by-check (Check.Refuse 5) 0x8000_0005 w r s words (fit true t e h) refl refl refl refl refl
+
+  module _ (a : Answer) (w′ r′ : List ℕ) (s′ : List Float) (t : Bool) (e : t ≡ flagsFit clip defect) (h : not t ≡ false) (made : Computes vs ids u w r s a w′ r′ s′) where
+    -- else the answer is taken over
+    numbered : (n : ℕ) (words′ : List ℕ) → n ≡ answerNumber a → words′ ≡ answerWords clip defect words a → ComputesNumbered vs ids u clip defect w r s words n w′ r′ s′ words′
+    numbered n words′ hn hwords =
+        by-check said n w′ r′ s′ words′ (fit false t e h)
+        (hn ∙ ap answerNumber (made .answers) ∙ number-of-answer said (recordOf vs ids u))
+        (hwords ∙ ap (answerWords clip defect words) (made .answers) ∙ words-of-answer said clip defect (recordOf vs ids u) words)
+        (made .work) (made .raster) (made .surfaces)
+
+    -- a record fills the words
+    pub filled : (q f : MeshQto) (p : Profile) (words′ : List ℕ) → a ≡ Answer.Record q → p ≡ profileAt defect → f ≡ flagged (eqb clip 1) p q → words′ ≡ wordsOf f
+        → ComputesNumbered vs ids u clip defect w r s words 0 w′ r′ s′ words′
+    unfolding answerNumber answerWords
+    filled q f p words′ ha hp hf hwords =
+        numbered 0 words′ (sym (ap answerNumber ha))
+        (hwords ∙ ap wordsOf (hf ∙ ap (λ (p′ : Profile). flagged (eqb clip 1) p′ q) hp) ∙ sym (ap (answerWords clip defect words) ha))
+
+    -- a refusal leaves them
+    pub refused : (n : ℕ) → a ≡ Answer.Refused n → ComputesNumbered vs ids u clip defect w r s words (0x8000_0000 + n) w′ r′ s′ words
+    unfolding answerNumber answerWords
+    refused n ha = numbered (0x8000_0000 + n) words (sym (ap answerNumber ha)) (sym (ap (answerWords clip defect words) ha))
+
+-- any two numbers that the contract allows are equal, and so is what is left in the record's words and in the areas
+pub compute-numbered-one : (vs : List Float) (ids : List ℕ) (u : Float) (clip defect : ℕ) (w r : List ℕ) (s : List Float) (words : List ℕ)
+    (n m : ℕ) (w₁ w₂ r₁ r₂ : List ℕ) (s₁ s₂ : List Float) (words₁ words₂ : List ℕ)
+    → ComputesNumbered vs ids u clip defect w r s words n w₁ r₁ s₁ words₁ → ComputesNumbered vs ids u clip defect w r s words m w₂ r₂ s₂ words₂
+    → (n ≡ m) × (words₁ ≡ words₂) × (w₁ ≡ w₂) × (r₁ ≡ r₂) × (s₁ ≡ s₂)
+compute-numbered-one vs ids u clip defect w r s words n m w₁ w₂ r₁ r₂ s₁ s₂ words₁ words₂ x y =
+    (x .number ∙ sym (y .number), x .record-words ∙ sym (y .record-words), x .work ∙ sym (y .work), x .raster ∙ sym (y .raster), x .surfaces ∙ sym (y .surfaces))
+
+-- a record has 17 words
+pub words-seventeen : (q : MeshQto) → length (wordsOf q) ≡ 17
+unfolding wordsOf
+words-seventeen q = refl

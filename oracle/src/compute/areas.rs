@@ -1,0 +1,141 @@
+//! What a call is lent: noise before it, and after it a look at every place.
+
+use crate::random::Random;
+use crate::record::{Lent, MOST, RASTER_BYTES};
+
+/// The words of a record.
+pub const WORDS: usize = 17;
+
+/// The lent areas of one call. The surface area is in bits: there a NaN is a word like any other.
+pub struct Areas<'a> {
+    pub work: &'a mut [u32],
+    pub raster: &'a mut [u8],
+    pub surfaces: &'a mut [u32],
+}
+
+/// What stands at the front of each area after a call; all behind it is untouched.
+#[derive(Clone, Copy)]
+pub struct Fronts<'a> {
+    pub record: &'a [u32],
+    /// So many zeros.
+    pub work: usize,
+    pub raster: usize,
+    pub surfaces: &'a [u32],
+}
+
+static ZERO_WORDS: [u32; 5 * MOST + 12 * (MOST / 3)] = [0; 5 * MOST + 12 * (MOST / 3)];
+static ZERO_BYTES: [u8; RASTER_BYTES] = [0; RASTER_BYTES];
+
+/// So many places are watched before an area and behind it.
+const RIM: usize = 32;
+
+/// An area begins at one of so many places, so that each mesh meets other noise and the noise need not be made anew.
+const BEGINNINGS: usize = 4096;
+
+struct Area<T> {
+    noise: Vec<T>,
+    /// Between two calls, the same as `noise`.
+    now: Vec<T>,
+    from: usize,
+    random: Random,
+    make: fn(usize, &mut Random) -> T,
+}
+
+/// No word is 0, so that one cleared too many shows and one left too. Small numbers and NaN patterns come in stretches.
+fn noise_word(place: usize, random: &mut Random) -> u32 {
+    let any = random.bits() as u32;
+    match place / 61 % 4 {
+        0 => any % 200 + 1,
+        1 => any | 0x7f80_0001,
+        _ => any.max(1),
+    }
+}
+
+fn noise_byte(place: usize, random: &mut Random) -> u8 {
+    match place / 251 % 4 {
+        0 => 1,
+        _ => (random.bits() as u8).max(1),
+    }
+}
+
+impl<T: Copy + PartialEq> Area<T> {
+    fn new(seed: u64, make: fn(usize, &mut Random) -> T) -> Area<T> {
+        Area { noise: Vec::new(), now: Vec::new(), from: RIM, random: Random::new(seed), make }
+    }
+
+    fn lend(&mut self, length: usize) -> &mut [T] {
+        for place in self.noise.len()..self.from + length + RIM {
+            let word = (self.make)(place, &mut self.random);
+            self.noise.push(word);
+            self.now.push(word);
+        }
+        &mut self.now[self.from..self.from + length]
+    }
+
+    /// The first place, counted from where the area begins, that does not hold what it should: with what it holds and
+    /// what it should. Then all is noise again; only what was written needs it.
+    fn settle(&mut self, length: usize, front: &[T]) -> Option<(i64, T, T)> {
+        let (start, from, end) = (self.from - RIM, self.from, self.from + length + RIM);
+        let behind = from + front.len();
+        let (now, noise) = (&mut self.now, &self.noise);
+        if now[from..behind] == *front
+            && now[start..from] == noise[start..from]
+            && now[behind..end] == noise[behind..end]
+        {
+            now[from..behind].copy_from_slice(&noise[from..behind]);
+            return None;
+        }
+        let right = |i: usize| if (from..behind).contains(&i) { front[i - from] } else { noise[i] };
+        let wrong = (start..end).find(|&i| now[i] != right(i));
+        let wrong = wrong.map(|i| (i as i64 - from as i64, now[i], right(i)));
+        now[start..end].copy_from_slice(&noise[start..end]);
+        wrong
+    }
+}
+
+/// All that calls are lent, one call after the other.
+pub struct Lending {
+    work: Area<u32>,
+    raster: Area<u8>,
+    surfaces: Area<u32>,
+    record: Area<u32>,
+}
+
+impl Lending {
+    pub fn new(seed: u64) -> Lending {
+        Lending {
+            work: Area::new(4 * seed, noise_word),
+            raster: Area::new(4 * seed + 1, noise_byte),
+            surfaces: Area::new(4 * seed + 2, noise_word),
+            record: Area::new(4 * seed + 3, noise_word),
+        }
+    }
+
+    /// The next calls find other noise.
+    pub fn elsewhere(&mut self, random: &mut Random) {
+        let mut from = || RIM + random.below(BEGINNINGS);
+        (self.work.from, self.raster.from, self.surfaces.from, self.record.from) = (from(), from(), from(), from());
+    }
+
+    pub fn lend(&mut self, lent: Lent) -> (Areas<'_>, &mut [u32; WORDS]) {
+        let areas = Areas {
+            work: self.work.lend(lent.work),
+            raster: self.raster.lend(lent.raster),
+            surfaces: self.surfaces.lend(lent.surfaces),
+        };
+        (areas, self.record.lend(WORDS).try_into().expect("so many words"))
+    }
+
+    /// The first fault of each area after a call.
+    pub fn settle(&mut self, lent: Lent, fronts: Fronts) -> Vec<String> {
+        let record = self.record.settle(WORDS, fronts.record).map(|wrong| told("record", wrong));
+        let surfaces = self.surfaces.settle(lent.surfaces, fronts.surfaces).map(|wrong| told("surface", wrong));
+        let work = self.work.settle(lent.work, &ZERO_WORDS[..fronts.work]).map(|wrong| told("work", wrong));
+        let raster = self.raster.settle(lent.raster, &ZERO_BYTES[..fronts.raster]).map(|wrong| told("raster", wrong));
+        [record, surfaces, work, raster].into_iter().flatten().collect()
+    }
+}
+
+fn told<T: std::fmt::LowerHex>(area: &str, (place, is, right): (i64, T, T)) -> String {
+    format!("{area} {place} is {is:x}, should be {right:x}")
+}

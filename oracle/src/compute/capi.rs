@@ -1,0 +1,50 @@
+//! The port's `compute`, from the static library.
+
+use super::areas::{Areas, WORDS};
+use super::compare::Call;
+
+mod c {
+    extern "C" {
+        pub fn mf_compute(
+            vertices: *const f32,
+            vertices_len: usize,
+            ids: *const u32,
+            ids_len: usize,
+            unit: f32,
+            clip: u32,
+            defect: u32,
+            work: *mut u32,
+            work_len: usize,
+            raster: *mut u8,
+            raster_len: usize,
+            surfaces: *mut f32,
+            surfaces_len: usize,
+            record: *mut u32,
+        ) -> u32;
+    }
+}
+
+/// 0 with the record filled, or 0x80000000 and a refusal's number.
+pub fn compute(call: &Call, areas: Areas, record: &mut [u32; WORDS]) -> u32 {
+    let Call { mesh, clip, defect } = call;
+    // SAFETY: slices that do not overlap; a u32 has an f32's size and alignment, and any bits are an f32. The routine is
+    // proved to stay within them for any contents.
+    unsafe {
+        c::mf_compute(
+            mesh.vertices.as_ptr(),
+            mesh.vertices.len(),
+            mesh.ids.as_ptr(),
+            mesh.ids.len(),
+            mesh.unit,
+            *clip,
+            *defect,
+            areas.work.as_mut_ptr(),
+            areas.work.len(),
+            areas.raster.as_mut_ptr(),
+            areas.raster.len(),
+            areas.surfaces.as_mut_ptr().cast(),
+            areas.surfaces.len(),
+            record.as_mut_ptr(),
+        )
+    }
+}

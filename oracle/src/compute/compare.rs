@@ -1,0 +1,293 @@
+//! `oracle compute N`: refusals, every word of the record, every row, and every place of the three lent areas.
+
+use super::areas::{Areas, Fronts, Lending, WORDS};
+#[cfg(port)]
+use super::capi;
+use super::meshes::{by_chance, kinds, large, limits};
+use crate::file::{MeshFile, DEFECTS};
+use crate::random::Random;
+use crate::record::{compute, Answer, Exception, Lent, Record};
+
+/// What a call is asked: the mesh, and its flags in the interface's numbers, where any number may be passed.
+pub struct Call<'a> {
+    pub mesh: &'a MeshFile,
+    pub clip: u32,
+    pub defect: u32,
+}
+
+pub type Port<'a> = &'a dyn Fn(&Call, Areas, &mut [u32; WORDS]) -> u32;
+
+#[cfg(port)]
+pub const PORT: Port<'static> = &capi::compute;
+
+#[derive(Default)]
+pub struct Count {
+    pub agree: u64,
+    pub differ: u64,
+    /// Of the calls that agree: refusals 1 to 5, zero records, and full records that are closed, open and degenerate.
+    pub refused: [u64; 5],
+    pub zero: u64,
+    pub verdicts: [u64; 3],
+    /// Meshes near the one exception, and those of them where `powf` answers otherwise.
+    pub near: u64,
+    pub otherwise: u64,
+    /// The first that differ, for a look.
+    pub shown: Vec<String>,
+    /// The first where `powf` answers otherwise.
+    pub noted: Vec<String>,
+}
+
+const SHOWN: usize = 5;
+
+const QUALITIES: [&str; 3] = ["closed", "open_shell", "degenerate"];
+const METHODS: [&str; 5] = ["mesh", "mesh_open", "prism_fallback", "mesh_unclipped", "mesh_profile_invalid"];
+
+/// A refusal's number, as it comes back.
+pub const REFUSED: u32 = 0x8000_0000;
+
+fn place(of: &str, among: &[&str]) -> u32 {
+    among.iter().position(|name| *name == of).expect("a word of document 01's") as u32
+}
+
+/// The record in the interface's words.
+pub fn words(record: &Record) -> [u32; WORDS] {
+    let profile = record.profile.map_or(0, |name| 1 + place(name, &DEFECTS.map(|defect| defect.as_str())));
+    let (is_number, bound) = record.prism.map_or((0, 0), |bound| (1, bound.to_bits()));
+    [
+        place(record.quality, &QUALITIES),
+        record.reliable as u32,
+        place(record.method, &METHODS),
+        profile,
+        record.volume.to_bits(),
+        record.aabb.to_bits(),
+        record.surface.to_bits(),
+        record.top.to_bits(),
+        record.bottom.to_bits(),
+        record.side.to_bits(),
+        record.inclined.to_bits(),
+        record.largest.to_bits(),
+        record.smallest.to_bits(),
+        record.best.to_bits(),
+        is_number,
+        bound,
+        record.rows.len() as u32,
+    ]
+}
+
+pub fn is_zero_record(mesh: &MeshFile) -> bool {
+    mesh.ids.len() < 3 || mesh.vertices.len() < 9
+}
+
+/// All that document 01 promises of one call.
+struct Promise {
+    answer: u32,
+    /// Nothing with a refusal, else its words.
+    record: Vec<u32>,
+    rows: Vec<u32>,
+    zeroed: (usize, usize),
+    zero_record: bool,
+}
+
+impl Promise {
+    fn refused(number: u32) -> Promise {
+        Promise { answer: REFUSED | number, record: vec![], rows: vec![], zeroed: (0, 0), zero_record: false }
+    }
+
+    fn of(mesh: &MeshFile, answer: &Answer) -> Promise {
+        let record = match answer {
+            Answer::Refused(number) => return Promise::refused(*number),
+            Answer::Record(record, _) => record,
+        };
+        let zero_record = is_zero_record(mesh);
+        let exact = Lent::exactly(mesh.vertices.len(), mesh.ids.len());
+        Promise {
+            answer: 0,
+            record: words(record).into(),
+            rows: record.rows.iter().flatten().map(|x| x.to_bits()).collect(),
+            zeroed: if zero_record { (0, 0) } else { (exact.work, exact.raster) },
+            zero_record,
+        }
+    }
+
+    fn fronts(&self) -> Fronts<'_> {
+        Fronts { record: &self.record, work: self.zeroed.0, raster: self.zeroed.1, surfaces: &self.rows }
+    }
+}
+
+/// Flag values, at least one of them unknown; some would be known if only their low bits were read.
+const UNKNOWN_FLAGS: [(u32, u32); 10] = [
+    (2, 0),
+    (0, 5),
+    (2, 5),
+    (u32::MAX, u32::MAX),
+    (u32::MAX, 0),
+    (1, u32::MAX),
+    (0x100, 1),
+    (1, 0x104),
+    (0x8000_0001, 4),
+    (0, 0x1_0000),
+];
+
+/// The areas to lend: exact, each one short by one, all longer; then, always or now and then, several too short or longer,
+/// and none at all.
+fn choices(exact: Lent, all: bool, random: &mut Random) -> Vec<Lent> {
+    let longer = |lent: Lent, random: &mut Random| Lent {
+        work: lent.work + random.within(1, 17) as usize,
+        raster: lent.raster + random.within(1, 300) as usize,
+        surfaces: lent.surfaces + random.within(1, 17) as usize,
+    };
+    let mut lent = vec![exact, longer(exact, random)];
+    lent.extend(exact.work.checked_sub(1).map(|work| Lent { work, ..exact }));
+    lent.extend(exact.raster.checked_sub(1).map(|raster| Lent { raster, ..exact }));
+    lent.extend(exact.surfaces.checked_sub(1).map(|surfaces| Lent { surfaces, ..exact }));
+    if all || random.once_in(6) {
+        let short = |most: usize, random: &mut Random| random.below(most + 1);
+        let far = Lent {
+            work: short(exact.work, random),
+            raster: short(exact.raster, random),
+            surfaces: short(exact.surfaces, random),
+        };
+        lent.push(far);
+        // one of them too short, by any length, beside two that are longer
+        let mut one = longer(exact, random);
+        match random.below(3) {
+            0 => one.work = far.work,
+            1 => one.raster = far.raster,
+            _ => one.surfaces = far.surfaces,
+        }
+        lent.push(one);
+    }
+    if all || random.once_in(12) {
+        let none = Lent { work: 0, raster: 0, surfaces: 0 };
+        lent.extend([none, Lent { work: 0, ..exact }, Lent { raster: 0, ..exact }, Lent { surfaces: 0, ..exact }]);
+    }
+    lent
+}
+
+impl Count {
+    /// One mesh over a choice of areas, and now and then with unknown flags; `all`: over every choice and every flag.
+    fn add(&mut self, port: Port, mesh: &MeshFile, all: bool, random: &mut Random, lending: &mut Lending) {
+        let exact = Lent::exactly(mesh.vertices.len(), mesh.ids.len());
+        let answer = compute(mesh, exact);
+        self.note(mesh, &answer);
+        let promise = Promise::of(mesh, &answer);
+        lending.elsewhere(random);
+        let call = Call { mesh, clip: mesh.flags.clip as u32, defect: mesh.flags.defect as u32 };
+        let choices = choices(exact, all, random);
+        for &lent in &choices {
+            if lent.holds(exact) {
+                self.compare(port, &call, lent, &promise, lending);
+            } else {
+                // A refusal or the zero record: no second run of the original.
+                let short = Promise::of(mesh, &compute(mesh, lent));
+                self.compare(port, &call, lent, &short, lending);
+            }
+        }
+        for (clip, defect) in UNKNOWN_FLAGS {
+            if all || random.once_in(4 * UNKNOWN_FLAGS.len()) {
+                let lent = choices[random.below(choices.len())];
+                self.compare(port, &Call { mesh, clip, defect }, lent, &Promise::refused(5), lending);
+            }
+        }
+    }
+
+    fn compare(&mut self, port: Port, call: &Call, lent: Lent, right: &Promise, lending: &mut Lending) {
+        let (areas, record) = lending.lend(lent);
+        let given = port(call, areas, record);
+        let mut wrong = lending.settle(lent, right.fronts());
+        if given != right.answer {
+            wrong.insert(0, format!("answer {given:x}, should be {:x}", right.answer));
+        }
+        if !wrong.is_empty() {
+            return self.show(&wrong.join("; "), call, lent);
+        }
+        self.agree += 1;
+        match right.record.first() {
+            None => self.refused[(right.answer & !REFUSED) as usize - 1] += 1,
+            Some(_) if right.zero_record => self.zero += 1,
+            Some(&quality) => self.verdicts[quality as usize] += 1,
+        }
+    }
+
+    /// How the mesh stands to the one exception.
+    fn note(&mut self, mesh: &MeshFile, answer: &Answer) {
+        let Answer::Record(record, exception) = answer else { return };
+        match exception {
+            Exception::Apart => {}
+            Exception::Near { changed } => {
+                self.near += 1;
+                self.otherwise += *changed as u64;
+                if *changed && self.noted.len() < SHOWN {
+                    let (s, p) = (record.surface.to_bits(), record.prism.unwrap_or(f32::NAN).to_bits());
+                    self.noted.push(format!(
+                        "near the one exception, powf answers otherwise: surface {s:08x}, prism {p:08x}"
+                    ));
+                }
+            }
+            Exception::Outside => {
+                let exact = Lent::exactly(mesh.vertices.len(), mesh.ids.len());
+                let call = Call { mesh, clip: mesh.flags.clip as u32, defect: mesh.flags.defect as u32 };
+                self.show("powf answers otherwise, and it is not near the one exception", &call, exact);
+            }
+        }
+    }
+
+    fn show(&mut self, why: &str, call: &Call, lent: Lent) {
+        self.differ += 1;
+        if self.shown.len() < SHOWN {
+            let MeshFile { unit, vertices, ids, .. } = call.mesh;
+            let (floats, count) = (vertices.len(), ids.len());
+            self.shown.push(format!(
+                "{why}; clip {:x}, defect {:x}, {lent:?}, unit {unit:?}, {floats} floats {:?}, {count} ids {:?}",
+                call.clip,
+                call.defect,
+                &vertices[..floats.min(30)],
+                &ids[..count.min(30)],
+            ));
+        }
+    }
+
+    /// What the calls that agree came to; what never came is left out.
+    pub fn reached(&self) -> String {
+        let refused = self.refused.iter().enumerate().map(|(i, times)| (format!("refused {}", i + 1), *times));
+        let verdicts = QUALITIES.iter().zip(self.verdicts).map(|(name, times)| (name.to_string(), times));
+        let exception = [
+            ("near the exception".to_string(), self.near),
+            ("where powf answers otherwise".to_string(), self.otherwise),
+        ];
+        let all = refused.chain([("zero record".to_string(), self.zero)]).chain(verdicts).chain(exception);
+        all.filter(|(_, times)| *times > 0)
+            .map(|(name, times)| format!("{times} {name}"))
+            .collect::<Vec<_>>()
+            .join(", ")
+    }
+}
+
+fn over(port: Port, seed: u64, all: bool, meshes: impl Iterator<Item = MeshFile>) -> Count {
+    let (mut count, mut random, mut lending) = (Count::default(), Random::new(seed), Lending::new(seed));
+    meshes.for_each(|mesh| count.add(port, &mesh, all, &mut random, &mut lending));
+    count
+}
+
+pub fn on_large(port: Port) -> Count {
+    over(port, 1, true, large().into_iter().map(|(_, mesh)| mesh))
+}
+
+pub fn on_limits(port: Port) -> Count {
+    over(port, 2, true, limits())
+}
+
+/// The meshes of one kind among N of all kinds in turn.
+pub fn on_kind(port: Port, kind: usize, n: u64) -> Count {
+    let turns = (kind as u64..n).step_by(kinds().len());
+    over(port, 3 + kind as u64, false, turns.map(|turn| by_chance(kind, turn)))
+}
+
+pub fn on_chance(port: Port<'_>, n: u64) -> impl Iterator<Item = (&'static str, Count)> + '_ {
+    kinds().into_iter().enumerate().map(move |(kind, name)| (name, on_kind(port, kind, n)))
+}
+
+pub fn all(port: Port<'_>, n: u64) -> impl Iterator<Item = (&'static str, Count)> + '_ {
+    let fixed = [("large", on_large as fn(Port) -> Count), ("limits", on_limits)];
+    fixed.into_iter().map(move |(name, on)| (name, on(port))).chain(on_chance(port, n))
+}

@@ -1,0 +1,304 @@
+//! The port's record beside document 01's: large meshes and some thousand by chance here, more by `oracle compute N`. That
+//! the comparison finds mistakes is tried with ports written here, so all but the first test run without the library.
+
+use mowfrost_oracle::compute::areas::{Areas, WORDS};
+use mowfrost_oracle::compute::compare::{
+    is_zero_record, on_chance, on_large, on_limits, words, Call, Count, Port, REFUSED,
+};
+use mowfrost_oracle::compute::meshes::{by_chance, kinds, large, limits};
+use mowfrost_oracle::file::{Flags, MeshFile};
+use mowfrost_oracle::record::{compute, original, Answer, Lent, Record, FARTHEST, MOST, RASTER_BYTES};
+
+fn sum(counts: impl Iterator<Item = (&'static str, Count)>) -> Count {
+    counts.fold(Count::default(), |mut sum, (_, count)| {
+        (sum.agree, sum.differ) = (sum.agree + count.agree, sum.differ + count.differ);
+        (sum.near, sum.otherwise) = (sum.near + count.near, sum.otherwise + count.otherwise);
+        sum.zero += count.zero;
+        (0..5).for_each(|i| sum.refused[i] += count.refused[i]);
+        (0..3).for_each(|i| sum.verdicts[i] += count.verdicts[i]);
+        sum.shown.extend(count.shown);
+        sum
+    })
+}
+
+#[cfg(port)]
+#[test]
+fn every_record_agrees() {
+    use mowfrost_oracle::compute::compare::{all, PORT};
+    let count = sum(all(PORT, 10_000));
+    assert_eq!(count.differ, 0, "{:?}", count.shown);
+}
+
+/// A port in document 01's words over the original, with one thing of it open.
+struct Way {
+    flags: fn(u32, u32) -> Option<Flags>,
+    /// The mesh that is taken for the one given.
+    mesh: fn(&mut MeshFile),
+    /// Before the table of refusals.
+    first: fn(&MeshFile, Lent) -> Option<u32>,
+    /// The lengths that the table sees.
+    asked: fn(&MeshFile, Lent) -> Lent,
+    record: fn(&MeshFile, &mut Record),
+    words: fn(&mut [u32; WORDS]),
+    /// So many work words and raster bytes are zeroed more than promised.
+    more: (i64, i64),
+    /// After all else.
+    last: fn(u32, &MeshFile, &mut Areas, &mut [u32; WORDS]),
+}
+
+const RIGHT: Way = Way {
+    flags: |clip, defect| (clip < 2 && defect < 5).then_some(Flags { clip: clip == 1, defect: defect as u8 }),
+    mesh: |_| {},
+    first: |_, _| None,
+    asked: |_, lent| lent,
+    record: |_, _| {},
+    words: |_| {},
+    more: (0, 0),
+    last: |_, _, _, _| {},
+};
+
+fn found(port: Port) -> bool {
+    on_chance(port, 8_000).any(|(_, count)| count.differ > 0)
+}
+
+impl Way {
+    fn call(&self, call: &Call, mut areas: Areas, record: &mut [u32; WORDS]) -> u32 {
+        let answer = self.answer(call, &mut areas, record);
+        (self.last)(answer, call.mesh, &mut areas, record);
+        answer
+    }
+
+    fn answer(&self, call: &Call, areas: &mut Areas, record: &mut [u32; WORDS]) -> u32 {
+        let Some(flags) = (self.flags)(call.clip, call.defect) else { return REFUSED | 5 };
+        let mut mesh = MeshFile { flags, ..call.mesh.clone() };
+        (self.mesh)(&mut mesh);
+        let lent = Lent { work: areas.work.len(), raster: areas.raster.len(), surfaces: areas.surfaces.len() };
+        if let Some(refusal) = (self.first)(&mesh, lent) {
+            return REFUSED | refusal;
+        }
+        let mut right = match compute(&mesh, (self.asked)(&mesh, lent)) {
+            Answer::Refused(refusal) => return REFUSED | refusal,
+            Answer::Record(right, _) => right,
+        };
+        (self.record)(&mesh, &mut right);
+        *record = words(&right);
+        (self.words)(record);
+        if !is_zero_record(&mesh) {
+            let exact = Lent::exactly(mesh.vertices.len(), mesh.ids.len());
+            let zeroed = |exact: usize, more: i64, lent: usize| exact.saturating_add_signed(more as isize).min(lent);
+            areas.work[..zeroed(exact.work, self.more.0, lent.work)].fill(0);
+            areas.raster[..zeroed(exact.raster, self.more.1, lent.raster)].fill(0);
+            right.rows.iter().flatten().zip(areas.surfaces.iter_mut()).for_each(|(x, to)| *to = x.to_bits());
+        }
+        0
+    }
+
+    fn found(&self) -> bool {
+        let port = |call: &Call, areas: Areas, record: &mut [u32; WORDS]| self.call(call, areas, record);
+        found(&port)
+    }
+}
+
+#[test]
+fn the_right_way_agrees_and_reaches_everything() {
+    let port: Port = &|call, areas, record| RIGHT.call(call, areas, record);
+    let (chance, limits, large) = (sum(on_chance(port, 20_000)), on_limits(port), on_large(port));
+    for count in [&chance, &limits, &large] {
+        assert_eq!(count.differ, 0, "{:?}", count.shown);
+        assert!(count.refused[2] > 20 && count.refused[4] > 50);
+    }
+    let [one, two, three, four, five] = chance.refused;
+    assert!(one == 0 && two > 3_000 && three > 20_000 && four > 2_000 && five > 2_000, "{:?}", chance.refused);
+    assert!(chance.zero > 5_000 && chance.verdicts.iter().all(|&times| times > 2_000), "{}", chance.reached());
+    assert!(chance.near > 100 && chance.otherwise > 0, "{}", chance.reached());
+    assert!(limits.refused.iter().all(|&times| times > 5) && limits.zero > 30, "{}", limits.reached());
+    assert!(large.verdicts.iter().all(|&times| times > 3), "{}", large.reached());
+}
+
+#[test]
+fn wrong_areas_are_found() {
+    assert!(!RIGHT.found());
+    assert!(Way { more: (-1, 0), ..RIGHT }.found(), "a work word left");
+    assert!(Way { more: (1, 0), ..RIGHT }.found(), "a work word too many");
+    assert!(Way { more: (0, -1), ..RIGHT }.found(), "a raster byte left");
+    assert!(Way { more: (0, 1), ..RIGHT }.found(), "a raster byte too many");
+    let first = |answer: u32, _: &MeshFile, areas: &mut Areas, _: &mut [u32; WORDS]| {
+        if answer > 0 {
+            areas.work.iter_mut().take(1).for_each(|word| *word = 0);
+        }
+    };
+    assert!(Way { last: first, ..RIGHT }.found(), "a work word on a refusal");
+    let raster = |answer: u32, mesh: &MeshFile, areas: &mut Areas, _: &mut [u32; WORDS]| {
+        if answer == 0 && is_zero_record(mesh) {
+            areas.raster.fill(0);
+        }
+    };
+    assert!(Way { last: raster, ..RIGHT }.found(), "the raster with a zero record");
+    let record = |answer: u32, _: &MeshFile, _: &mut Areas, record: &mut [u32; WORDS]| {
+        if answer > 0 {
+            record[16] = 0;
+        }
+    };
+    assert!(Way { last: record, ..RIGHT }.found(), "the record on a refusal");
+    let behind = |answer: u32, mesh: &MeshFile, areas: &mut Areas, record: &mut [u32; WORDS]| {
+        if answer == 0 && !is_zero_record(mesh) {
+            areas.surfaces.iter_mut().skip(4 * record[16] as usize).take(4).for_each(|word| *word = 0);
+        }
+    };
+    assert!(Way { last: behind, ..RIGHT }.found(), "a row behind the rows");
+    let quiet = |_: u32, _: &MeshFile, areas: &mut Areas, _: &mut [u32; WORDS]| {
+        areas.surfaces.iter_mut().filter(|bits| f32::from_bits(**bits).is_nan()).for_each(|bits| *bits |= 0x40_0000);
+    };
+    assert!(Way { last: quiet, ..RIGHT }.found(), "a signalling NaN behind the rows made quiet");
+}
+
+fn bad_coordinate(mesh: &MeshFile) -> bool {
+    !is_zero_record(mesh) && !mesh.vertices.iter().all(|x| x.abs() <= FARTHEST)
+}
+
+fn bad_unit(mesh: &MeshFile) -> bool {
+    !(1.0 / 1_048_576.0..=16.0).contains(&mesh.unit)
+}
+
+#[test]
+fn wrong_refusals_are_found() {
+    let early = |mesh: &MeshFile, _: Lent| (!bad_unit(mesh) && bad_coordinate(mesh)).then_some(4);
+    assert!(Way { first: early, ..RIGHT }.found(), "4 before 3");
+    assert!(Way { first: |mesh, _| bad_unit(mesh).then_some(2), ..RIGHT }.found(), "2 before the zero record");
+    let short = |mesh: &MeshFile, lent: Lent| {
+        (!is_zero_record(mesh) && !lent.holds(Lent::exactly(mesh.vertices.len(), mesh.ids.len()))).then_some(3)
+    };
+    assert!(Way { first: short, ..RIGHT }.found(), "3 before 2");
+    let short = |_: &MeshFile, lent: Lent| (lent.raster < RASTER_BYTES).then_some(3);
+    assert!(Way { first: short, ..RIGHT }.found(), "3 before the zero record");
+    let leftover = |mesh: &mut MeshFile| {
+        let whole = mesh.vertices.len() / 3 * 3;
+        mesh.vertices[whole..].fill(0.0);
+    };
+    assert!(Way { mesh: leftover, ..RIGHT }.found(), "a leftover float passed over");
+    assert!(Way { asked: |_, lent| Lent { work: lent.work + 1, ..lent }, ..RIGHT }.found(), "a work word less asked");
+    assert!(Way { asked: |_, lent| Lent { raster: lent.raster + 1, ..lent }, ..RIGHT }.found(), "a byte less asked");
+    assert!(
+        Way { asked: |_, lent| Lent { surfaces: lent.surfaces + 1, ..lent }, ..RIGHT }.found(),
+        "a float less asked"
+    );
+    let more = |_: &MeshFile, lent: Lent| Lent { work: lent.work.saturating_sub(1), ..lent };
+    assert!(Way { asked: more, ..RIGHT }.found(), "a work word more asked");
+    let any = |clip: u32, defect: u32| Some(Flags { clip: clip & 1 == 1, defect: (defect % 5) as u8 });
+    assert!(Way { flags: any, ..RIGHT }.found(), "every flag known");
+    let low = |clip: u32, defect: u32| (RIGHT.flags)(clip & 0xff, defect & 0xff);
+    assert!(Way { flags: low, ..RIGHT }.found(), "flags by their low bits");
+    let late = |call: &Call, areas: Areas, record: &mut [u32; WORDS]| {
+        let (clip, defect) =
+            if is_zero_record(call.mesh) { (call.clip.min(1), call.defect.min(4)) } else { (call.clip, call.defect) };
+        RIGHT.call(&Call { mesh: call.mesh, clip, defect }, areas, record)
+    };
+    assert!(found(&late), "5 after the zero record");
+}
+
+#[test]
+fn refusal_1_has_its_place() {
+    let port = |first: fn(&MeshFile, Lent) -> Option<u32>| {
+        let way = Way { first, ..RIGHT };
+        on_limits(&|call, areas, record| way.call(call, areas, record)).differ > 0
+    };
+    assert!(!port(|_, _| None));
+    assert!(port(|mesh, _| bad_unit(mesh).then_some(2)), "2 before 1");
+    assert!(port(|mesh, _| bad_coordinate(mesh).then_some(4)), "4 before 1");
+    assert!(port(|mesh, _| (mesh.ids.len() >= MOST).then_some(1)), "one id less allowed");
+    assert!(port(|mesh, _| (mesh.vertices.len() >= MOST).then_some(1)), "one float less allowed");
+    assert!(port(|mesh, _| is_zero_record(mesh).then_some(9)), "no zero record");
+}
+
+#[test]
+fn a_wrong_record_is_found() {
+    let found = |words: fn(&mut [u32; WORDS])| Way { words, ..RIGHT }.found();
+    assert!(found(|words| words[12] = words[11]), "largest for smallest");
+    assert!(found(|words| words[4] &= 0x7fff_ffff), "volume without its sign");
+    assert!(found(|words| words[4] = if words[4] == 0x8000_0000 { 0 } else { words[4] }), "0 for -0");
+    assert!(found(|words| words[15] |= if words[14] == 0 { 0x7fc0_0000 } else { 0 }), "prism bits where not computed");
+    assert!(found(|words| words[14] = 1), "a bound that was not computed");
+    assert!(found(|words| words.swap(7, 8)), "top and bottom");
+    assert!(found(|words| words[1] |= (words[2] == 3) as u32), "reliable though unclipped");
+    assert!(found(|words| words[3] = 0), "no defect recorded");
+    assert!(found(|words| words[2] = if words[2] == 1 { 0 } else { words[2] }), "mesh for mesh_open");
+    assert!(found(|words| words[16] = words[16].min(64)), "at most 64 rows");
+    let swapped = |clip: u32, defect: u32| (RIGHT.flags)(defect.min(1), clip).filter(|_| defect < 5 && clip < 2);
+    assert!(Way { flags: swapped, ..RIGHT }.found(), "clip and defect swapped");
+    let found = |record: fn(&MeshFile, &mut Record)| Way { record, ..RIGHT }.found();
+    assert!(found(|_, record| record.rows.reverse()), "rows in another order");
+    let by_area = |_: &MeshFile, record: &mut Record| {
+        record.rows.sort_by(|a, b| b[0].total_cmp(&a[0]).then(b[1].total_cmp(&a[1])));
+    };
+    assert!(found(by_area), "rows of equal area by falling nx");
+    let both = |mesh: &MeshFile, record: &mut Record| {
+        if mesh.flags.clip && mesh.flags.defect > 0 && record.method == "mesh_unclipped" {
+            record.method = "mesh_profile_invalid";
+        }
+    };
+    assert!(found(both), "defect before clip");
+    let no_flags = |mesh: &MeshFile, record: &mut Record| {
+        if is_zero_record(mesh) {
+            record.profile = None;
+        }
+    };
+    assert!(found(no_flags), "no defect beside a zero record");
+    let powf = |mesh: &MeshFile, record: &mut Record| {
+        if !is_zero_record(mesh) && mesh.flags == Flags::default() {
+            *record = original(&mesh.vertices, &mesh.ids, mesh.unit);
+        }
+    };
+    assert!(found(powf), "powf in place of the exact form");
+    let dropped = |mesh: &mut MeshFile| {
+        let count = (mesh.vertices.len() / 3) as u32;
+        if !is_zero_record(mesh) {
+            // what is dropped stands at the end as a triangle of nothing, so that the lengths are the same
+            let ids = mesh.ids.len();
+            let kept = mesh.ids.chunks(3).filter(|t| t.len() < 3 || t.iter().all(|&id| id < count));
+            mesh.ids = kept.flatten().copied().collect();
+            mesh.ids.resize(ids, 0);
+        }
+    };
+    assert!(Way { mesh: dropped, ..RIGHT }.found(), "triangles out of range dropped before the chain");
+    let first = |mesh: &mut MeshFile| mesh.ids.iter_mut().skip(3).for_each(|id| *id = 0);
+    assert!(Way { mesh: first, ..RIGHT }.found(), "the first triangle alone");
+}
+
+#[test]
+fn the_meshes_have_what_they_are_for() {
+    let names = kinds();
+    let of = |name: &str| {
+        let kind = names.iter().position(|other| *other == name).expect("a kind of that name");
+        (0..400).map(move |turn| by_chance(kind, turn))
+    };
+    let some = |name: &str, test: &dyn Fn(&MeshFile) -> bool| of(name).filter(|mesh| test(mesh)).count() > 5;
+    let past = |mesh: &MeshFile, id: u32| id as usize >= mesh.vertices.len() / 3;
+    assert!(some("wild_ids", &|m| m.ids.contains(&u32::MAX)));
+    assert!(some("wild_ids", &|m| m.ids.iter().any(|&id| past(m, id) && id.wrapping_mul(3).wrapping_add(2) < 300)));
+    assert!(some("wild_ids", &|m| m.ids.len() > 9 && m.ids.iter().all(|&id| past(m, id))));
+    for rest in 0..3 {
+        assert!(some("ragged", &|m| m.vertices.len() % 3 == rest) && some("ragged", &|m| m.ids.len() % 3 == rest));
+    }
+    let leftover = |m: &MeshFile| m.vertices[m.vertices.len() / 3 * 3..].iter().any(|x| x.is_nan());
+    assert!(some("ragged", &|m| leftover(m) && m.vertices[..m.vertices.len() / 3 * 3].iter().all(|x| x.is_finite())));
+    assert!(some("unit_ends", &|m| m.unit == 16.0) && some("unit_ends", &|m| m.unit == 16.0f32.next_up()));
+    assert!(some("unit_ends", &|m| m.unit.is_nan()) && some("unit_ends", &|m| m.unit == 1.0 / 1_048_576.0));
+    let farthest = |m: &MeshFile| m.vertices.iter().any(|x| x.abs() == FARTHEST) && !bad_coordinate(m);
+    assert!(some("coordinate_ends", &farthest));
+    assert!(some("coordinate_ends", &|m| m.vertices.iter().any(|x| x.abs() == FARTHEST.next_up())));
+    assert!(some("nothing_to_measure", &|m| bad_unit(m) && m.vertices.iter().any(|x| x.is_nan())));
+    assert!(some("many_faults", &|m| bad_unit(m) && bad_coordinate(m)));
+    assert!(some("few", &|m| m.vertices.len() == 9) && some("few", &|m| m.ids.len() == 3));
+    let volume = |m: &MeshFile| original(&m.vertices, &m.ids, m.unit).volume.to_bits();
+    assert!(some("flattened", &|m| volume(m) == 0x8000_0000) && some("flattened", &|m| volume(m) == 0));
+    assert!(some("flattened", &|m| f32::from_bits(volume(m)).is_subnormal()));
+    assert!(some("medium", &|m| m.ids.len() > 1536));
+
+    let large: Vec<MeshFile> = large().into_iter().map(|(_, mesh)| mesh).collect();
+    assert!(large.iter().all(|m| m.vertices.len() <= MOST && m.ids.len() <= MOST));
+    assert!(large.iter().any(|m| m.vertices.len() == MOST && m.ids.len() == MOST));
+    assert!(large.iter().filter(|m| m.ids.len() > MOST - 400).count() > 8);
+    let rows = |m: &MeshFile| original(&m.vertices, &m.ids, m.unit).rows.len();
+    assert!(large.iter().any(|m| rows(m) > 1000) && large.iter().any(|m| rows(m) == 6));
+    assert!(limits().any(|m| m.vertices.len() > MOST && m.ids.len() < 3), "1 and the zero record");
+}

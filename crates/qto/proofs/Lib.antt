@@ -1,7 +1,9 @@
--- The checks, the record by its parts, and what comes back.
+-- The checks, the record by its parts, what comes back, and that all its numbers are finite.
 pub mod Checks
 pub mod Outcomes
 pub mod RowsAre
+mod FinitePrism
+pub mod Finite
 pub mod Starred
 mod Scan
 mod Arranged

@@ -1,10 +1,11 @@
--- A mesh that passes refusal 4 has a box of such numbers, once it has a vertex: each is one of its coordinates. Assumes nothing.
+-- A mesh that passes refusal 4 has a box of such numbers, once it has a vertex: each is one of its coordinates, and the least are below none. Its volume is up to 2^114. Assumes nothing.
 use mathlib.Core.Path.{_≡_, refl}
-use mathlib.Core.Bool.{true, false}
+use mathlib.Core.Bool.{true, false, not}
 use mathlib.Core.List.{List, [], _∷_}
-use Prim.Native.Nat.{ℕ, zero, suc, _+_, _-_, _*_, _^_, _<_}
+use Prim.Native.Nat.{ℕ, zero, suc, _+_, _-_, _*_, _^_, _≤_, _<_}
+use native.Mathlib.Decide.{decLt}
 use native.Mathlib.Omega.{arith}
-use lib.Dec.{T}
+use lib.Dec.{T, lit≤}
 use lib.ListN.{length, getD}
 use lib.Ieee.{Float, nan, inf, fin, binary32, lt, le, ofBits, isNan}
 use lib.Ieee.Exact.{HasValue}
@@ -12,11 +13,15 @@ use lib.Ieee.Fits.{and-l, and-r}
 use lib.Ieee.Scale.{finite}
 use Rattle.ieee.specs.Magnitude.{magnitude}
 use Rattle.ieee.specs.Order.{least, greatest}
-use Rattle.ieee.proofs.Order.Extremes.{least-from, greatest-from}
+use Rattle.ieee.specs.Single.{_⊖_, _⊗_, nought}
+use Rattle.ieee.proofs.Order.Comparison.{le-trans}
+use Rattle.ieee.proofs.Order.Extremes.{least-from, least-left, least-right, greatest-from}
+use Rattle.grid.specs.Grid.{extent}
 use Rattle.vertices.specs.Vertices.{vertexCount, coordinate}
-use Rattle.sums.specs.Box.{lowest, highest, boxTo, box}
+use Rattle.sums.specs.declared.Bounds.{Bounds}
+use Rattle.sums.specs.Box.{lowest, highest, boxTo, box, boxVolume}
 use Rattle.sums.specs.Fine.{fine, allFine, FineBox}
-use Rattle.sums.proofs.Within.{Within, within-le, within-magnitude}
+use Rattle.sums.proofs.Within.{Within, within-le, within-magnitude, within-mul, within-number, within-sub}
 
 -- ---- one coordinate
 bound-value : HasValue (ofBits binary32 0x5000_0000) false (2 ^ 33) 1
@@ -70,6 +75,29 @@ module _ (vs : List Float) (h : T (allFine vs)) (axis : ℕ) (a : axis < 3) wher
   highest-fine (suc n) l =
       greatest-from (λ z. T (fine z)) (highest vs axis (suc n)) (coordinate vs axis (suc n)) (highest-fine n (omega arith)) (coordinate-fine vs axis (suc n) h a l)
 
+  coordinate-number : (v : ℕ) → v < vertexCount vs → T (not (isNan (coordinate vs axis v)))
+  coordinate-number v l = within-number (2 ^ 33) (coordinate vs axis v) (fine-within (coordinate vs axis v) (coordinate-fine vs axis v h a l))
+
+  lowest-number : (n : ℕ) → n ≤ vertexCount vs → T (not (isNan (lowest vs axis n)))
+  unfolding lowest isNan
+  lowest-number zero l = tt
+  lowest-number (suc n) l =
+      least-from (λ z. T (not (isNan z))) (lowest vs axis n) (coordinate vs axis n) (lowest-number n (omega arith)) (coordinate-number n (omega arith))
+
+  -- no coordinate is below the least
+  pub lowest-le : (n v : ℕ) → n ≤ vertexCount vs → v < n → T (le (lowest vs axis n) (coordinate vs axis v))
+  unfolding lowest
+  lowest-le zero v l k = absurd (omega arith)
+  lowest-le (suc n) v l k =
+      let x = lowest vs axis n in
+      let y = coordinate vs axis n in
+      let x-number = lowest-number n (omega arith) in
+      let y-number = coordinate-number n (omega arith) in
+      elim (decLt v n) [
+        | yes g ↦ le-trans (least x y) x (coordinate vs axis v) (least-left x y x-number y-number) (lowest-le n v (omega arith) g)
+        | no g ↦ let e : v ≡ n = omega arith in rw e (least-right x y x-number y-number)
+      ]
+
 box-to-fine : (vs : List Float) (n : ℕ) → T (allFine vs) → n < vertexCount vs → FineBox (boxTo vs (suc n))
 unfolding boxTo
 box-to-fine vs n h l =
@@ -86,3 +114,21 @@ pub box-fine : (vs : List Float) → T (allFine vs) → 0 < vertexCount vs → F
 box-fine vs h l =
     let e : vertexCount vs ≡ suc (vertexCount vs - 1) = omega arith in
     rw e (box-to-fine vs (vertexCount vs - 1) h (omega arith))
+
+-- ---- its volume
+pub extent-within : (lo hi : Float) → T (fine lo) → T (fine hi) → Within (2 ^ 34) (extent lo hi)
+unfolding extent ofBits
+extent-within lo hi p q =
+    greatest-from (Within (2 ^ 34)) (hi ⊖ lo) nought (within-sub binary32 33 hi lo (lit≤ tt) (fine-within hi q) (fine-within lo p))
+    (record { finite-is = tt; small = omega arith })
+
+pub box-volume-within : (b : Bounds) (cube : Float) → FineBox b → Within (2 ^ 12) cube → Within (2 ^ 114) (boxVolume b cube)
+unfolding boxVolume
+box-volume-within b cube p w =
+    let x = extent (b .xmin) (b .xmax) in
+    let y = extent (b .ymin) (b .ymax) in
+    let z = extent (b .zmin) (b .zmax) in
+    within-mul binary32 102 12 (x ⊗ y ⊗ z) cube (lit≤ tt)
+    (within-mul binary32 68 34 (x ⊗ y) z (lit≤ tt)
+    (within-mul binary32 34 34 x y (lit≤ tt) (extent-within (b .xmin) (b .xmax) (p .xmin) (p .xmax)) (extent-within (b .ymin) (b .ymax) (p .ymin) (p .ymax)))
+    (extent-within (b .zmin) (b .zmax) (p .zmin) (p .zmax))) w

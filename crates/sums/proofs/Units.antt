@@ -1,8 +1,13 @@
--- The square and the cube of a unit that passes refusal 2, from 2^-20 to 16, are finite and above zero. Assumes nothing.
-use lib.Dec.{T}
-use lib.Ieee.{Float, binary32, le, mul, ofBits}
+-- The square and the cube of a unit that passes refusal 2, from 2^-20 to 16, are above zero, and up to 2^8 and 2^12. Assumes nothing.
+use mathlib.Core.Path.{refl}
+use mathlib.Core.Bool.{true, false}
+use Prim.Native.Nat.{_^_}
+use lib.Dec.{T, lit≤}
+use lib.Ieee.{Float, nan, inf, fin, binary32, le, mul, ofBits}
 use lib.Ieee.Positive.{positive, between, mul-mono}
 use Rattle.ieee.specs.Single.{_⊗_}
+use Rattle.sums.specs.Facet.{plus}
+use Rattle.sums.proofs.Within.{Within, within-le, within-mul}
 
 -- the ends of refusal 2
 abbrev pub leastUnit : Float
@@ -28,6 +33,12 @@ cubes-positive : T (positive (leastUnit ⊗ leastUnit ⊗ leastUnit)) × T (posi
 unfolding ofBits mul
 cubes-positive = (tt, tt)
 
+positive-plus : (x : Float) → T (positive x) → T (plus x)
+positive-plus nan p = absurd p
+positive-plus (inf s) p = absurd p
+positive-plus (fin true m e) p = absurd p
+positive-plus (fin false m e) p = tt
+
 module _ (u : Float) (low : T (le leastUnit u)) (high : T (le u mostUnit)) where
   pub unit-positive : T (positive u)
   unit-positive = between leastUnit u mostUnit least-positive most-positive low high
@@ -46,3 +57,13 @@ module _ (u : Float) (low : T (le leastUnit u)) (high : T (le u mostUnit)) where
       between (leastUnit ⊗ leastUnit ⊗ leastUnit) (u ⊗ u ⊗ u) (mostUnit ⊗ mostUnit ⊗ mostUnit) (cubes-positive .0) (cubes-positive .1)
       (mul-mono binary32 (leastUnit ⊗ leastUnit) (u ⊗ u) leastUnit u (squares-positive .0) square-positive least-positive unit-positive square-above low)
       (mul-mono binary32 (u ⊗ u) (mostUnit ⊗ mostUnit) u mostUnit square-positive (squares-positive .1) unit-positive most-positive square-below high)
+
+  pub unit-within : Within (2 ^ 4) u
+  unfolding ofBits
+  unit-within = within-le (2 ^ 4) u mostUnit (positive-plus u unit-positive) (refl, refl) high
+
+  pub square-within : Within (2 ^ 8) (u ⊗ u)
+  square-within = within-mul binary32 4 4 u u (lit≤ tt) unit-within unit-within
+
+  pub cube-within : Within (2 ^ 12) (u ⊗ u ⊗ u)
+  cube-within = within-mul binary32 8 4 (u ⊗ u) u (lit≤ tt) square-within unit-within

@@ -92,9 +92,16 @@ unfolding rows
 length-rows [] = refl
 length-rows (b ∷ bs) = omega (arith, length-rows bs)
 
--- ---- what every area has, if adding to one keeps it
+-- ---- what every area has: Q after one area more, if P before
 
-pub put-all : (P : Float → Type 0) (k : Key) (a : Float) → ((x : Float) → P x → P (x ⊕ a)) → P (nought ⊕ a) → (bs : List Bucket) → AllAreas P bs → AllAreas P (put k a bs)
-unfolding AllAreas put
-put-all P k a more one [] w = (one, tt)
-put-all P k a more one (b ∷ bs) w = by (sameKey k (b .key)) (λ h. rw h (more (b .area) (w .0), w .1)) (λ h. rw h (w .0, put-all P k a more one bs (w .1)))
+module _ (P Q : Float → Type 0) (still : (x : Float) → P x → Q x) where
+  pub areas-still : (bs : List Bucket) → AllAreas P bs → AllAreas Q bs
+  unfolding AllAreas
+  areas-still [] w = tt
+  areas-still (b ∷ bs) w = (still (b .area) (w .0), areas-still bs (w .1))
+
+  pub put-all : (k : Key) (a : Float) → ((x : Float) → P x → Q (x ⊕ a)) → Q (nought ⊕ a) → (bs : List Bucket) → AllAreas P bs → AllAreas Q (put k a bs)
+  unfolding AllAreas put
+  put-all k a more one [] w = (one, tt)
+  put-all k a more one (b ∷ bs) w =
+      by (sameKey k (b .key)) (λ h. rw h (more (b .area) (w .0), areas-still bs (w .1))) (λ h. rw h (still (b .area) (w .0), put-all k a more one bs (w .1)))

@@ -1,3 +1,4 @@
--- One triangle more; what the rows are worth.
+-- One triangle more; what the rows are worth; no sum overflows.
 mod Turns
 pub mod Worth
+pub mod Finite

@@ -71,7 +71,7 @@ plus-with bs Part.OutOfRange g h = h
 plus-with bs Part.Sliver g h = h
 plus-with bs (Part.Used f) g h =
     let a = g f refl in
-    put-all Plus (keyOf (f .nx) (f .ny) (f .nz)) (f .area32) (λ x p. plus-add binary32 x (f .area32) p a) (plus-add binary32 nought (f .area32) (plus-zero binary32) a) bs h
+    put-all Plus Plus (λ x p. p) (keyOf (f .nx) (f .ny) (f .nz)) (f .area32) (λ x p. plus-add binary32 x (f .area32) p a) (plus-add binary32 nought (f .area32) (plus-zero binary32) a) bs h
 
 buckets-plus : (vs : List Float) (ids : List ℕ) → T (allFine vs) → (n : ℕ) → AllAreas Plus (bucketsTo vs (origin (box vs)) ids n)
 unfolding bucketsTo AllAreas

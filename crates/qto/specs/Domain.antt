@@ -1,0 +1,30 @@
+-- Domain (01): no sum overflows. What the numbers of a record are for a mesh of the domain (`computes-finite`, `rows-finite`).
+use mathlib.Core.List.{List, [], _∷_}
+use lib.Dec.{T}
+use lib.Ieee.Scale.{finite}
+use Rattle.rows.specs.declared.PlanarSurface.{PlanarSurface}
+use Rattle.volume.specs.declared.PrismBound.{PrismBound}
+use Rattle.record.specs.declared.MeshQto.{MeshQto}
+
+abbrev pub FiniteBound : PrismBound → Type 0
+FiniteBound PrismBound.NotComputed = Unit {0}
+FiniteBound (PrismBound.Bound p) = T (finite p)
+
+-- all of them are finite
+pub record FiniteRecord (q : MeshQto) : Type 0 where
+  pub volume : T (finite (q .«volume_m3»))
+  pub aabb : T (finite (q .«aabb_volume_m3»))
+  pub surface : T (finite (q .«surface_area_m2»))
+  pub top : T (finite (q .«area_top_m2»))
+  pub bottom : T (finite (q .«area_bottom_m2»))
+  pub side : T (finite (q .«area_side_m2»))
+  pub inclined : T (finite (q .«area_inclined_m2»))
+  pub largest : T (finite (q .«largest_surface_m2»))
+  pub smallest : T (finite (q .«smallest_surface_m2»))
+  pub best : T (finite (q .«volume_best_m3»))
+  pub prism : FiniteBound (q .«volume_prism_bound_m3»)
+
+-- the area of each row is
+unfoldable pub FiniteRows : List PlanarSurface → Type 0
+FiniteRows [] = Unit {0}
+FiniteRows (r ∷ rs) = T (finite (r .area)) × FiniteRows rs

@@ -1,0 +1,19 @@
+-- Domain (01): no sum overflows. What the sums over a mesh of the domain are (`totals-finite`, `buckets-finite`).
+use mathlib.Core.List.{List}
+use lib.Dec.{T}
+use lib.Ieee.Scale.{finite}
+use Rattle.sums.specs.declared.Totals.{Totals}
+use Rattle.surfaces.specs.Surfaces.{Bucket, AllAreas}
+
+-- the six running sums are finite
+pub record FiniteTotals (t : Totals) : Type 0 where
+  pub surface : T (finite (t .surface))
+  pub volume6 : T (finite (t .volume6))
+  pub top : T (finite (t .top))
+  pub bottom : T (finite (t .bottom))
+  pub side : T (finite (t .side))
+  pub inclined : T (finite (t .inclined))
+
+-- the area of each key is
+abbrev pub FiniteAreas : List Bucket → Type 0
+FiniteAreas bs = AllAreas (λ x. T (finite x)) bs

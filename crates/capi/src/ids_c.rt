@@ -8,7 +8,7 @@ use chain::Verdict;
 use pieces::PieceCount;
 
 // What a refusal is counted from.
-const REFUSED: u32 = 0x8000_0000;
+pub const REFUSED: u32 = 0x8000_0000;
 
 // ---- answers as numbers
 

@@ -2,6 +2,7 @@
 ghost use mathlib.Core.Path.{_≡_};
 ghost use Rattle.record.specs.Numbers.{qualityNumber, methodNumber, defectNumber, profileNumber, profileAt, prismNumber, prismBits};
 ghost use Rattle.qto.specs.Numbers.{wordsOf, flagsFit, ComputesNumbered};
+use crate::ids_c::REFUSED;
 use qto::Answer;
 use record::MeshQto;
 use record::Profile;
@@ -9,9 +10,6 @@ use record::ProfileDefect;
 use verdict::Quality;
 use volume::Method;
 use volume::PrismBound;
-
-// What a refusal is counted from.
-const REFUSED: u32 = 0x8000_0000;
 
 // ---- enums as numbers
 

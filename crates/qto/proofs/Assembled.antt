@@ -13,34 +13,14 @@ use Rattle.verdict.specs.Verdict.{quality}
 use Rattle.volume.specs.declared.Best.{Best}
 use Rattle.volume.specs.Best.{prism, bestOf}
 use Rattle.record.specs.declared.MeshQto.{MeshQto}
-use Rattle.record.specs.declared.Profile.{Profile}
 use Rattle.qto.specs.declared.Measures.{Measures}
 use Rattle.qto.specs.Full.{distance, verdict, best, measures, recordFrom, recordBy, recordOf}
 
 pub assembled : (vs : List Float) (ids : List ℕ) (u : Float) (b : Bounds) (m : Measures) (aabb ε size : Float) (q : Quality) (e : Best) → b ≡ box vs
     → aabb ≡ boxVolume b (u ⊗ u ⊗ u) → ε ≡ epsilonOf distance u → q ≡ quality vs ids ε (m .volume) aabb → size ≡ magnitude (m .volume)
     → e ≡ bestOf q size (m .surface) aabb (prism vs ids b (u ⊗ u ⊗ u))
-    → _≡_ {A = MeshQto}
-    (record {
-      «volume_m3» = m .volume;
-      «aabb_volume_m3» = aabb;
-      «surface_area_m2» = m .surface;
-      «area_top_m2» = m .top;
-      «area_bottom_m2» = m .bottom;
-      «area_side_m2» = m .side;
-      «area_inclined_m2» = m .inclined;
-      «largest_surface_m2» = m .largest;
-      «smallest_surface_m2» = m .smallest;
-      «surface_count» = m .count;
-      «mesh_quality» = q;
-      «volume_reliable» = e .reliable;
-      «volume_method» = e .method;
-      «volume_best_m3» = e .volume;
-      «volume_prism_bound_m3» = e .prism;
-      «profile_invalid» = Profile.Valid;
-    })
-    (recordBy vs ids u m (verdict vs ids u (m .volume)))
-unfolding recordBy recordFrom verdict best
+    → recordFrom m aabb q e ≡ recordBy vs ids u m (verdict vs ids u (m .volume))
+unfolding recordBy verdict best
 assembled vs ids u b m aabb ε size q e hb ha hε hq hs he = rw (he, hs, hq, hε, ha, hb)
 
 -- the measures are those of the mesh

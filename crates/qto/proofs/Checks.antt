@@ -1,4 +1,4 @@
--- What it says of a mesh and of the lent areas that no row of the table of refusals applies.
+-- The table of refusals by its tests: the first row that applies, and what it says of a mesh and of the lent areas that none does.
 use mathlib.Core.Path.{_≡_, refl, sym, _∙_, ap}
 use mathlib.Core.Bool.{Bool, true, false, not, _||_, false≢true}
 use Prim.Native.Nat.{ℕ, _≤_}
@@ -10,7 +10,7 @@ use lib.Ieee.{Float}
 use borrow.Author.Tests.{ltb-false}
 use Rattle.sums.specs.Fine.{allFine}
 use Rattle.qto.specs.declared.Check.{Check}
-use Rattle.qto.specs.Refusals.{workWords, surfaceFloats, rasterBytes, unitFits, first, checkOf, Passes}
+use Rattle.qto.specs.Refusals.{workWords, surfaceFloats, rasterBytes, areasShort, unitFits, first, checkOf, Passes}
 
 neither : (p q : Bool) → (p || q) ≡ false → (p ≡ false) × (q ≡ false)
 neither false false e = (refl, refl)
@@ -22,6 +22,45 @@ not-more a b e = let h = ltb-false a b e in omega arith
 
 pub both-small : (f i : ℕ) → (ltb 98304 f || ltb 98304 i) ≡ false → (f ≤ 98304) × (i ≤ 98304)
 both-small f i e = let h = neither (ltb 98304 f) (ltb 98304 i) e in (not-more 98304 f (h .0), not-more 98304 i (h .1))
+
+-- ---- the first row that applies
+
+module _ (vs : List Float) (ids : List ℕ) (u : Float) (w r s : ℕ) where
+  abbrev many : Bool
+  many = ltb 98304 (length vs) || ltb 98304 (length ids)
+
+  abbrev few : Bool
+  few = ltb (length ids) 3 || ltb (length vs) 9
+
+  abbrev short : Bool
+  short = areasShort (length vs) (length ids) w r s
+
+  pub row-1 : many ≡ true → Check.Refuse 1 ≡ checkOf vs ids u w r s
+  unfolding checkOf
+  row-1 a = rw a
+
+  pub row-zero : many ≡ false → few ≡ true → Check.Zero ≡ checkOf vs ids u w r s
+  unfolding checkOf
+  row-zero a b = rw (a, b)
+
+  pub row-2 : many ≡ false → few ≡ false → unitFits u ≡ false → Check.Refuse 2 ≡ checkOf vs ids u w r s
+  unfolding checkOf
+  row-2 a b c = rw (a, b, c)
+
+  module _ (a : many ≡ false) (b : few ≡ false) (c : unitFits u ≡ true) where
+    pub row-3 : short ≡ true → Check.Refuse 3 ≡ checkOf vs ids u w r s
+    unfolding checkOf
+    row-3 d = rw (a, b, c, d)
+
+    pub row-4 : short ≡ false → allFine vs ≡ false → Check.Refuse 4 ≡ checkOf vs ids u w r s
+    unfolding checkOf
+    row-4 d e = rw (a, b, c, d, e)
+
+    pub no-row : short ≡ false → allFine vs ≡ true → Check.Full ≡ checkOf vs ids u w r s
+    unfolding checkOf
+    no-row d e = rw (a, b, c, d, e)
+
+-- ---- none applies
 
 isFull : Check → Bool
 isFull (Check.Refuse n) = false
@@ -50,7 +89,7 @@ pub admitted : (vs : List Float) (ids : List ℕ) (u : Float) (w r s : ℕ) (k :
 unfolding checkOf
 admitted vs ids u w r s k h e =
     let t = five-left (ltb 98304 (length vs) || ltb 98304 (length ids)) (ltb (length ids) 3 || ltb (length vs) 9) (unitFits u)
-    (ltb w (workWords (length vs) (length ids)) || (ltb r rasterBytes || ltb s (surfaceFloats (length ids)))) (allFine vs) (sym e ∙ h) in
+    (areasShort (length vs) (length ids) w r s) (allFine vs) (sym e ∙ h) in
     let most = both-small (length vs) (length ids) (t .0) in
     let least = neither (ltb (length ids) 3) (ltb (length vs) 9) (t .1) in
     let areas = neither (ltb w (workWords (length vs) (length ids))) (ltb r rasterBytes || ltb s (surfaceFloats (length ids))) (t .3) in

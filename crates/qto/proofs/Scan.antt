@@ -1,4 +1,4 @@
--- The test of all floats, one at a time.
+-- The test of all floats, one at a time: a fine one leaves the answer to the rest, another settles it.
 use mathlib.Core.Path.{_≡_, sym, _∙_, ap}
 use mathlib.Core.Bool.{Bool, true, false, _&&_}
 use Prim.Native.Nat.{ℕ, _+_, _≤_, _<_}

@@ -23,6 +23,10 @@ rasterBytes = 65536
 unfoldable pub unitFits : Float → Bool
 unitFits u = le (ofBits binary32 0x3580_0000) u && le u (ofBits binary32 0x4180_0000)
 
+-- whether a work area of w words, a raster of r bytes or a surface area of s floats is too short for f floats and i ids
+abbrev pub areasShort : ℕ → ℕ → ℕ → ℕ → ℕ → Bool
+areasShort f i w r s = ltb w (workWords f i) || (ltb r rasterBytes || ltb s (surfaceFloats i))
+
 abbrev pub first : Bool → Check → Check → Check
 first true c rest = c
 first false c rest = rest
@@ -42,6 +46,6 @@ checkOf vs ids u w r s =
     first (ltb 98304 (length vs) || ltb 98304 (length ids)) (Check.Refuse 1)
     (first (ltb (length ids) 3 || ltb (length vs) 9) Check.Zero
     (first (not (unitFits u)) (Check.Refuse 2)
-    (first (ltb w (workWords (length vs) (length ids)) || (ltb r rasterBytes || ltb s (surfaceFloats (length ids)))) (Check.Refuse 3)
+    (first (areasShort (length vs) (length ids) w r s) (Check.Refuse 3)
     (first (not (allFine vs)) (Check.Refuse 4)
     Check.Full))))

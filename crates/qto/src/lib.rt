@@ -8,7 +8,7 @@ ghost use Rattle.ids.specs.Triangles.{triangleCount};
 ghost use Rattle.sums.specs.Box.{box};
 ghost use Rattle.sums.specs.Fine.{allFine};
 ghost use Rattle.rows.specs.Rows.{flatten, rowsOf, scaled, sorted, largest, smallest, allPlain};
-ghost use Rattle.qto.specs.Refusals.{unitFits, workWords, checkOf, Passes};
+ghost use Rattle.qto.specs.Refusals.{unitFits, workWords, areasShort, checkOf, Passes};
 ghost use Rattle.qto.specs.Full.{surfacesAfter, measures as measuresOf, verdict as verdictOf, recordBy, recordOf};
 ghost use Rattle.qto.specs.Compute.{Computes};
 use record::MeshQto;
@@ -49,6 +49,15 @@ fn all_fine(vertices: &[f32]) -> bool
     true
 }
 
+// Is one of the lent areas too short for f floats and i ids?
+fn areas_short(f: usize, i: usize, work: usize, raster: usize, surfaces: usize) -> bool
+    requires { ⌜ (f ≤ 98304) × (i ≤ 98304) ⌝ }
+    ensures { λ b. ⌜ b ≡ areasShort f i work raster surfaces ⌝ }
+{
+    let words = 5 * i + 4 * (i / 3) + 8 * (f / 3);
+    (work < words) | ((raster < 65536) | (surfaces < 4 * (i / 3)))
+}
+
 // What the table says.
 fn checked(
     vertices: &[f32],
@@ -71,8 +80,7 @@ fn checked(
     if !unit_fits(unit_scale) {
         return Check::Refuse(2);
     }
-    let words = 5 * i + 4 * (i / 3) + 8 * (f / 3);
-    if (work < words) | ((raster < 65536) | (surfaces < 4 * (i / 3))) {
+    if areas_short(f, i, work, raster, surfaces) {
         return Check::Refuse(3);
     }
     if !all_fine(vertices) {

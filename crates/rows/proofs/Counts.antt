@@ -41,6 +41,10 @@ same-swapped l i j a b =
     second : (p : PlanarSurface → Bool) → passing p (swapped l i j) + one (p (rowAt (set l i (rowAt l j)) j)) ≡ passing p (set l i (rowAt l j)) + one (p (rowAt l i))
     second p = passing-set p (set l i (rowAt l j)) j (rowAt l i) (omega (arith, length-set l i (rowAt l j)))
 
+-- r and s were read, then written each in the other's place
+pub swapped-by : (l m n : List PlanarSurface) (i j : ℕ) (r s : PlanarSurface) → r ≡ rowAt l i → s ≡ rowAt l j → m ≡ set l i s → n ≡ set m j r → n ≡ swapped l i j
+swapped-by l m n i j r s hr hs hm hn = rw (hn, hm, hr, hs)
+
 module _ (l : List PlanarSurface) (i j : ℕ) (a : i < length l) (b : j < length l) where
   pub swapped-second : rowAt (swapped l i j) j ≡ rowAt l i
   swapped-second = getD-set-same (set l i (rowAt l j)) j (rowAt l i) noRow (omega (arith, length-set l i (rowAt l j)))

@@ -4,16 +4,12 @@ use mathlib.Core.Logic.{_≢_}
 use mathlib.Core.List.{List, [], _∷_, _++_}
 use Prim.Native.Nat.{ℕ, _+_, _-_, _*_, _≤_, _<_}
 use native.Mathlib.Omega.{arith}
-use native.Mathlib.Decide.{ℕ-discrete, decLt}
-use borrow.Author.Tests.{lt-ltb, le-ltb}
-use lib.Dec.{ltb}
+use native.Mathlib.Decide.{ℕ-discrete}
 use lib.Ieee.{Float}
 use lib.ListN.{length, drop, replicate, length-append, getD-replicate}
-use Rattle.ids.specs.Uses.{bit}
-use Rattle.table.specs.Rows.{sumTo, Found}
-use Rattle.table.proofs.Sums.{sumTo-more}
-use Rattle.table.proofs.Search.{has-free, other, Written, spread-step}
-use Rattle.table.proofs.Probe.{sumTo-none}
+use Rattle.table.specs.Rows.{Found}
+use Rattle.table.proofs.Search.{other, Written, spread-step}
+use Rattle.table.proofs.Used.{used-none, used-few, used-more}
 use Rattle.rows.specs.Rows.{flatten}
 use Rattle.surfaces.specs.declared.Key.{Key}
 use Rattle.surfaces.specs.Surfaces.{Bucket, put, keyAt, rows}
@@ -21,29 +17,16 @@ use Rattle.surfaces.specs.Index.{codeOf, stored, slotIn, keyIn, homeOf, 
 use Rattle.surfaces.proofs.Codes.{code-one, home-in}
 use Rattle.surfaces.proofs.Buckets.{fresh, put-new, row-more, withArea, key-front, key-last, known-length, known-keys, known-floats}
 
--- ---- used slots, counted
-
-unfoldable pub isUsed : List ℕ → ℕ → ℕ
-isUsed t r = bit (ltb 0 (slotIn t r))
-
-used-is : (t : List ℕ) (r : ℕ) → 0 < slotIn t r → isUsed t r ≡ 1
-unfolding isUsed bit
-used-is t r l = rw (lt-ltb 0 (slotIn t r) l)
-
-unused-is : (t : List ℕ) (r : ℕ) → slotIn t r ≡ 0 → isUsed t r ≡ 0
-unfolding isUsed bit
-unused-is t r e = rw (le-ltb 0 (slotIn t r) (omega arith))
-
 -- ---- an empty index, and one with room
 
 pub gathered-none : (m : ℕ) (s : List Float) → Gathered m s (replicate (5 * m) 0) s []
-unfolding isUsed flatten rows
+unfolding flatten rows
 gathered-none m s =
     let t : List ℕ = replicate (5 * m) 0 in
     let z : (r : ℕ) → r < 2 * m → slotIn t r ≡ 0 = (λ r l. getD-replicate (5 * m) r 0 0 (omega arith)) in
     record {
       spread = record { one = λ i j l p. absurd (omega (arith, z i l)); reach = λ i j l p. absurd (omega (arith, z i l)) };
-      few = omega (arith, sumTo-none (isUsed t) (2 * m) (λ r l. unused-is t r (z r l)));
+      few = omega (arith, used-none (slotIn t) (2 * m) z);
       within = λ r l. omega (arith, z r l);
       holds = λ j l. absurd (omega arith);
       has = λ j l. absurd (omega arith);
@@ -51,13 +34,9 @@ gathered-none m s =
     }
 
 pub gathered-searchable : (m : ℕ) (s : List Float) (t : List ℕ) (u : List Float) (bs : List Bucket) → length bs < m → Gathered m s t u bs → Searchable m t
-unfolding isUsed
 gathered-searchable m s t u bs l g = record {
   within = λ r b. omega (arith, g .within r b);
-  free = (
-      let w = has-free (isUsed t) (2 * m) (omega (arith, g .few)) in
-      (w .0, w .1, elim (decLt 0 (slotIn t (w .0))) [ yes p ↦ absurd (omega (arith, w .2, used-is t (w .0) p)) | no p ↦ omega arith ])
-      );
+  free = used-few (slotIn t) (2 * m) (omega (arith, g .few));
 }
 
 -- ---- one triangle more
@@ -104,10 +83,6 @@ module _ (m : ℕ) (s : List Float) (t : List ℕ) (u : List Float) (bs : List B
       written : Written (2 * m) r (codeOf k) (keyIn m t) (keyIn m w) (slotIn t) (slotIn w)
       written = record { key-at = key-now; mark-at = omega (arith, c .slot-at); key-off = key-kept; mark-off = c .slot-off }
 
-      few-more : sumTo (isUsed w) (2 * m) ≤ length bs + 1
-      unfolding isUsed
-      few-more = omega (arith, g .few, sumTo-more (isUsed t) (isUsed w) (2 * m) r 1 (f .within) (λ i l ne. rw (c .slot-off i l ne)) (omega (arith, unused-is t r free, used-is w r (omega (arith, c .slot-at)))))
-
       holds-now : (j : ℕ) → j < length bs + 1 → Dec (j ≡ length bs) → stored m w j ≡ codeOf (keyAt more j)
       holds-now j l (yes e) = rw e (c .code-at ∙ ap codeOf (sym (key-last bs (fresh k a))))
       holds-now j l (no ne) = let b : j < length bs = omega arith in c .code-off j ne ∙ g .holds j b ∙ ap codeOf (sym (key-front bs (fresh k a ∷ []) j b))
@@ -119,11 +94,10 @@ module _ (m : ℕ) (s : List Float) (t : List ℕ) (u : List Float) (bs : List B
           (b .0, b .1, c .slot-off (b .0) (b .1) (λ q. omega (arith, b .2, free, ap (slotIn t) q)) ∙ b .2)
 
       pub gathered-new : Gathered m s w (withRow u (length bs) k a) (put k a bs)
-      unfolding isUsed
       gathered-new = rw more-is (
           record {
             spread = spread-step (2 * m) (homeOf m) (keyIn m t) (slotIn t) (codeOf k) r starts (g .spread) f (keyIn m w) (slotIn w) written;
-            few = rw long few-more;
+            few = omega (arith, long, g .few, used-more (slotIn t) (slotIn w) (2 * m) r (f .within) (c .slot-off) (omega (arith, c .slot-at)));
             within = λ i l. elim (ℕ-discrete i r) [ yes q ↦ rw q (omega (arith, long, c .slot-at)) | no q ↦ omega (arith, long, c .slot-off i l q, g .within i l) ];
             holds = λ j l. holds-now j (omega (arith, long)) (ℕ-discrete j (length bs));
             has = λ j l. has-now j (omega (arith, long)) (ℕ-discrete j (length bs));

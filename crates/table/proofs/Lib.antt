@@ -2,6 +2,7 @@
 pub mod Search
 pub mod Sums
 pub mod Probe
+pub mod Used
 pub mod Largest
 pub mod Signed
 pub mod Counts

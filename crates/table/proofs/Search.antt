@@ -74,7 +74,7 @@ module _ {K : Type 0} (n h : ℕ) (home : h < n) (key : ℕ → K) (mark : ℕ �
       ]
 
   -- where some row is free, the search has not gone round
-  pub not-round : Free n mark → dist n h r + 1 < n
+  not-round : Free n mark → dist n h r + 1 < n
   not-round free =
       elim (decLt (dist n h r + 1) n) [
         | yes a ↦ a
@@ -84,6 +84,9 @@ module _ {K : Type 0} (n h : ℕ) (home : h < n) (key : ℕ → K) (mark : ℕ �
   -- it goes on at the next row
   pub turn : dist n h r + 1 < n → (dist n h (nextRow n r) ≡ dist n h r + 1) × Passed n h key mark k (nextRow n r)
   turn short = let e = dist-next n h home r lr short in (e, λ j lj d. through j lj (omega arith))
+
+  pub goes-on : Free n mark → (dist n h (nextRow n r) ≡ dist n h r + 1) × Passed n h key mark k (nextRow n r)
+  goes-on free = turn (not-round free)
 
 -- where a table has room, some row is free
 free-or-full : (cnt : ℕ → ℕ) (n : ℕ) → ((i : ℕ) × (i < n) × (cnt i ≡ 0)) ⊎ ((i : ℕ) → i < n → 0 < cnt i)

@@ -3,7 +3,7 @@ ghost use mathlib.Core.Path.{_≡_};
 ghost use lib.ListN.{length, replicate};
 ghost use Rattle.grid.specs.Grid.{extent as extentOf};
 ghost use Rattle.raster.specs.Painted.{axisNumber};
-ghost use Rattle.volume.specs.Best.{prismOn, prismX, prismY, prismZ, orLess, orNone, prism as prismOf, upper as upperOf, collapsed as collapsedOf, trusted as trustedOf, openBest, bestOf};
+ghost use Rattle.volume.specs.Best.{prismOn, orLess, orNone, prism as prismOf, upper as upperOf, collapsed as collapsedOf, trusted as trustedOf, openBest, bestOf};
 use raster::Axis;
 use sums::Bounds;
 use verdict::Quality;

@@ -1,4 +1,4 @@
--- One triangle more, and where the walk starts.
+-- One triangle more: what it does to the totals and the rows, that there is room for it, where the walk starts and what it gives at its end.
 use mathlib.Core.Path.{_≡_, refl, sym, _∙_, ap, subst}
 use Prim.Native.Nat.{ℕ, zero, suc, _+_, _*_, _≤_, _<_}
 use native.Mathlib.Numerals.{add-one}

@@ -1,13 +1,10 @@
 // One walk over the triangles: the totals, and a row for each key of a normal. Internal: `qto` asks it.
 ghost use mathlib.Core.Path.{_≡_};
-ghost use mathlib.Core.List.{List};
-ghost use Prim.Native.Nat.{suc, _+_, _*_, _≤_, _<_};
+ghost use Prim.Native.Nat.{_+_, _*_, _≤_, _<_};
 ghost use lib.ListN.{length, replicate};
-ghost use lib.Ieee.{Float};
 ghost use Rattle.ids.specs.Triangles.{triangle, triangleCount};
 ghost use Rattle.surfaces.specs.Index.{Ready};
 ghost use Rattle.sums.specs.Facet.{part};
-ghost use Rattle.sums.specs.Totals.{withPart};
 ghost use Rattle.walk.specs.Walk.{Walks};
 ghost use Rattle.walk.specs.Steps.{Takes, Taken};
 use sums::Facet;

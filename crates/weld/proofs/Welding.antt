@@ -5,15 +5,11 @@ use mathlib.Core.List.{List}
 use Prim.Native.Nat.{ℕ, _+_, _-_, _*_, _≤_, _<_}
 use native.Mathlib.Omega.{arith}
 use native.Mathlib.Decide.{ℕ-discrete, decLt}
-use borrow.Author.Tests.{lt-ltb, le-ltb}
-use lib.Dec.{ltb}
 use lib.Ieee.{Float}
 use lib.ListN.{length}
-use Rattle.ids.specs.Uses.{bit}
-use Rattle.table.specs.Rows.{sumTo, Found}
-use Rattle.table.proofs.Sums.{sumTo-more}
-use Rattle.table.proofs.Search.{has-free, other, Written, spread-step}
-use Rattle.table.proofs.Probe.{sumTo-none}
+use Rattle.table.specs.Rows.{Found}
+use Rattle.table.proofs.Search.{other, Written, spread-step}
+use Rattle.table.proofs.Used.{used-none, used-few, used-more}
 use Rattle.weld.specs.declared.Code.{Code}
 use Rattle.weld.specs.Weld.{named}
 use Rattle.weld.specs.Table.{codeAt, stored, slotIn, nameIn, keyIn, homeOf, Welds, Searchable, Claimed}
@@ -21,29 +17,12 @@ use Rattle.weld.proofs.Codes.{home-in}
 use Rattle.weld.proofs.Names.{named-within, known-name, new-name}
 use Rattle.weld.proofs.Words.{noted, slot-noted, name-noted-at, name-noted-off, stored-noted}
 
--- ---- used slots, counted
-
-unfoldable pub isUsed : List ℕ → ℕ → ℕ
-isUsed t r = bit (ltb 0 (slotIn t r))
-
-used-is : (t : List ℕ) (r : ℕ) → 0 < slotIn t r → isUsed t r ≡ 1
-unfolding isUsed bit
-used-is t r l = rw (lt-ltb 0 (slotIn t r) l)
-
-unused-is : (t : List ℕ) (r : ℕ) → slotIn t r ≡ 0 → isUsed t r ≡ 0
-unfolding isUsed bit
-unused-is t r e = rw (le-ltb 0 (slotIn t r) (omega arith))
-
-used-le : (t : List ℕ) (r : ℕ) → isUsed t r ≤ 1
-used-le t r = elim (decLt 0 (slotIn t r)) [ yes l ↦ omega (arith, used-is t r l) | no l ↦ omega (arith, unused-is t r (omega arith)) ]
-
 -- ---- an empty table, and one with room
 
 pub welds-none : (n : ℕ) (vs : List Float) (inv : Float) (t : List ℕ) → ((r : ℕ) → r < 2 * n → slotIn t r ≡ 0) → Welds n vs inv t 0
-unfolding isUsed
 welds-none n vs inv t z = record {
   spread = record { one = λ i j l p. absurd (omega (arith, z i l)); reach = λ i j l p. absurd (omega (arith, z i l)) };
-  few = omega (arith, sumTo-none (isUsed t) (2 * n) (λ r l. unused-is t r (z r l)));
+  few = omega (arith, used-none (slotIn t) (2 * n) z);
   within = λ r l p. absurd (omega (arith, z r l));
   holds = λ r l p. absurd (omega (arith, z r l));
   names = λ r l p. absurd (omega (arith, z r l));
@@ -52,13 +31,9 @@ welds-none n vs inv t z = record {
 }
 
 pub welds-searchable : (n : ℕ) (vs : List Float) (inv : Float) (t : List ℕ) (v : ℕ) → v < n → Welds n vs inv t v → Searchable n t
-unfolding isUsed
 welds-searchable n vs inv t v l m = record {
   within = λ r b. elim (decLt 0 (slotIn t r)) [ yes u ↦ omega (arith, m .within r b u) | no u ↦ omega arith ];
-  free = (
-      let w = has-free (isUsed t) (2 * n) (omega (arith, m .few)) in
-      (w .0, w .1, elim (decLt 0 (slotIn t (w .0))) [ yes u ↦ absurd (omega (arith, w .2, used-is t (w .0) u)) | no u ↦ omega arith ])
-      );
+  free = used-few (slotIn t) (2 * n) (omega (arith, m .few));
 }
 
 -- ---- one vertex more
@@ -102,10 +77,6 @@ module _ (n : ℕ) (vs : List Float) (inv : Float) (t : List ℕ) (v r : ℕ) (l
     written : Written (2 * n) r k (keyIn n t) (keyIn n w) (slotIn t) (slotIn w)
     written = record { key-at = key-now; mark-at = omega (arith, e .slot-at); key-off = key-kept; mark-off = e .slot-off }
 
-    few-more : sumTo (isUsed w) (2 * n) ≤ v + 1
-    unfolding isUsed
-    few-more = omega (arith, m .few, used-le t r, sumTo-more (isUsed t) (isUsed w) (2 * n) r (1 - isUsed t r) lr (λ i l ne. rw (e .slot-off i l ne)) (omega (arith, used-le t r, used-is w r (omega (arith, e .slot-at)))))
-
     -- a claim about a used slot: for slot r, and for one that was used before
     by : (P : ℕ → Type 0) (i : ℕ) → i < 2 * n → 0 < slotIn w i → P r → (i ≢ r → 0 < slotIn t i → P i) → P i
     by P i l p here there = elim (ℕ-discrete i r) [ yes q ↦ subst P (sym q) here | no q ↦ there q (rw (e .slot-off i l q) at p) ]
@@ -120,10 +91,9 @@ module _ (n : ℕ) (vs : List Float) (inv : Float) (t : List ℕ) (v r : ℕ) (l
         ]
 
     welds-next : Welds n vs inv w (v + 1)
-    unfolding isUsed
     welds-next = record {
       spread = spread-step (2 * n) (homeOf n) (keyIn n t) (slotIn t) k r starts (m .spread) f (keyIn n w) (slotIn w) written;
-      few = few-more;
+      few = omega (arith, m .few, used-more (slotIn t) (slotIn w) (2 * n) r lr (e .slot-off) (omega (arith, e .slot-at)));
       within = λ i l p. by (λ x. slotIn w x ≤ v + 1) i l p (omega (arith, e .slot-at, is, named-within vs inv v)) (λ ne u. omega (arith, e .slot-off i l ne, m .within i l u));
       holds = λ i l p. by (λ x. keyIn n w x ≡ codeAt vs inv (slotIn w x - 1)) i l p (key-now ∙ sym alike ∙ ap (codeAt vs inv) (sym slot-now))
           (λ ne u. key-kept i l ne u ∙ m .holds i l u ∙ ap (λ (x : ℕ). codeAt vs inv (x - 1)) (sym (e .slot-off i l ne)));

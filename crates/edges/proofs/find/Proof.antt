@@ -6,7 +6,7 @@ use native.Mathlib.Omega.{arith}
 use borrow.Author.Needs.{needs}
 use Rattle.ids.specs.EdgeChain.{Edge, sameEdge}
 use Rattle.table.specs.Rows.{nextRow, dist, Passed}
-use Rattle.table.proofs.Search.{dist-here, next-below, not-round, turn}
+use Rattle.table.proofs.Search.{dist-here, dist-below, next-below, goes-on}
 use Rattle.edges.specs.Rows.{edgeAt, usesAt}
 use Rattle.ids.proofs.Same.{edge-eq, edge-refl, same-ne}
 use Rattle.table.proofs.Counts.{none-used, used}
@@ -70,15 +70,15 @@ module _ (c : tie.Else2 Inv-loop μ-loop) where
   unfolding sameEdge
   other-here = same-ne sameEdge edge-refl _ edge (c .if2 .left)
 
-  short : dist (st .args .n) (st .args .start) (at .loop .r) + 1 < st .args .n
-  short = not-round (st .args .n) (st .args .start) (st .pre .0) (edgeAt (st .args .work .now)) (usesAt (st .args .work .now)) edge (at .loop .r) (at .loop .inv .0) (at .loop .inv .1) used-here other-here (st .pre .3)
+  below : dist (st .args .n) (st .args .start) (at .loop .r) < st .args .n
+  below = dist-below (st .args .n) (st .args .start) (st .pre .0) (at .loop .r) (at .loop .inv .0)
 
   on : (dist (st .args .n) (st .args .start) (nextRow (st .args .n) (at .loop .r)) ≡ dist (st .args .n) (st .args .start) (at .loop .r) + 1)
       × Passed (st .args .n) (st .args .start) (edgeAt (st .args .work .now)) (usesAt (st .args .work .now)) edge (nextRow (st .args .n) (at .loop .r))
-  on = turn (st .args .n) (st .args .start) (st .pre .0) (edgeAt (st .args .work .now)) (usesAt (st .args .work .now)) edge (at .loop .r) (at .loop .inv .0) (at .loop .inv .1) used-here other-here short
+  on = goes-on (st .args .n) (st .args .start) (st .pre .0) (edgeAt (st .args .work .now)) (usesAt (st .args .work .now)) edge (at .loop .r) (at .loop .inv .0) (at .loop .inv .1) used-here other-here (st .pre .3)
 
 loop-less : tie.Need-loop-less Inv-loop μ-loop
-loop-less c = rw (c .next .ensures) (omega (arith, on (c .before) .0, short (c .before)))
+loop-less c = rw (c .next .ensures) (omega (arith, on (c .before) .0, below (c .before)))
 
 loop-again : tie.Need-loop-again Inv-loop μ-loop
 loop-again c =

@@ -8,7 +8,7 @@ use borrow.Author.Needs.{needs}
 use Rattle.ids.specs.FaceNet.{Face, sameFace}
 use Rattle.table.specs.Rows.{dist, nextRow, Passed}
 use Rattle.table.proofs.Counts.{none-used, used}
-use Rattle.table.proofs.Search.{dist-here, dist-below, next-below, not-round, turn}
+use Rattle.table.proofs.Search.{dist-here, dist-below, next-below, goes-on}
 use Rattle.faces.specs.Rows.{faceAt, wordAt, usesAt}
 use Rattle.ids.proofs.Same.{face-eq, face-refl, same-ne}
 use Rattle.faces.proofs.find.Statement.{statement}
@@ -78,8 +78,7 @@ module _ (c : tie.After-same Inv-loop μ-loop) where
       × Passed (st .args .n) (st .args .start) key mark sought (nextRow (st .args .n) (at .loop .r))
   on differs =
       let other : key (at .loop .r) ≢ sought = same-ne sameFace face-refl (key (at .loop .r)) sought (sym (c .same .ensures) ∙ differs) in
-      turn (st .args .n) (st .args .start) (st .pre .1) key mark sought (at .loop .r) (at .loop .inv .0) (at .loop .inv .1) busy other
-      (not-round (st .args .n) (st .args .start) (st .pre .1) key mark sought (at .loop .r) (at .loop .inv .0) (at .loop .inv .1) busy other (st .pre .5))
+      goes-on (st .args .n) (st .args .start) (st .pre .1) key mark sought (at .loop .r) (at .loop .inv .0) (at .loop .inv .1) busy other (st .pre .5)
 
   below : dist (st .args .n) (st .args .start) (at .loop .r) < st .args .n
   below = dist-below (st .args .n) (st .args .start) (st .pre .1) (at .loop .r) (at .loop .inv .0)

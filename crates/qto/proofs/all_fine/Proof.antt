@@ -34,11 +34,11 @@ add-i c = search needs
 loop-less : tie.Need-loop-less Inv-loop μ-loop
 loop-less c = search needs
 
-loop-again : tie.Need-loop-again Inv-loop μ-loop
-loop-again c = (omega arith, fine-next (c .before .before .before .before .before .before .args .vertices .now) (c .before .before .before .before .loop .i) _ (omega arith) (ap (λ (y : Float). le y (ofBits binary32 0x5000_0000)) (sym (c .before .magnitude32 .ensures)) ∙ c .if1 .taken) (c .before .before .before .before .loop .inv .1))
-
 returns : tie.Need-returns Inv-loop μ-loop
 returns c = fine-not (c .before .before .before .before .before .before .args .vertices .now) (c .before .before .before .before .loop .i) _ (omega arith) (ap (λ (y : Float). le y (ofBits binary32 0x5000_0000)) (sym (c .before .magnitude32 .ensures)) ∙ c .if1 .left) (c .before .before .before .before .loop .inv .1)
+
+loop-again : tie.Need-loop-again Inv-loop μ-loop
+loop-again c = (omega arith, fine-next (c .before .before .before .before .before .before .args .vertices .now) (c .before .before .before .before .loop .i) _ (omega arith) (ap (λ (y : Float). le y (ofBits binary32 0x5000_0000)) (sym (c .before .magnitude32 .ensures)) ∙ c .if1 .taken) (c .before .before .before .before .loop .inv .1))
 
 returns-2 : tie.Need-returns-2 Inv-loop μ-loop
 returns-2 c = fine-end (c .before .before .before .args .vertices .now) (c .before .loop .i) _ (omega arith) (c .before .loop .inv .1)

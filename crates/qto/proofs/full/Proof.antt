@@ -3,6 +3,7 @@ use Rattle.qto.specs.Refusals.{workWords}
 use Rattle.qto.proofs.Fronts.{front-exact, front-cleared}
 use lib.ListN.{length}
 use lib.Seq.{length-take-le}
+use native.Mathlib.Omega.{arith}
 use borrow.Author.Needs.{needs}
 use Rattle.qto.proofs.full.Statement.{statement}
 use Rattle.qto.proofs.full.Tie as tie
@@ -30,7 +31,7 @@ part-record-in-start c = search needs
 
 part-record-in-end : tie.Need-part-record-in-end
 unfolding workWords
-part-record-in-end c = c .before .before .before .before .before .pre .1
+part-record-in-end c = omega (arith, c .before .before .before .before .before .pre .1)
 
 sub-record-in-2 : tie.Need-sub-record-in-2
 sub-record-in-2 c = search needs

@@ -1,6 +1,7 @@
 -- `qto::record_by` meets its contract: by its parts. Assumes nothing.
 use Rattle.qto.proofs.Assembled.{assembled}
 use Rattle.qto.specs.Refusals.{workWords}
+use Rattle.qto.specs.Full.{recordFrom}
 use borrow.Author.Needs.{needs}
 use Rattle.qto.proofs.record_by.Statement.{statement}
 use Rattle.qto.proofs.record_by.Tie as tie
@@ -31,7 +32,7 @@ same-length-2 : tie.Need-same-length-2
 same-length-2 c = search needs
 
 returns : tie.Need-returns
-unfolding workWords
+unfolding workWords recordFrom
 returns c =
     let args = c .before .before .before .before .before .before .before .before .before .before .before .before .before .before .before .before .args in
     let the-classify-mesh-quality = c .before .before .before .before .before .before .before .before .classify-mesh-quality in

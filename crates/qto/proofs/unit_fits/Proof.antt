@@ -1,4 +1,4 @@
--- `qto::unit_fits` meets its contract. Assumes nothing.
+-- `qto::unit_fits` meets its contract: the definition's two tests. Assumes nothing.
 use Rattle.qto.specs.Refusals.{unitFits}
 use mathlib.Core.Path.{refl}
 use Rattle.qto.proofs.unit_fits.Statement.{statement}

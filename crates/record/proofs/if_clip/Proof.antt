@@ -1,4 +1,4 @@
--- `record::if_clip` meets its contract. Assumes nothing.
+-- `record::if_clip` meets its contract: by the flag. Assumes nothing.
 use Rattle.record.specs.Flags.{ifClip}
 use borrow.Author.Needs.{needs}
 use Rattle.record.proofs.if_clip.Statement.{statement}

@@ -1,4 +1,4 @@
--- `record::if_invalid` meets its contract. Assumes nothing.
+-- `record::if_invalid` meets its contract: by whether the profile has a defect. Assumes nothing.
 use Rattle.record.specs.Flags.{ifInvalid}
 use borrow.Author.Needs.{needs}
 use Rattle.record.proofs.if_invalid.Statement.{statement}

@@ -1,4 +1,4 @@
--- `record::mark_clip_unapplied` meets its contract. Assumes nothing.
+-- `record::mark_clip_unapplied` meets its contract: the method is relabelled and the profile stays. Assumes nothing.
 use borrow.Author.Needs.{needs}
 use Rattle.record.proofs.mark_clip_unapplied.Statement.{statement}
 use Rattle.record.proofs.mark_clip_unapplied.Tie as tie

@@ -1,4 +1,4 @@
--- `record::mark_profile_invalid` meets its contract. Assumes nothing.
+-- `record::mark_profile_invalid` meets its contract: the method is relabelled and the defect recorded. Assumes nothing.
 use borrow.Author.Needs.{needs}
 use Rattle.record.proofs.mark_profile_invalid.Statement.{statement}
 use Rattle.record.proofs.mark_profile_invalid.Tie as tie

@@ -1,4 +1,4 @@
--- `record::marked` meets its contract. Assumes nothing.
+-- `record::marked` meets its contract: each field is the definition's. Assumes nothing.
 use mathlib.Core.Path.{refl}
 use Rattle.record.specs.Flags.{marked}
 use Rattle.record.proofs.marked.Statement.{statement}

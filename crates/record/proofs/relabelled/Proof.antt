@@ -1,4 +1,4 @@
--- `record::relabelled` meets its contract. Assumes nothing.
+-- `record::relabelled` meets its contract: by the method, case by case. Assumes nothing.
 use Rattle.record.specs.Flags.{relabelled}
 use borrow.Author.Needs.{needs}
 use Rattle.record.proofs.relabelled.Statement.{statement}

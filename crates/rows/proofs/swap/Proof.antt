@@ -1,5 +1,6 @@
 -- `rows::swap` meets its contract. Each row is read before either is written. Assumes nothing.
-use mathlib.Core.Path.{_∙_}
+use Rattle.rows.specs.Rows.{rowsOf}
+use Rattle.rows.proofs.Counts.{swapped-by}
 use borrow.Author.Needs.{needs}
 use Rattle.rows.proofs.swap.Statement.{statement}
 use Rattle.rows.proofs.swap.Tie as tie
@@ -20,7 +21,11 @@ same-length : tie.Need-same-length
 same-length c = search needs
 
 returns : tie.Need-returns
-returns c = c .before .before .put2 .ensures ∙ rw (c .before .before .before .before .before .before .put .ensures, c .before .before .before .before .before .before .before .before .before .before .get .ensures, c .before .before .before .before .before .before .before .before .get2 .ensures)
+returns c =
+    let args = c .before .before .before .before .before .before .before .before .before .before .before .before .before .args in
+    let the-get = c .before .before .before .before .before .before .before .before .before .before .get in
+    let the-get2 = c .before .before .before .before .before .before .before .before .get2 in
+    swapped-by (rowsOf (args .rows .now)) _ _ (args .i) (args .j) (the-get .result) (the-get2 .result) (the-get .ensures) (the-get2 .ensures) (c .before .before .before .before .before .before .put .ensures) (c .before .before .put2 .ensures)
 
 pub swap-spec : {M : Type 1} → statement M
 swap-spec =

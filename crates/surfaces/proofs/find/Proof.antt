@@ -7,7 +7,7 @@ use native.Mathlib.Omega.{arith}
 use borrow.Author.Needs.{needs}
 use Rattle.ids.proofs.Same.{same-ne}
 use Rattle.table.specs.Rows.{dist, nextRow, Passed}
-use Rattle.table.proofs.Search.{dist-here, dist-below, next-below, not-round, turn}
+use Rattle.table.proofs.Search.{dist-here, dist-below, next-below, goes-on}
 use Rattle.surfaces.specs.declared.Code.{Code}
 use Rattle.surfaces.specs.Index.{sameCode, slotIn, keyIn}
 use Rattle.surfaces.proofs.Codes.{code-eq, code-refl}
@@ -73,8 +73,7 @@ module _ (c : tie.After-same Inv-loop μ-loop) where
       → (dist m (st .args .start) (nextRow m (at .loop .r)) ≡ dist m (st .args .start) (at .loop .r) + 1) × Passed m (st .args .start) key mark (st .args .k) (nextRow m (at .loop .r))
   on differs =
       let other : key (at .loop .r) ≢ st .args .k = same-ne sameCode code-refl (key (at .loop .r)) (st .args .k) (sym (c .same .ensures) ∙ differs) in
-      turn m (st .args .start) (st .pre .1) key mark (st .args .k) (at .loop .r) (at .loop .inv .0) (at .loop .inv .1) busy other
-      (not-round m (st .args .start) (st .pre .1) key mark (st .args .k) (at .loop .r) (at .loop .inv .0) (at .loop .inv .1) busy other (st .pre .3 .free))
+      goes-on m (st .args .start) (st .pre .1) key mark (st .args .k) (at .loop .r) (at .loop .inv .0) (at .loop .inv .1) busy other (st .pre .3 .free)
 
   below : dist m (st .args .start) (at .loop .r) < m
   below = dist-below m (st .args .start) (st .pre .1) (at .loop .r) (at .loop .inv .0)

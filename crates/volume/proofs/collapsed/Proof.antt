@@ -1,4 +1,4 @@
--- `volume::collapsed` meets its contract. Assumes nothing.
+-- `volume::collapsed` meets its contract: the definition's three tests, the middle one by `floats::cube_above`. Assumes nothing.
 use Rattle.volume.specs.Best.{collapsed}
 use borrow.Author.Needs.{needs}
 use Rattle.volume.proofs.collapsed.Statement.{statement}

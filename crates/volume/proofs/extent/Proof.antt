@@ -1,4 +1,4 @@
--- `volume::extent` meets its contract. Assumes nothing.
+-- `volume::extent` meets its contract: the greater of the difference and zero. Assumes nothing.
 use Rattle.grid.specs.Grid.{extent}
 use borrow.Author.Needs.{needs}
 use Rattle.volume.proofs.extent.Statement.{statement}

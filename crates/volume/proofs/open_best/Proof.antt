@@ -1,4 +1,4 @@
--- `volume::open_best` meets its contract. Assumes nothing.
+-- `volume::open_best` meets its contract: by whether the volume is trusted. Assumes nothing.
 use Rattle.volume.specs.Best.{openBest}
 use borrow.Author.Needs.{needs}
 use Rattle.volume.proofs.open_best.Statement.{statement}

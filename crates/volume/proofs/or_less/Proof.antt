@@ -1,4 +1,4 @@
--- `volume::or_less` meets its contract. Assumes nothing.
+-- `volume::or_less` meets its contract: by whether p is positive. Assumes nothing.
 use Rattle.volume.specs.Best.{orLess}
 use borrow.Author.Needs.{needs}
 use Rattle.volume.proofs.or_less.Statement.{statement}

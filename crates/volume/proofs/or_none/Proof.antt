@@ -1,4 +1,4 @@
--- `volume::or_none` meets its contract. Assumes nothing.
+-- `volume::or_none` meets its contract: by whether p is below infinity. Assumes nothing.
 use lib.Ieee.{nanBits, lt, mul, ofBits}
 use borrow.Author.Needs.{needs}
 use Rattle.volume.specs.Best.{orNone}

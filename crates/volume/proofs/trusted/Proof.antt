@@ -1,4 +1,4 @@
--- `volume::trusted` meets its contract. Assumes nothing.
+-- `volume::trusted` meets its contract: the definition's four tests. Assumes nothing.
 use Rattle.volume.specs.Best.{trusted}
 use borrow.Author.Needs.{needs}
 use Rattle.volume.proofs.trusted.Statement.{statement}

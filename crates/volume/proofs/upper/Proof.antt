@@ -1,4 +1,4 @@
--- `volume::upper` meets its contract. Assumes nothing.
+-- `volume::upper` meets its contract: by which of prism and box are positive. Assumes nothing.
 use Rattle.volume.specs.Best.{upper}
 use borrow.Author.Needs.{needs}
 use Rattle.volume.proofs.upper.Statement.{statement}

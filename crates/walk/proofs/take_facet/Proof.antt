@@ -1,4 +1,4 @@
--- `walk::take_facet` meets its contract. Assumes nothing.
+-- `walk::take_facet` meets its contract: the row by `surfaces::put`, the totals by `Totals::add`. Assumes nothing.
 use Rattle.walk.proofs.Turns.{takes-used}
 use borrow.Author.Needs.{needs}
 use Rattle.walk.proofs.take_facet.Statement.{statement}

@@ -80,10 +80,12 @@ fn checked(
     if !unit_fits(unit_scale) {
         return Check::Refuse(2);
     }
-    if areas_short(f, i, work, raster, surfaces) {
+    let short = areas_short(f, i, work, raster, surfaces);
+    let fine = all_fine(vertices);
+    if short {
         return Check::Refuse(3);
     }
-    if !all_fine(vertices) {
+    if !fine {
         return Check::Refuse(4);
     }
     Check::Full

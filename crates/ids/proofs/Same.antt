@@ -1,6 +1,7 @@
--- `sameEdge` and `sameFace` are equality. Assumes nothing.
+-- `sameEdge` and `sameFace` are equality, as is any test of three things each by an equality. Assumes nothing.
 use mathlib.Core.Path.{_≡_, refl, sym, _∙_}
 use mathlib.Core.Logic.{_≢_}
+use Prim.Native.Nat.{ℕ}
 use mathlib.Core.Bool.{Bool, true, false, _&&_, true≢false, false≢true}
 use borrow.Author.Tests.{eqb-true, eq-eqb}
 use lib.Dec.{eqb}
@@ -12,6 +13,20 @@ pub both : (a b : Bool) → a && b ≡ true → (a ≡ true) × (b ≡ true)
 both true b e = (refl, e)
 both false b e = absurd (false≢true e)
 
+-- three things each by a test that is equality
+module _ {A : Type 0} (test : A → A → Bool) where
+  pub three-eq : ((x y : A) → test x y ≡ true → x ≡ y) → (a b c d e f : A) → test a d && (test b e && test c f) ≡ true → (a ≡ d) × (b ≡ e) × (c ≡ f)
+  three-eq eq a b c d e f h =
+      let w = both (test a d) (test b e && test c f) h in
+      let v = both (test b e) (test c f) (w .1) in
+      (eq a d (w .0), eq b e (v .0), eq c f (v .1))
+
+  pub three-refl : ((x : A) → test x x ≡ true) → (a b c : A) → test a a && (test b b && test c c) ≡ true
+  three-refl same a b c = rw (same a, same b, same c)
+
+pub eqb-refl : (n : ℕ) → eqb n n ≡ true
+eqb-refl n = eq-eqb n n refl
+
 pub edge-eq : (e f : Edge) → sameEdge e f ≡ true → e ≡ f
 unfolding sameEdge
 edge-eq e f h =
@@ -20,18 +35,17 @@ edge-eq e f h =
 
 pub edge-refl : (e : Edge) → sameEdge e e ≡ true
 unfolding sameEdge
-edge-refl e = rw (eq-eqb (e .low) (e .low) refl, eq-eqb (e .high) (e .high) refl)
+edge-refl e = rw (eqb-refl (e .low), eqb-refl (e .high))
 
 pub face-eq : (f g : Face) → sameFace f g ≡ true → f ≡ g
 unfolding sameFace
 face-eq f g h =
-    let w = both (eqb (f .low) (g .low)) (eqb (f .mid) (g .mid) && eqb (f .high) (g .high)) h in
-    let v = both (eqb (f .mid) (g .mid)) (eqb (f .high) (g .high)) (w .1) in
-    λ i. record { low = eqb-true (f .low) (g .low) (w .0) i; mid = eqb-true (f .mid) (g .mid) (v .0) i; high = eqb-true (f .high) (g .high) (v .1) i }
+    let e = three-eq eqb eqb-true (f .low) (f .mid) (f .high) (g .low) (g .mid) (g .high) h in
+    λ i. record { low = e .0 i; mid = e .1 i; high = e .2 i }
 
 pub face-refl : (f : Face) → sameFace f f ≡ true
 unfolding sameFace
-face-refl f = rw (eq-eqb (f .low) (f .low) refl, eq-eqb (f .mid) (f .mid) refl, eq-eqb (f .high) (f .high) refl)
+face-refl f = three-refl eqb eqb-refl (f .low) (f .mid) (f .high)
 
 -- a test on keys that holds of a key and itself is refused only by another key
 pub same-ne : {K : Type 0} (same : K → K → Bool) → ((a : K) → same a a ≡ true) → (a b : K) → same a b ≡ false → a ≢ b

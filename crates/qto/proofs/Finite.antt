@@ -11,7 +11,6 @@ use lib.Dec.{T, lit<, lit≤}
 use lib.ListN.{length}
 use lib.Ieee.{Float, nan, inf, fin, binary32, binary64, lt, le, ofBits}
 use lib.Ieee.Exact.{HasValue}
-use lib.Ieee.Fits.{and-l, and-r}
 use lib.Ieee.Scale.{finite}
 use Rattle.ieee.specs.Magnitude.{magnitude}
 use Rattle.ieee.specs.Order.{least}
@@ -41,9 +40,10 @@ use Rattle.qto.specs.declared.Check.{Check}
 use Rattle.qto.specs.Compute.{Computes, answerAt}
 use Rattle.qto.specs.Domain.{FiniteBound, FiniteRecord, FiniteRows}
 use Rattle.qto.specs.Full.{square, cube, totals, volumeOf, surfaceOf, buckets, surfaceRows, measuresFrom, measures, verdict, best, recordFrom, recordBy, recordOf}
-use Rattle.qto.specs.Refusals.{Passes, unitFits, checkOf}
+use Rattle.qto.specs.Refusals.{Passes, checkOf}
 use Rattle.qto.proofs.Checks.{admitted}
 use Rattle.qto.proofs.FinitePrism.{prism-finite}
+use Rattle.qto.proofs.Measured.{unit-ends}
 
 -- ---- an area of n triangles with the unit's square
 area-finite : (n : ℕ) → n ≤ 32768 → (by : Float) → Within (2 ^ 8) by → (a : Float) → Times n a → T (finite (a ⊗ by))
@@ -158,8 +158,7 @@ best-finite Quality.OpenShell v s aabb p h g = go (trusted p (upper p aabb) v s)
 -- ---- the record
 module _ (vs : List Float) (ids : List ℕ) (u : Float) (p : Passes vs ids u) where
   ends : T (le leastUnit u) × T (le u mostUnit)
-  unfolding unitFits
-  ends = (and-l (le leastUnit u) (le u mostUnit) (p .unit), and-r (le leastUnit u) (le u mostUnit) (p .unit))
+  ends = unit-ends u (p .unit)
 
   few : triangleCount ids ≤ 32768
   few = omega (arith, p .ids-most)

@@ -1,6 +1,5 @@
 -- The measures and the surface rows, from what the walk over the triangles left.
 use mathlib.Core.Path.{_≡_, sym, _∙_, ap, subst}
-use mathlib.Core.Bool.{Bool, true, _&&_}
 use mathlib.Core.List.{List, _++_}
 use Prim.Native.Nat.{ℕ, _*_, _≤_}
 use native.Mathlib.Omega.{arith}
@@ -18,7 +17,8 @@ use Rattle.sums.specs.declared.Thresholds.{Thresholds}
 use Rattle.sums.specs.Box.{box, origin}
 use Rattle.sums.specs.Fine.{allFine}
 use Rattle.sums.specs.Totals.{thresholds}
-use Rattle.sums.proofs.Units.{square-positive}
+use Rattle.sums.proofs.Units.{leastUnit, mostUnit, square-positive}
+use lib.Ieee.Fits.{and-l, and-r}
 use Rattle.rows.specs.declared.PlanarSurface.{PlanarSurface}
 use Rattle.rows.specs.Rows.{flatten, rowsOf, scaled, sorted, largest, smallest, allPlain}
 use Rattle.rows.proofs.Flat.{rows-flat, length-flatten}
@@ -33,12 +33,12 @@ use Rattle.qto.specs.declared.Measures.{Measures}
 use Rattle.qto.specs.Refusals.{unitFits}
 use Rattle.qto.specs.Full.{square, cube, totals, volumeOf, surfaceOf, buckets, surfaceRows, surfacesAfter, measuresFrom, measures}
 
-both : (p q : Bool) → T (p && q) → T p × T q
-both true true h = (tt, tt)
+pub unit-ends : (u : Float) → T (unitFits u) → T (le leastUnit u) × T (le u mostUnit)
+unfolding unitFits
+unit-ends u h = (and-l (le leastUnit u) (le u mostUnit) h, and-r (le leastUnit u) (le u mostUnit) h)
 
 pub unit-square : (u : Float) → T (unitFits u) → T (positive (square u))
-unfolding unitFits
-unit-square u h = let e = both (le (ofBits binary32 0x3580_0000) u) (le u (ofBits binary32 0x4180_0000)) h in square-positive u (e .0) (e .1)
+unit-square u h = let e = unit-ends u h in square-positive u (e .0) (e .1)
 
 -- the walk from the box minimum o by the pair p found the sums r, left the index t, and made the surface area w of s
 module _

@@ -1,2 +1,3 @@
--- Document 01's numbers for the defects name them.
+-- The order of the flags; document 01's numbers for the defects name them.
+mod Order
 pub mod Numbers

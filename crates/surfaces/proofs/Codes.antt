@@ -1,14 +1,14 @@
 -- A key as three words: one to one, so that equal codes are equal keys. An i32 has a code below 2 ^ 32. And where a search for a code starts. Assumes nothing.
-use mathlib.Core.Path.{_≡_, refl, ap}
-use mathlib.Core.Bool.{true, _&&_}
+use mathlib.Core.Path.{_≡_, ap}
+use mathlib.Core.Bool.{true}
 use Prim.Native.Nat.{ℕ, _*_, _<_}
 use native.Mathlib.Omega.{arith}
-use borrow.Author.Tests.{eqb-true, eq-eqb}
+use borrow.Author.Tests.{eqb-true}
 use lib.Dec.{eqb}
 use lib.IntN.{ℤ, pos, negsuc}
 use mir.Syntax.{w32, w64}
 use mir.Val.{Fits, SFits}
-use Rattle.ids.proofs.Same.{both}
+use Rattle.ids.proofs.Same.{three-eq, three-refl, eqb-refl}
 use Rattle.table.specs.Rows.{homeRow, Found}
 use Rattle.table.proofs.Search.{home-below}
 use Rattle.weld.specs.Table.{coded}
@@ -41,13 +41,12 @@ code-one k l e = λ i. record {
 pub code-eq : (a b : Code) → sameCode a b ≡ true → a ≡ b
 unfolding sameCode
 code-eq a b h =
-    let w = both (eqb (a .x) (b .x)) (eqb (a .y) (b .y) && eqb (a .z) (b .z)) h in
-    let v = both (eqb (a .y) (b .y)) (eqb (a .z) (b .z)) (w .1) in
-    λ i. record { x = eqb-true (a .x) (b .x) (w .0) i; y = eqb-true (a .y) (b .y) (v .0) i; z = eqb-true (a .z) (b .z) (v .1) i }
+    let e = three-eq eqb eqb-true (a .x) (a .y) (a .z) (b .x) (b .y) (b .z) h in
+    λ i. record { x = e .0 i; y = e .1 i; z = e .2 i }
 
 pub code-refl : (a : Code) → sameCode a a ≡ true
 unfolding sameCode
-code-refl a = rw (eq-eqb (a .x) (a .x) refl, eq-eqb (a .y) (a .y) refl, eq-eqb (a .z) (a .z) refl)
+code-refl a = three-refl eqb eqb-refl (a .x) (a .y) (a .z)
 
 -- ---- a search starts at a slot
 

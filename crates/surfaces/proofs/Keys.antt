@@ -1,13 +1,13 @@
 -- What one area more does to the buckets: which keys there are, what each has, and how many they are. Assumes nothing.
 use mathlib.Core.Path.{_≡_, refl, sym, _∙_}
 use mathlib.Core.Logic.{_≢_}
-use mathlib.Core.Bool.{Bool, true, false, _&&_, _||_, cond, true≢false}
+use mathlib.Core.Bool.{Bool, true, false, _||_, cond, true≢false}
 use mathlib.Core.List.{List, [], _∷_}
 use Prim.Native.Nat.{_+_, _≤_}
 use native.Mathlib.Omega.{arith}
 use lib.Ieee.{Float}
 use lib.ListN.{length}
-use Rattle.ids.proofs.Same.{both}
+use Rattle.ids.proofs.Same.{three-eq, three-refl}
 use Rattle.ieee.specs.Single.{_⊕_, nought}
 use Rattle.weld.specs.Weld.{sameInteger}
 use Rattle.weld.proofs.Codes.{integer-eq, integer-refl}
@@ -19,13 +19,12 @@ use Rattle.surfaces.specs.Surfaces.{sameKey, Bucket, put, areaFor, hasKe
 pub key-eq : (k l : Key) → sameKey k l ≡ true → k ≡ l
 unfolding sameKey
 key-eq k l h =
-    let w = both (sameInteger (k .x) (l .x)) (sameInteger (k .y) (l .y) && sameInteger (k .z) (l .z)) h in
-    let v = both (sameInteger (k .y) (l .y)) (sameInteger (k .z) (l .z)) (w .1) in
-    λ i. record { x = integer-eq (k .x) (l .x) (w .0) i; y = integer-eq (k .y) (l .y) (v .0) i; z = integer-eq (k .z) (l .z) (v .1) i }
+    let e = three-eq sameInteger integer-eq (k .x) (k .y) (k .z) (l .x) (l .y) (l .z) h in
+    λ i. record { x = e .0 i; y = e .1 i; z = e .2 i }
 
 pub key-refl : (k : Key) → sameKey k k ≡ true
 unfolding sameKey
-key-refl k = rw (integer-refl (k .x), integer-refl (k .y), integer-refl (k .z))
+key-refl k = three-refl sameInteger integer-refl (k .x) (k .y) (k .z)
 
 pub key-same : (k l : Key) → k ≡ l → sameKey k l ≡ true
 key-same k l e = rw e (key-refl l)

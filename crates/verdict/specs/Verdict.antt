@@ -1,6 +1,6 @@
 -- Verdict (01; 000, `classify_mesh_quality`): closed, open shell or degenerate, by the volume, the box, and the ids, given or welded.
 use Prim.Native.Nat.{ℕ}
-use mathlib.Core.Bool.{Bool, true, false, cond, _&&_, _||_}
+use mathlib.Core.Bool.{Bool, cond, _&&_, _||_}
 use mathlib.Core.List.{List}
 use lib.Dec.{leb}
 use lib.Ieee.{Float, binary32, lt, le, ofBits}
@@ -11,8 +11,6 @@ use Rattle.ids.specs.FaceNet.{maxAbs, allCancel}
 use Rattle.weld.specs.Weld.{welded}
 use Rattle.verdict.specs.declared.Quality.{Quality}
 use Rattle.verdict.specs.declared.Quality.the-variants.{Closed, OpenShell, Degenerate}
-use Rattle.verdict.specs.declared.Chained.{Chained}
-use Rattle.verdict.specs.declared.Chained.the-variants.{Boundary, Free}
 
 -- |volume| > box·1.001 in f32: more than any solid in the box has
 unfoldable pub tooLarge : Float → Float → Bool
@@ -28,19 +26,6 @@ byFaces ids near =
     cond (overIncident ids || near)
     (cond (leb 2 (maxAbs ids)) OpenShell (cond (near && allCancel ids) Degenerate Closed))
     Closed
-
--- what ids say: not boundary-free, or a quality
-unfoldable pub chained : List ℕ → Bool → Chained
-chained ids near = cond (boundaryFree ids) (Free (byFaces ids near)) Boundary
-
-unfoldable pub isFree : Chained → Bool
-isFree (Free q) = true
-isFree Boundary = false
-
--- ids that are not boundary-free, the last ones asked, are an open shell's
-unfoldable pub openUnlessFree : Chained → Quality
-openUnlessFree (Free q) = q
-openUnlessFree Boundary = OpenShell
 
 -- the given ids, and if they are not boundary-free the welded ones; if those are not either, open
 unfoldable pub byChain : List Float → List ℕ → Float → Bool → Quality

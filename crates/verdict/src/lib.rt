@@ -4,9 +4,9 @@ ghost use Prim.Native.Nat.{_+_, _*_, _/_, _≤_};
 ghost use lib.ListN.{length, drop, replicate};
 ghost use Rattle.ids.specs.Triangles.{triangleCount};
 ghost use Rattle.ids.specs.EdgeChain.{overIncident};
-ghost use Rattle.vertices.specs.Vertices.{vertexCount};
 ghost use Rattle.weld.specs.Weld.{welded};
-ghost use Rattle.verdict.specs.Verdict.{byFaces, chained, isFree, openUnlessFree, byChain, quality as qualityOf};
+ghost use Rattle.verdict.specs.Verdict.{byFaces, byChain, quality as qualityOf};
+ghost use Rattle.verdict.specs.Steps.{chained, isFree, openUnlessFree, words, Room};
 
 pub enum Quality {
     Closed,
@@ -73,8 +73,7 @@ fn by_ids(work: &mut [u32], i: usize, at: usize, near: bool) -> Chained
 
 // What the welded ids say.
 fn by_welded(vertices: &[f32], indices: &[u32], eps: f32, near: bool, work: &mut [u32]) -> Quality
-    requires { ⌜ (length (now vertices) ≤ 98304) × (length (now indices) ≤ 98304)
-        × (length (now work) ≡ 5 * length (now indices) + 4 * triangleCount (now indices) + 8 * vertexCount (now vertices)) ⌝ }
+    requires { ⌜ Room (now vertices) (now indices) (now work) ⌝ }
     ensures { λ r. ⌜ r ≡ openUnlessFree (chained (welded (now (vertices .entry)) (now (indices .entry)) eps) near) ⌝ }
 {
     let i = indices.len();
@@ -87,8 +86,7 @@ fn by_welded(vertices: &[f32], indices: &[u32], eps: f32, near: bool, work: &mut
 
 // What the given ids say, or if they are not boundary-free the welded ones.
 fn by_chain(vertices: &[f32], indices: &[u32], eps: f32, near: bool, work: &mut [u32]) -> Quality
-    requires { ⌜ (length (now vertices) ≤ 98304) × (length (now indices) ≤ 98304)
-        × (length (now work) ≡ 5 * length (now indices) + 4 * triangleCount (now indices) + 8 * vertexCount (now vertices)) ⌝ }
+    requires { ⌜ Room (now vertices) (now indices) (now work) ⌝ }
     ensures { λ r. ⌜ r ≡ byChain (now (vertices .entry)) (now (indices .entry)) eps near ⌝ }
 {
     let i = indices.len();
@@ -112,8 +110,7 @@ fn judge(
     aabb_volume: f32,
     work: &mut [u32],
 ) -> Quality
-    requires { ⌜ (length (now vertices) ≤ 98304) × (length (now indices) ≤ 98304)
-        × (length (now work) ≡ 5 * length (now indices) + 4 * triangleCount (now indices) + 8 * vertexCount (now vertices)) ⌝ }
+    requires { ⌜ Room (now vertices) (now indices) (now work) ⌝ }
     ensures { λ r. ⌜ r ≡ qualityOf (now (vertices .entry)) (now (indices .entry)) eps volume «aabb_volume» ⌝ }
 {
     if aabb_volume <= 0.0 {
@@ -135,10 +132,9 @@ pub fn classify_mesh_quality(
     aabb_volume: f32,
     work: &mut [u32],
 ) -> Quality
-    requires { ⌜ (length (now vertices) ≤ 98304) × (length (now indices) ≤ 98304)
-        × (length (now work) ≡ 5 * length (now indices) + 4 * triangleCount (now indices) + 8 * vertexCount (now vertices)) ⌝ }
+    requires { ⌜ Room (now vertices) (now indices) (now work) ⌝ }
     ensures { λ r. ⌜ (r ≡ qualityOf (now (vertices .entry)) (now (indices .entry)) eps volume «aabb_volume»)
-        × (now (work .exit) ≡ replicate (5 * length (now (indices .entry)) + 4 * triangleCount (now (indices .entry)) + 8 * vertexCount (now (vertices .entry))) 0) ⌝ }
+        × (now (work .exit) ≡ replicate (words (now (vertices .entry)) (now (indices .entry))) 0) ⌝ }
 {
     let q = judge(vertices, indices, eps, volume, aabb_volume, work);
     let n = work.len();

@@ -1,7 +1,6 @@
 // The best volume of a mesh, by its quality: the mesh's own where that is to be trusted, else the prism. Internal: `qto` asks it.
 ghost use mathlib.Core.Path.{_≡_};
 ghost use lib.ListN.{length, replicate};
-ghost use Rattle.grid.specs.Grid.{extent as extentOf};
 ghost use Rattle.raster.specs.Painted.{axisNumber};
 ghost use Rattle.volume.specs.Best.{prismOn, orLess, orNone, prism as prismOf, upper as upperOf, collapsed as collapsedOf, trusted as trustedOf, openBest, bestOf};
 use raster::Axis;
@@ -30,12 +29,6 @@ pub struct Best {
 }
 
 // ---- the prism
-
-fn extent(lo: f32, hi: f32) -> f32
-    ensures { λ r. ⌜ r ≡ extentOf lo hi ⌝ }
-{
-    floats::greatest32(hi - lo, 0.0)
-}
 
 // The footprint on two axes times the extent on the third. The raster is zero afterwards.
 fn prism_on(
@@ -102,7 +95,7 @@ fn prism(vertices: &[f32], indices: &[u32], b: Bounds, cube: f32, raster: &mut [
         b.xmax,
         b.ymin,
         b.ymax,
-        extent(b.zmin, b.zmax),
+        sums::extent(b.zmin, b.zmax),
         raster,
     );
     let y = prism_on(
@@ -114,7 +107,7 @@ fn prism(vertices: &[f32], indices: &[u32], b: Bounds, cube: f32, raster: &mut [
         b.xmax,
         b.zmin,
         b.zmax,
-        extent(b.ymin, b.ymax),
+        sums::extent(b.ymin, b.ymax),
         raster,
     );
     let x = prism_on(
@@ -126,7 +119,7 @@ fn prism(vertices: &[f32], indices: &[u32], b: Bounds, cube: f32, raster: &mut [
         b.ymax,
         b.zmin,
         b.zmax,
-        extent(b.xmin, b.xmax),
+        sums::extent(b.xmin, b.xmax),
         raster,
     );
     let none = f32::from_bits(0x7f80_0000);

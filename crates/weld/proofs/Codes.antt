@@ -1,12 +1,12 @@
 -- A cell as three numbers: one to one, so that equal codes are equal cells. And where a search for a code starts. Assumes nothing.
 use mathlib.Core.Path.{_≡_, refl, ap}
-use mathlib.Core.Bool.{true, _&&_, false≢true}
+use mathlib.Core.Bool.{true, false≢true}
 use Prim.Native.Nat.{ℕ, _*_, _<_}
 use native.Mathlib.Omega.{arith}
 use borrow.Author.Tests.{eqb-true, eq-eqb}
 use lib.Dec.{eqb}
 use lib.IntN.{ℤ, pos, negsuc}
-use Rattle.ids.proofs.Same.{both}
+use Rattle.ids.proofs.Same.{three-eq, three-refl, eqb-refl}
 use Rattle.table.specs.Rows.{homeRow, Found}
 use Rattle.table.proofs.Search.{home-below}
 use Rattle.weld.specs.declared.Code.{Code}
@@ -34,13 +34,12 @@ code-one a b e = λ i. record {
 pub code-eq : (a b : Code) → sameCode a b ≡ true → a ≡ b
 unfolding sameCode
 code-eq a b h =
-    let w = both (eqb (a .x) (b .x)) (eqb (a .y) (b .y) && eqb (a .z) (b .z)) h in
-    let v = both (eqb (a .y) (b .y)) (eqb (a .z) (b .z)) (w .1) in
-    λ i. record { x = eqb-true (a .x) (b .x) (w .0) i; y = eqb-true (a .y) (b .y) (v .0) i; z = eqb-true (a .z) (b .z) (v .1) i }
+    let e = three-eq eqb eqb-true (a .x) (a .y) (a .z) (b .x) (b .y) (b .z) h in
+    λ i. record { x = e .0 i; y = e .1 i; z = e .2 i }
 
 pub code-refl : (a : Code) → sameCode a a ≡ true
 unfolding sameCode
-code-refl a = rw (eq-eqb (a .x) (a .x) refl, eq-eqb (a .y) (a .y) refl, eq-eqb (a .z) (a .z) refl)
+code-refl a = three-refl eqb eqb-refl (a .x) (a .y) (a .z)
 
 pub integer-eq : (a b : ℤ) → sameInteger a b ≡ true → a ≡ b
 unfolding sameInteger
@@ -57,13 +56,12 @@ integer-refl (negsuc n) = eq-eqb n n refl
 pub cell-eq : (a b : Cell) → sameCell a b ≡ true → a ≡ b
 unfolding sameCell
 cell-eq a b h =
-    let w = both (sameInteger (a .x) (b .x)) (sameInteger (a .y) (b .y) && sameInteger (a .z) (b .z)) h in
-    let v = both (sameInteger (a .y) (b .y)) (sameInteger (a .z) (b .z)) (w .1) in
-    λ i. record { x = integer-eq (a .x) (b .x) (w .0) i; y = integer-eq (a .y) (b .y) (v .0) i; z = integer-eq (a .z) (b .z) (v .1) i }
+    let e = three-eq sameInteger integer-eq (a .x) (a .y) (a .z) (b .x) (b .y) (b .z) h in
+    λ i. record { x = e .0 i; y = e .1 i; z = e .2 i }
 
 pub cell-refl : (a : Cell) → sameCell a a ≡ true
 unfolding sameCell
-cell-refl a = rw (integer-refl (a .x), integer-refl (a .y), integer-refl (a .z))
+cell-refl a = three-refl sameInteger integer-refl (a .x) (a .y) (a .z)
 
 -- ---- a search starts at a slot
 

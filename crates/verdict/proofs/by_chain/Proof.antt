@@ -6,7 +6,7 @@ use borrow.Author.Needs.{needs}
 use lib.ListN.{length}
 use Rattle.ids.specs.EdgeChain.{boundaryFree}
 use Rattle.vertices.specs.Vertices.{vertexCount}
-use Rattle.verdict.specs.Verdict.{chained, isFree, openUnlessFree}
+use Rattle.verdict.specs.Steps.{chained, isFree, openUnlessFree}
 use Rattle.verdict.proofs.Meaning.{free-is, by-given, by-welded}
 use Rattle.verdict.proofs.Parts.{asked-behind}
 use Rattle.verdict.proofs.by_chain.Statement.{statement}

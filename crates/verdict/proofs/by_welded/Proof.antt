@@ -3,7 +3,7 @@ use mathlib.Core.Path.{ap, _∙_}
 use borrow.Author.Needs.{needs}
 use lib.ListN.{length}
 use Rattle.vertices.specs.Vertices.{vertexCount}
-use Rattle.verdict.specs.Verdict.{openUnlessFree}
+use Rattle.verdict.specs.Steps.{openUnlessFree}
 use Rattle.verdict.proofs.Parts.{asked-behind}
 use Rattle.verdict.proofs.by_welded.Statement.{statement}
 use Rattle.verdict.proofs.by_welded.Tie as tie

@@ -1,25 +1,13 @@
--- The chain, by whether there are enough ids; and the part that is lent, cleared, as an empty table of edges. Assumes nothing.
+-- The part that is lent, cleared, is an empty table of edges. Assumes nothing.
 use mathlib.Core.Path.{_≡_}
-use mathlib.Core.Bool.{true, false}
 use mathlib.Core.List.{List, []}
 use Prim.Native.Nat.{ℕ, _*_, _/_, _≤_}
 use native.Mathlib.Omega.{arith}
 use lib.ListN.{length}
 use Rattle.ids.specs.Lent.{cleared}
 use Rattle.ids.proofs.Lent.{cleared-all}
-use Rattle.ids.specs.Triangles.{overTriangles}
-use Rattle.ids.specs.EdgeChain.{enough, chain}
 use Rattle.edges.specs.Rows.{EdgeTable}
-use Rattle.edges.specs.Tests.{edgesOf}
 use Rattle.edges.proofs.Tally.{zero-table}
-
-pub chain-all : (ids : List ℕ) → enough (length ids) ≡ true → chain ids ≡ overTriangles (edgesOf true) ids
-unfolding chain edgesOf
-chain-all ids e = rw e
-
-pub chain-none : (ids : List ℕ) → enough (length ids) ≡ false → chain ids ≡ []
-unfolding chain
-chain-none ids e = rw e
 
 -- the part, cleared, is a table with no use, and has the rows that the ids need
 pub emptied : (i n : ℕ) (t u : List ℕ) → i ≤ 98304 → length t ≡ 4 * i → n ≡ i * 4 / 3 → u ≡ cleared (4 * i) t → length u ≡ length t

@@ -1,5 +1,4 @@
--- Each contract leaves one answer; the chain by the number of ids; room for the face net's number; a cleared front as an empty table.
+-- Each contract leaves one answer; room for the face net's number; a cleared part as an empty table.
 pub mod Answers
 pub mod Numbers
 mod Chain
-mod Behind

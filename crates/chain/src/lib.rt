@@ -1,15 +1,13 @@
 // `EdgeChain`, `FaceNet`, `is_closed_manifold` and `winding_coherent`: what the verdict closed or open rests on. Each takes ids and a lent area,
-// and either refuses, with nothing changed, or answers and leaves zero in the words that it needs. The two forms that `verdict` asks, `_behind`,
-// find the ids in the area itself; they refuse nothing, and what they counted is left in front.
+// and either refuses, with nothing changed, or answers and leaves zero in the words that it needs.
 ghost use mathlib.Core.Path.{_≡_};
-ghost use Prim.Native.Nat.{ℕ, _+_, _-_, _*_, _≤_};
-ghost use lib.ListN.{length, take, drop, replicate};
-ghost use mathlib.Core.List.{List, []};
+ghost use Prim.Native.Nat.{_*_, _≤_};
+ghost use lib.ListN.{length, replicate};
+ghost use mathlib.Core.List.{[]};
 ghost use Rattle.ids.specs.Triangles.{triangleCount};
-ghost use Rattle.ids.specs.EdgeChain.{enough as enoughIds, chain, boundaryFree, overIncident, closedManifold, windingCoherent};
-ghost use Rattle.ids.specs.FaceNet.{faces, maxAbs, allCancel};
+ghost use Rattle.ids.specs.EdgeChain.{chain, boundaryFree, overIncident, closedManifold, windingCoherent};
+ghost use Rattle.ids.specs.FaceNet.{maxAbs, allCancel};
 ghost use Rattle.edges.specs.Rows.{EdgeTable};
-ghost use Rattle.faces.specs.Rows.{FaceTable};
 ghost use Rattle.chain.specs.Answers.{EdgeChainGiven, FaceNetGiven, ClosedManifoldGiven, WindingCoherentGiven};
 
 // What the edge chain answers.
@@ -27,66 +25,20 @@ pub enum FaceNet {
     Refused(u8),
 }
 
-// The same two answers where nothing is refused.
-pub struct Incidence {
-    pub boundary_free: bool,
-    pub over_incident: bool,
-}
-
-pub struct Net {
-    pub max_abs: u32,
-    pub all_cancel: bool,
-}
-
 // What the routines answer that say yes or no.
 pub enum Verdict {
     Answer(bool),
     Refused(u8),
 }
 
-// ---- what a table says
-
-// Counts the edges of the chain that are there, that are unbalanced and that have more than two uses.
-fn tally_edges(part: &[u32], n: usize) -> Incidence
-    requires { ⌜ (n ≤ 131072) × (3 * n ≤ length (now part)) ⌝ }
-    ensures { λ r. ⌜ ((ids : List ℕ) → EdgeTable n (now (part .entry)) (chain ids) → (r .«boundary_free» ≡ boundaryFree ids) × (r .«over_incident» ≡ overIncident ids)) ⌝ }
-{
-    let present = edges::count(part, n, edges::PRESENT);
-    let unbalanced = edges::count(part, n, edges::UNBALANCED);
-    let crowded = edges::count(part, n, edges::CROWDED);
-    Incidence {
-        boundary_free: (0 < present) & (unbalanced == 0),
-        over_incident: 0 < crowded,
-    }
-}
-
-// The largest magnitude of a face's sum, and whether all sums are 0.
-fn tally_faces(part: &[u32], n: usize) -> Net
-    requires { ⌜ (n ≤ 65536) × (2 * n ≤ length (now part)) ⌝ }
-    ensures { λ r. ⌜ ((ids : List ℕ) → FaceTable ids n (now (part .entry)) (faces ids) → (r .«max_abs» ≡ maxAbs ids) × (r .«all_cancel» ≡ allCancel ids)) ⌝ }
-{
-    let net = faces::net(part, n);
-    Net {
-        max_abs: net.max_abs,
-        all_cancel: net.off == 0,
-    }
-}
-
 // ---- over an area of just the words needed, which is zero afterwards
-
-// At least 9 ids, and 3 divides their number.
-fn enough(n: usize) -> bool
-    ensures { λ r. ⌜ r ≡ enoughIds n ⌝ }
-{
-    (9 <= n) & (n % 3 == 0)
-}
 
 // Adds the uses of the chain to an empty table: none unless there are enough ids.
 fn gather_chain(ids: &[u32], part: &mut [u32], n: usize)
     requires { ⌜ (length (now ids) ≤ 98304) × (length (now ids) ≤ n) × (n ≤ 131072) × (3 * n ≤ length (now part)) × EdgeTable n (now part) [] ⌝ }
     ensures { λ _. ⌜ EdgeTable n (now (part .exit)) (chain (now (ids .entry))) ⌝ }
 {
-    let go = enough(ids.len());
+    let go = tally::enough(ids.len());
     if go {
         edges::gather(ids, part, n, true);
     }
@@ -102,7 +54,7 @@ fn chain_in(ids: &[u32], part: &mut [u32]) -> EdgeChain
     let n = edges::rows(ids.len());
     table::clear(part, m);
     gather_chain(ids, part, n);
-    let said = tally_edges(part, n);
+    let said = tally::tally_edges(part, n);
     table::clear(part, m);
     EdgeChain::Answer {
         boundary_free: said.boundary_free,
@@ -121,7 +73,7 @@ fn manifold_in(ids: &[u32], part: &mut [u32]) -> bool
     edges::gather(ids, part, n, false);
     let unpaired = edges::count(part, n, edges::UNPAIRED);
     table::clear(part, m);
-    enough(ids.len()) & (unpaired == 0)
+    tally::enough(ids.len()) & (unpaired == 0)
 }
 
 // Counts the edges that are there, and those used neither once nor twice, once each way.
@@ -136,7 +88,7 @@ fn coherent_in(ids: &[u32], part: &mut [u32]) -> bool
     let present = edges::count(part, n, edges::PRESENT);
     let incoherent = edges::count(part, n, edges::INCOHERENT);
     table::clear(part, m);
-    enough(ids.len()) & ((0 < present) & (50 * incoherent <= present))
+    tally::enough(ids.len()) & ((0 < present) & (50 * incoherent <= present))
 }
 
 // Sums the faces.
@@ -149,50 +101,12 @@ fn net_in(ids: &[u32], part: &mut [u32]) -> FaceNet
     let m = 4 * (ids.len() / 3);
     table::clear(part, m);
     faces::gather(ids, part, n);
-    let said = tally_faces(part, n);
+    let said = tally::tally_faces(part, n);
     table::clear(part, m);
     FaceNet::Answer {
         max_abs: said.max_abs,
         all_cancel: said.all_cancel,
     }
-}
-
-// ---- where the ids stand in the lent area itself: from `at` on, and in front of them the words of the table
-
-// Adds the uses of the chain to an empty table: none unless there are enough ids.
-fn gather_chain_behind(area: &mut [u32], at: usize, n: usize)
-    requires { ⌜ (at ≤ length (now area)) × (length (now area) ≤ at + 98304) × (length (now area) - at ≤ n) × (n ≤ 131072) × (3 * n ≤ at) × EdgeTable n (take at (now area)) [] ⌝ }
-    ensures { λ _. ⌜ EdgeTable n (take at (now (area .exit))) (chain (drop at (now (area .entry)))) × (drop at (now (area .exit)) ≡ drop at (now (area .entry))) ⌝ }
-{
-    let go = enough(area.len() - at);
-    if go {
-        edges::gather_behind(area, at, n);
-    }
-}
-
-// Is the chain of these ids boundary-free, is it over-incident? The ids stay.
-pub fn chain_behind(area: &mut [u32], at: usize) -> Incidence
-    requires { ⌜ (at ≤ length (now area)) × (length (now area) ≤ at + 98304) × (4 * (length (now area) - at) ≤ at) ⌝ }
-    ensures { λ r. ⌜ (r .«boundary_free» ≡ boundaryFree (drop at (now (area .entry)))) × (r .«over_incident» ≡ overIncident (drop at (now (area .entry))))
-        × (drop at (now (area .exit)) ≡ drop at (now (area .entry))) ⌝ }
-{
-    let i = area.len() - at;
-    let n = edges::rows(i);
-    table::clear(area, 4 * i);
-    gather_chain_behind(area, at, n);
-    tally_edges(&area[..at], n)
-}
-
-// The face net of these ids. They stay.
-pub fn net_behind(area: &mut [u32], at: usize) -> Net
-    requires { ⌜ (at ≤ length (now area)) × (length (now area) ≤ at + 98304) × (4 * triangleCount (drop at (now area)) ≤ at) ⌝ }
-    ensures { λ r. ⌜ (r .«max_abs» ≡ maxAbs (drop at (now (area .entry)))) × (r .«all_cancel» ≡ allCancel (drop at (now (area .entry))))
-        × (drop at (now (area .exit)) ≡ drop at (now (area .entry))) ⌝ }
-{
-    let n = 2 * ((area.len() - at) / 3);
-    table::clear(area, 2 * n);
-    faces::gather_behind(area, at, n);
-    tally_faces(&area[..at], n)
 }
 
 // ---- the public routines

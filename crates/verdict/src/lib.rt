@@ -48,7 +48,7 @@ fn by_faces(area: &mut [u32], at: usize, over_incident: bool, near: bool) -> Qua
     if !(over_incident | near) {
         return Quality::Closed;
     }
-    let net = chain::net_behind(area, at);
+    let net = tally::net_behind(area, at);
     if 2 <= net.max_abs {
         return Quality::OpenShell;
     }
@@ -64,7 +64,7 @@ fn by_ids(work: &mut [u32], i: usize, at: usize, near: bool) -> Chained
     ensures { λ r. ⌜ r ≡ chained (drop at (now (work .entry))) near ⌝ }
 {
     let e = 4 * i;
-    let edges = chain::chain_behind(work, at);
+    let edges = tally::chain_behind(work, at);
     if !edges.boundary_free {
         return Chained::Boundary;
     }

@@ -1,6 +1,6 @@
 -- `chain::gather_chain` meets its contract: with enough ids the table means the uses of all triangles, else none. Assumes nothing.
 use mathlib.Core.Path.{sym, _∙_}
-use Rattle.chain.proofs.Chain.{chain-all, chain-none}
+use Rattle.tally.proofs.Chain.{chain-all, chain-none}
 use borrow.Author.Needs.{needs}
 use Rattle.chain.proofs.gather_chain.Statement.{statement}
 use Rattle.chain.proofs.gather_chain.Tie as tie

@@ -1,4 +1,4 @@
--- `chain::net_behind` meets its contract: the cleared front is an empty table, and the ids stay under all that is written. Assumes nothing.
+-- `tally::net_behind` meets its contract: the cleared front is an empty table, and the ids stay under all that is written. Assumes nothing.
 use mathlib.Core.Path.{refl, sym, _∙_}
 use Prim.Native.Nat.{ℕ, _-_, _*_, _/_, _≤_}
 use native.Mathlib.Omega.{arith}
@@ -6,9 +6,9 @@ use borrow.Author.Needs.{needs}
 use lib.ListN.{length, drop, length-drop}
 use lib.Seq.{length-take-le}
 use Rattle.table.proofs.Cleared.{behind-kept}
-use Rattle.chain.proofs.Behind.{empty-faces}
-use Rattle.chain.proofs.net_behind.Statement.{statement}
-use Rattle.chain.proofs.net_behind.Tie as tie
+use Rattle.tally.proofs.Behind.{empty-faces}
+use Rattle.tally.proofs.net_behind.Statement.{statement}
+use Rattle.tally.proofs.net_behind.Tie as tie
 
 sub-n : tie.Need-sub-n
 sub-n c = search needs

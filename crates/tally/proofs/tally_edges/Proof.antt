@@ -1,11 +1,11 @@
--- `chain::tally_edges` meets its contract: what the three counts say of the rows is what document 01 asks of the edges. Assumes nothing.
+-- `tally::tally_edges` meets its contract: what the three counts say of the rows is what document 01 asks of the edges. Assumes nothing.
 use mathlib.Core.Path.{_≡_, _∙_}
 use borrow.Author.Needs.{needs}
 use Rattle.ids.specs.EdgeChain.{chain, edgesThat, present, unbalanced, crowded, boundaryFree, overIncident}
 use Rattle.edges.specs.Tests.{testOf}
 use Rattle.edges.proofs.Tally.{table-tally}
-use Rattle.chain.proofs.tally_edges.Statement.{statement}
-use Rattle.chain.proofs.tally_edges.Tie as tie
+use Rattle.tally.proofs.tally_edges.Statement.{statement}
+use Rattle.tally.proofs.tally_edges.Tie as tie
 
 count-requires : tie.Need-count-requires
 count-requires c κs = search needs

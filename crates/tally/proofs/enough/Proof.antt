@@ -1,8 +1,8 @@
--- `chain::enough` meets its contract: its test is the definition's. Assumes nothing.
+-- `tally::enough` meets its contract: its test is the definition's. Assumes nothing.
 use mathlib.Core.Path.{refl}
 use Rattle.ids.specs.EdgeChain.{enough}
-use Rattle.chain.proofs.enough.Statement.{statement}
-use Rattle.chain.proofs.enough.Tie as tie
+use Rattle.tally.proofs.enough.Statement.{statement}
+use Rattle.tally.proofs.enough.Tie as tie
 
 returns : tie.Need-returns
 unfolding enough

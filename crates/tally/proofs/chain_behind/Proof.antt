@@ -1,4 +1,4 @@
--- `chain::chain_behind` meets its contract: the cleared front is an empty table, and the ids stay under all that is written. Assumes nothing.
+-- `tally::chain_behind` meets its contract: the cleared front is an empty table, and the ids stay under all that is written. Assumes nothing.
 use mathlib.Core.Path.{sym, _∙_}
 use Prim.Native.Nat.{_-_, _*_}
 use native.Mathlib.Omega.{arith}
@@ -6,9 +6,9 @@ use borrow.Author.Needs.{needs}
 use lib.ListN.{length, drop}
 use lib.Seq.{length-take-le}
 use Rattle.table.proofs.Cleared.{behind-kept}
-use Rattle.chain.proofs.Behind.{empty-edges}
-use Rattle.chain.proofs.chain_behind.Statement.{statement}
-use Rattle.chain.proofs.chain_behind.Tie as tie
+use Rattle.tally.proofs.Behind.{empty-edges}
+use Rattle.tally.proofs.chain_behind.Statement.{statement}
+use Rattle.tally.proofs.chain_behind.Tie as tie
 
 sub-i : tie.Need-sub-i
 sub-i c = search needs

@@ -1,11 +1,11 @@
--- `chain::gather_chain_behind` meets its contract: with enough ids the table means the uses of all triangles, else none. Assumes nothing.
+-- `tally::gather_chain_behind` meets its contract: with enough ids the table means the uses of all triangles, else none. Assumes nothing.
 use mathlib.Core.Path.{refl, sym, ap, _∙_}
 use borrow.Author.Needs.{needs}
 use lib.ListN.{drop, length-drop}
 use Rattle.ids.specs.EdgeChain.{enough}
-use Rattle.chain.proofs.Chain.{chain-all, chain-none}
-use Rattle.chain.proofs.gather_chain_behind.Statement.{statement}
-use Rattle.chain.proofs.gather_chain_behind.Tie as tie
+use Rattle.tally.proofs.Chain.{chain-all, chain-none}
+use Rattle.tally.proofs.gather_chain_behind.Statement.{statement}
+use Rattle.tally.proofs.gather_chain_behind.Tie as tie
 
 sub-enough : tie.Need-sub-enough
 sub-enough c = search needs

@@ -1,8 +1,8 @@
--- `chain::tally_faces` meets its contract: what `faces::net` reads off the rows is the largest magnitude, and whether all sums are 0. Assumes nothing.
+-- `tally::tally_faces` meets its contract: what `faces::net` reads off the rows is the largest magnitude, and whether all sums are 0. Assumes nothing.
 use borrow.Author.Needs.{needs}
 use Rattle.faces.proofs.Answers.{net-max, net-off}
-use Rattle.chain.proofs.tally_faces.Statement.{statement}
-use Rattle.chain.proofs.tally_faces.Tie as tie
+use Rattle.tally.proofs.tally_faces.Statement.{statement}
+use Rattle.tally.proofs.tally_faces.Tie as tie
 
 net-requires : tie.Need-net-requires
 net-requires c κs = search needs

@@ -1,3 +1,2 @@
--- The number and the words of a record, and the profile of a number.
+-- The number and the words of a record.
 pub mod Numbered
-mod Profiles

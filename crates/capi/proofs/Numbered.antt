@@ -10,13 +10,13 @@ use Rattle.ids.specs.Lent.{cleared}
 use Rattle.record.specs.declared.MeshQto.{MeshQto}
 use Rattle.record.specs.declared.Profile.{Profile}
 use Rattle.record.specs.Flags.{flagged}
-use Rattle.record.specs.Numbers.{profileAt}
+use Rattle.record.specs.Numbers.{profileAt, flagsFit}
 use Rattle.qto.specs.declared.Answer.{Answer}
 use Rattle.qto.specs.declared.Check.{Check}
 use Rattle.qto.specs.Refusals.{checkOf, first, workWords, rasterBytes}
 use Rattle.qto.specs.Full.{recordOf, surfacesAfter}
 use Rattle.qto.specs.Compute.{answerAt, areaAt, Computes}
-use Rattle.qto.specs.Numbers.{wordsOf, flagsFit, withFlags, numberAt, wordsAt, checkFlags, ComputesNumbered}
+use Rattle.qto.specs.Numbers.{wordsOf, withFlags, numberAt, wordsAt, checkFlags, ComputesNumbered}
 
 -- ---- an answer as a number and as words
 

@@ -1,7 +1,7 @@
 // The record under the name of the C interface: `compute` with its flags, and the answer as a number and 17 words.
 ghost use mathlib.Core.Path.{_≡_};
-ghost use Rattle.record.specs.Numbers.{qualityNumber, methodNumber, defectNumber, profileNumber, profileAt, prismNumber, prismBits};
-ghost use Rattle.qto.specs.Numbers.{wordsOf, flagsFit, ComputesNumbered};
+ghost use Rattle.record.specs.Numbers.{qualityNumber, methodNumber, defectNumber, profileNumber, prismNumber, prismBits};
+ghost use Rattle.qto.specs.Numbers.{wordsOf, ComputesNumbered};
 use crate::ids_c::REFUSED;
 use qto::Answer;
 use record::MeshQto;
@@ -75,28 +75,6 @@ fn prism_bits(prism: PrismBound) -> u32
     }
 }
 
-// ---- flags
-
-// Is clip 0 or 1, and defect 0 to 4?
-fn flags_fit(clip: u32, defect: u32) -> bool
-    ensures { λ r. ⌜ r ≡ flagsFit clip defect ⌝ }
-{
-    (clip <= 1) & (defect <= 4)
-}
-
-// The profile of a number: 0 is valid, and all from 4 are the last defect.
-fn profile_of(defect: u32) -> Profile
-    ensures { λ r. ⌜ r ≡ profileAt defect ⌝ }
-{
-    match defect {
-        0 => Profile::Valid,
-        1 => Profile::Invalid(ProfileDefect::SelfIntersecting),
-        2 => Profile::Invalid(ProfileDefect::Degenerate),
-        3 => Profile::Invalid(ProfileDefect::HoleOutside),
-        _ => Profile::Invalid(ProfileDefect::Overlapping),
-    }
-}
-
 // ---- the record as words
 
 fn record_words(q: MeshQto) -> [u32; 17]
@@ -143,13 +121,13 @@ pub extern "C" fn mf_compute(
     ensures { λ n. ⌜ ComputesNumbered (now (vertices .entry)) (now (ids .entry)) unit clip defect (now (work .entry)) (now (raster .entry)) (now (surfaces .entry)) (now («record» .entry))
         n (now (work .exit)) (now (raster .exit)) (now (surfaces .exit)) (now («record» .exit)) ⌝ }
 {
-    if !flags_fit(clip, defect) {
+    if !record::flags_fit(clip, defect) {
         return REFUSED + 5;
     }
     let answer = qto::compute(vertices, ids, unit, work, raster, surfaces);
     match answer {
         Answer::Record(q) => {
-            let flagged = qto::apply_product_flags(q, clip == 1, profile_of(defect));
+            let flagged = qto::apply_product_flags(q, clip == 1, record::profile_of(defect));
             *record = record_words(flagged);
             0
         }

@@ -11,7 +11,7 @@ use Rattle.ids.specs.Uses.{bit}
 use Rattle.record.specs.declared.MeshQto.{MeshQto}
 use Rattle.record.specs.Record.{zeroRecord}
 use Rattle.record.specs.Flags.{flagged}
-use Rattle.record.specs.Numbers.{qualityNumber, methodNumber, profileNumber, profileAt, prismNumber, prismBits}
+use Rattle.record.specs.Numbers.{qualityNumber, methodNumber, profileNumber, profileAt, prismNumber, prismBits, flagsFit}
 use Rattle.qto.specs.declared.Check.{Check}
 use Rattle.qto.specs.Refusals.{checkOf, first, workWords, rasterBytes}
 use Rattle.qto.specs.Full.{recordOf, surfacesAfter}
@@ -38,10 +38,6 @@ wordsOf q =
     ∷ prismBits (q .«volume_prism_bound_m3»)
     ∷ q .«surface_count»
     ∷ []
-
--- clip is 0 or 1, defect 0 to 4
-unfoldable pub flagsFit : ℕ → ℕ → Bool
-flagsFit clip defect = leb clip 1 && leb defect 4
 
 abbrev pub withFlags : ℕ → ℕ → MeshQto → MeshQto
 withFlags clip defect q = flagged (eqb clip 1) (profileAt defect) q

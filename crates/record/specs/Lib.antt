@@ -1,4 +1,5 @@
--- The record, its zero form, its flags, and document 01's numbers for each of its enums.
+-- The record, its zero form, its flags, and names and numbers for each of its enums.
 pub mod Record
 pub mod Flags
 pub mod Numbers
+pub mod Names

@@ -1,5 +1,7 @@
 -- Document 01's numbers for the cases of each enum, as the C interface has them.
 use Prim.Native.Nat.{ℕ, zero, suc}
+use mathlib.Core.Bool.{Bool, _&&_}
+use lib.Dec.{leb}
 use lib.Ieee.{binary32, toBits}
 use Rattle.verdict.specs.declared.Quality.{Quality}
 use Rattle.volume.specs.declared.Method.{Method}
@@ -46,3 +48,7 @@ profileAt (suc zero) = Profile.Invalid ProfileDefect.SelfIntersecting
 profileAt (suc (suc zero)) = Profile.Invalid ProfileDefect.Degenerate
 profileAt (suc (suc (suc zero))) = Profile.Invalid ProfileDefect.HoleOutside
 profileAt (suc (suc (suc (suc n)))) = Profile.Invalid ProfileDefect.Overlapping
+
+-- flag values: clip is 0 or 1, defect 0 to 4
+unfoldable pub flagsFit : ℕ → ℕ → Bool
+flagsFit clip defect = leb clip 1 && leb defect 4

@@ -1,6 +1,7 @@
 // The record, `MeshQto`, and its flags: each takes a record and hands one back. The names are 000's.
 ghost use mathlib.Core.Path.{_≡_};
 ghost use Rattle.record.specs.Record.{zeroRecord};
+ghost use Rattle.record.specs.Numbers.{flagsFit, profileAt};
 ghost use Rattle.record.specs.Flags.{relabelled as relabelledTo, marked as markedBy, clipUnapplied, profileInvalid, ifClip, ifInvalid, flagged};
 use verdict::Quality;
 use volume::Method;
@@ -145,4 +146,26 @@ pub fn apply_product_flags(q: MeshQto, clip: bool, profile: Profile) -> MeshQto
     ensures { λ r. ⌜ r ≡ flagged clip profile q ⌝ }
 {
     if_invalid(if_clip(q, clip), profile)
+}
+
+// ---- flags as numbers
+
+// Is clip 0 or 1, and defect 0 to 4?
+pub fn flags_fit(clip: u32, defect: u32) -> bool
+    ensures { λ r. ⌜ r ≡ flagsFit clip defect ⌝ }
+{
+    (clip <= 1) & (defect <= 4)
+}
+
+// The profile of a number: 0 is valid, and all from 4 are the last defect.
+pub fn profile_of(defect: u32) -> Profile
+    ensures { λ r. ⌜ r ≡ profileAt defect ⌝ }
+{
+    match defect {
+        0 => Profile::Valid,
+        1 => Profile::Invalid(ProfileDefect::SelfIntersecting),
+        2 => Profile::Invalid(ProfileDefect::Degenerate),
+        3 => Profile::Invalid(ProfileDefect::HoleOutside),
+        _ => Profile::Invalid(ProfileDefect::Overlapping),
+    }
 }

@@ -1,0 +1,5 @@
+-- Texts put one behind the other.
+mod Puts
+mod Digits
+mod Rows
+pub mod Outcomes

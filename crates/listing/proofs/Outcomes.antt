@@ -1,0 +1,48 @@
+-- What comes back, by whether the areas are too short; and that it is one thing only. Assumes nothing.
+use mathlib.Core.Path.{_≡_, refl, sym, ap, _∙_}
+use mathlib.Core.Bool.{Bool, true, false, _||_, true≢false}
+use mathlib.Core.List.{List, _++_}
+use Prim.Native.Nat.{ℕ, _+_, _*_, _≤_}
+use native.Mathlib.Omega.{arith}
+use native.Mathlib.Nat.{zero-add}
+use borrow.Author.Tests.{ltb-false}
+use lib.Dec.{ltb}
+use lib.ListN.{length, drop}
+use lib.Ieee.{Float}
+use Rattle.record.specs.declared.MeshQto.{MeshQto}
+use Rattle.listing.specs.declared.Listed.{Listed}
+use Rattle.listing.specs.Listing.{refusedLine}
+use Rattle.listing.specs.Lists.{textBytes, areasShort, listedAs, areaWith, listingFor, Lists, ListsRefusal}
+use Rattle.listing.specs.Steps.{written, Puts}
+
+-- ---- too short, or not
+
+neither : (a b : Bool) → a || b ≡ false → (a ≡ false) × (b ≡ false)
+neither true b h = absurd (true≢false h)
+neither false b h = (refl, h)
+
+pub areas-fit : (n s t : ℕ) → areasShort n s t ≡ false → (4 * n ≤ s) × (320 + 36 * n ≤ t)
+unfolding textBytes
+areas-fit n s t h =
+    let e = neither (ltb s (4 * n)) (ltb t (320 + 36 * n)) h in
+    (ltb-false s (4 * n) (e .0), ltb-false t (320 + 36 * n) (e .1))
+
+-- ---- what comes back
+
+module _ (short : Bool) (text area : List ℕ) where
+  pub when-short : short ≡ true → (Listed.Refused 3 ≡ listedAs short text) × (area ≡ areaWith short text area)
+  unfolding listedAs areaWith
+  when-short h = rw h (refl, refl)
+
+  pub when-put : short ≡ false → (r : ℕ) (area′ : List ℕ) → Puts 0 text area r area′ → (Listed.Length r ≡ listedAs short text) × (area′ ≡ areaWith short text area)
+  unfolding listedAs areaWith written
+  when-put h r area′ p = rw h (ap Listed.Length (p .place ∙ zero-add (length text)), p .later ∙ ap (λ (n : ℕ). text ++ drop n area) (zero-add (length text)))
+
+-- ---- any two answers that the contract allows are equal, and so is what is left in the area
+
+pub list-one : (q : MeshQto) (s : List Float) (pieces : ℕ) (area : List ℕ) (r₁ r₂ : Listed) (area₁ area₂ : List ℕ) → Lists q s pieces area r₁ area₁ → Lists q s pieces area r₂ area₂
+    → (r₁ ≡ r₂) × (area₁ ≡ area₂)
+list-one q s pieces area r₁ r₂ area₁ area₂ x y = (x .answers ∙ sym (y .answers), x .text ∙ sym (y .text))
+
+pub list-refusal-one : (n : ℕ) (area : List ℕ) (r₁ r₂ : Listed) (area₁ area₂ : List ℕ) → ListsRefusal n area r₁ area₁ → ListsRefusal n area r₂ area₂ → (r₁ ≡ r₂) × (area₁ ≡ area₂)
+list-refusal-one n area r₁ r₂ area₁ area₂ x y = (x .answers ∙ sym (y .answers), x .text ∙ sym (y .text))

@@ -1,0 +1,22 @@
+-- `listing::areas_short` meets its contract: the tests are the definition's. Assumes nothing.
+use mathlib.Core.Path.{refl}
+use borrow.Author.Needs.{needs}
+use Rattle.listing.specs.Lists.{textBytes}
+use Rattle.listing.proofs.areas_short.Statement.{statement}
+use Rattle.listing.proofs.areas_short.Tie as tie
+
+mul-result : tie.Need-mul-result
+mul-result c = search needs
+
+mul-result-2 : tie.Need-mul-result-2
+mul-result-2 c = search needs
+
+add-result : tie.Need-add-result
+add-result c = search needs
+
+returns : tie.Need-returns
+unfolding textBytes
+returns c = refl
+
+pub areas-short-spec : {M : Type 1} → statement M
+areas-short-spec = tie.close (tie.spec mul-result mul-result-2 add-result returns)

@@ -1,0 +1,49 @@
+-- `listing::bound_lines` meets its contract: its lines, one behind the other. Assumes nothing.
+use borrow.Author.Needs.{needs}
+use Rattle.listing.specs.Text.{line}
+use Rattle.listing.specs.Listing.{boundLines}
+use Rattle.listing.proofs.Puts.{puts-both}
+use Rattle.listing.proofs.bound_lines.Statement.{statement}
+use Rattle.listing.proofs.bound_lines.Tie as tie
+
+slice-aggregate-number-line : tie.Need-slice-aggregate-number-line
+slice-aggregate-number-line c = search needs
+
+number-line-requires : tie.Need-number-line-requires
+number-line-requires c κs = search needs
+
+slice-aggregate-number-line-2 : tie.Need-slice-aggregate-number-line-2
+slice-aggregate-number-line-2 c = search needs
+
+number-line-requires-2 : tie.Need-number-line-requires-2
+number-line-requires-2 c κs = search needs
+
+slice-aggregate-number-line-3 : tie.Need-slice-aggregate-number-line-3
+slice-aggregate-number-line-3 c = search needs
+
+number-line-requires-3 : tie.Need-number-line-requires-3
+number-line-requires-3 c κs = search needs
+
+prism-line-requires : tie.Need-prism-line-requires
+prism-line-requires c κs = search needs
+
+same-length : tie.Need-same-length
+same-length c = search needs
+
+returns : tie.Need-returns
+unfolding line boundLines
+returns c = (puts-both (c .before .before .before .before .before .before .before .before .before .before .before .before .before .before .before .before .number-line .ensures .0) (puts-both (c .before .before .before .before .before .before .before .before .before .before .before .number-line2 .ensures .0) (puts-both (c .before .before .before .before .before .before .number-line3 .ensures .0) (c .before .before .prism-line .ensures .0) (search needs)) (search needs)) (search needs), search needs)
+
+pub bound-lines-spec : {M : Type 1} → statement M
+bound-lines-spec =
+    tie.close
+    (tie.spec
+    slice-aggregate-number-line
+    number-line-requires
+    slice-aggregate-number-line-2
+    number-line-requires-2
+    slice-aggregate-number-line-3
+    number-line-requires-3
+    prism-line-requires
+    same-length
+    returns)

@@ -1,0 +1,37 @@
+-- `listing::count_lines` meets its contract: its lines, one behind the other. Assumes nothing.
+use borrow.Author.Needs.{needs}
+use Rattle.listing.specs.Text.{line}
+use Rattle.listing.specs.Listing.{countLines}
+use Rattle.listing.proofs.Puts.{puts-both}
+use Rattle.listing.proofs.count_lines.Statement.{statement}
+use Rattle.listing.proofs.count_lines.Tie as tie
+
+slice-aggregate-count-line : tie.Need-slice-aggregate-count-line
+slice-aggregate-count-line c = search needs
+
+count-line-requires : tie.Need-count-line-requires
+count-line-requires c κs = search needs
+
+slice-aggregate-count-line-2 : tie.Need-slice-aggregate-count-line-2
+slice-aggregate-count-line-2 c = search needs
+
+count-line-requires-2 : tie.Need-count-line-requires-2
+count-line-requires-2 c κs = search needs
+
+same-length : tie.Need-same-length
+same-length c = search needs
+
+returns : tie.Need-returns
+unfolding line countLines
+returns c = (puts-both (c .before .before .before .before .before .before .before .count-line .ensures .0) (c .before .before .count-line2 .ensures .0) (search needs), search needs)
+
+pub count-lines-spec : {M : Type 1} → statement M
+count-lines-spec =
+    tie.close
+    (tie.spec
+    slice-aggregate-count-line
+    count-line-requires
+    slice-aggregate-count-line-2
+    count-line-requires-2
+    same-length
+    returns)

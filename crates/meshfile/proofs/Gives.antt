@@ -1,0 +1,104 @@
+-- What reading gives: a fault, too short an area, or both areas filled. Assumes nothing.
+use mathlib.Core.Path.{_≡_, refl, sym, ap, _∙_}
+use mathlib.Core.Bool.{Bool, true, false, _||_}
+use mathlib.Core.List.{List, [], _∷_, _++_}
+use Prim.Native.Nat.{ℕ, suc, _+_, _*_, _-_, _/_, _≤_}
+use native.Mathlib.Omega.{arith}
+use borrow.Author.Tests.{ltb-false}
+use lib.Dec.{eqb, ltb}
+use lib.Ieee.{Float, binary32, ofBits}
+use lib.ListN.{length, take, drop, length-drop, length-take}
+use lib.Seq.{length-take-le}
+use Rattle.record.specs.declared.Profile.{Profile}
+use Rattle.record.specs.Numbers.{profileAt}
+use Rattle.meshfile.specs.declared.Layout.{Layout}
+use Rattle.meshfile.specs.declared.MeshFile.{MeshFile}
+use Rattle.meshfile.specs.declared.Parts.{Parts}
+use Rattle.meshfile.specs.declared.Reading.{Reading}
+use Rattle.meshfile.specs.Format.{word, words, fileOf, File}
+use Rattle.meshfile.specs.Reading.{floatsOf, areasShort, unlessShort, readingOf, floatsAfter, idsAfter, Reads}
+use Rattle.meshfile.specs.Steps.{layoutOf, contentsAt, Fits, Filled}
+use Rattle.meshfile.proofs.Layouts.{inside, file-holds, file-refused}
+
+pub length-words : (l : List ℕ) → length (words l) ≡ length l / 4
+unfolding words
+length-words [] = refl
+length-words (a ∷ []) = refl
+length-words (a ∷ b ∷ []) = refl
+length-words (a ∷ b ∷ c ∷ []) = refl
+length-words (a ∷ b ∷ c ∷ d ∷ l) = omega (arith, length-words l)
+
+-- a part of the bytes is as long as was asked, and so are its words
+pub part-length : (k n : ℕ) (bytes : List ℕ) → k + n ≤ length bytes → length (take n (drop k bytes)) ≡ n
+part-length k n bytes h = length-take-le n (drop k bytes) (omega (arith, length-drop k bytes))
+
+pub part-words : (k n : ℕ) (bytes : List ℕ) → k + 4 * n ≤ length bytes → length (words (take (4 * n) (drop k bytes))) ≡ n
+part-words k n bytes h = omega (arith, length-words (take (4 * n) (drop k bytes)), part-length k (4 * n) bytes h)
+
+-- as it is lent, up to its end
+pub part-is : (k n : ℕ) (bytes : List ℕ) → take (k + n - k) (drop k bytes) ≡ take n (drop k bytes)
+part-is k n bytes =
+    let e : k + n - k ≡ n = omega arith in
+    rw e
+
+-- what is lent of bytes and area fits together
+pub lent-fits : {A : Type 0} (k n : ℕ) (bytes : List ℕ) (area : List A) → k + 4 * n ≤ length bytes → n ≤ length area
+    → length (take (k + 4 * n - k) (drop k bytes)) ≡ 4 * length (take n area)
+lent-fits k n bytes area h r = ap length (part-is k (4 * n) bytes) ∙ part-length k (4 * n) bytes h ∙ ap (λ (m : ℕ). 4 * m) (sym (length-take-le n area r))
+
+neither : (a b : Bool) → (a || b) ≡ false → (a ≡ false) × (b ≡ false)
+neither true b q = let y : _≡_ {A = ℕ} 0 1 = cc in absurd (omega arith)
+neither false b q = (refl, q)
+
+-- a fault
+pub refused : (bytes : List ℕ) (vs : List Float) (ids : List ℕ) (n : ℕ) (l : Layout) → l ≡ layoutOf bytes → l ≡ Layout.Fault n → Reads bytes vs ids (Reading.Refused n) vs ids
+unfolding readingOf floatsAfter idsAfter
+refused bytes vs ids n l e h =
+    let at = file-refused bytes n l e h in
+    record { answers = rw at; floats = rw at; ids-after = rw at }
+
+module _ (bytes : List ℕ) (p : Parts) (vs : List Float) (ids : List ℕ) where
+  pub filled : 22 + 4 * p .floats + 4 * p .ids ≤ length bytes → (w : ℕ) (u : Float) (profile : Profile) (front : List Float) (words′ : List ℕ)
+      → w ≡ word bytes 6 → u ≡ ofBits binary32 w → profile ≡ profileAt (p .defect)
+      → front ≡ floatsOf (words (take (16 + 4 * p .floats - 16) (drop 16 bytes)))
+      → words′ ≡ words (take (22 + 4 * p .floats + 4 * p .ids - (22 + 4 * p .floats)) (drop (22 + 4 * p .floats) bytes))
+      → Filled (contentsAt bytes p) vs ids (record { unit = u; floats = p .floats; ids = p .ids; clip = eqb (p .clip) 1; profile = profile }) (front ++ drop (p .floats) vs) (words′ ++ drop (p .ids) ids)
+  unfolding contentsAt
+  filled h w u profile front words′ ew eu ep ef ei =
+      let f = p .floats in
+      let i = p .ids in
+      let lf : length (words (take (4 * f) (drop 16 bytes))) ≡ f = part-words 16 f bytes (omega arith) in
+      let li : length (words (take (4 * i) (drop (22 + 4 * f) bytes))) ≡ i = part-words (22 + 4 * f) i bytes h in
+      record {
+        answers = rw (lf, li, ep, eu, ew);
+        floats = rw (lf, ef, part-is 16 (4 * f) bytes);
+        ids-after = rw (li, ei, part-is (22 + 4 * f) (4 * i) bytes);
+      }
+
+  -- too short an area, or not
+  module _ (l : Layout) (e : l ≡ layoutOf bytes) (h : l ≡ Layout.Whole p) where
+    short-is : (b : Bool) → (ltb (length vs) (p .floats) || ltb (length ids) (p .ids)) ≡ b → areasShort (contentsAt bytes p) (length vs) (length ids) ≡ b
+    unfolding areasShort contentsAt
+    short-is b q =
+        let room = inside bytes p l e h in
+        rw (part-words 16 (p .floats) bytes (omega arith), part-words (22 + 4 * p .floats) (p .ids) bytes room) q
+
+    pub short : (ltb (length vs) (p .floats) || ltb (length ids) (p .ids)) ≡ true → Reads bytes vs ids (Reading.Refused 3) vs ids
+    unfolding readingOf floatsAfter idsAfter unlessShort
+    short q =
+        let at = file-holds bytes p l e h in
+        let s = short-is true q in
+        record { answers = rw (at, s); floats = rw (at, s); ids-after = rw (at, s) }
+
+    pub given : (ltb (length vs) (p .floats) || ltb (length ids) (p .ids)) ≡ false → (r : MeshFile) (vs′ : List Float) (ids′ : List ℕ) → Filled (contentsAt bytes p) vs ids r vs′ ids′
+        → Reads bytes vs ids (Reading.File r) vs′ ids′
+    unfolding readingOf floatsAfter idsAfter unlessShort
+    given q r vs′ ids′ x =
+        let at = file-holds bytes p l e h in
+        let s = short-is false q in
+        record { answers = rw (at, s) (ap Reading.File (x .answers)); floats = rw (at, s) (x .floats); ids-after = rw (at, s) (x .ids-after) }
+
+    pub fits : (ltb (length vs) (p .floats) || ltb (length ids) (p .ids)) ≡ false → Fits p (length bytes) (length vs) (length ids)
+    fits q =
+        let both = neither (ltb (length vs) (p .floats)) (ltb (length ids) (p .ids)) q in
+        record { inside = inside bytes p l e h; floats-room = ltb-false _ _ (both .0); ids-room = ltb-false _ _ (both .1) }

@@ -1,0 +1,6 @@
+-- Fronts of records, where everything stands, the words that are put, what reading gives, and the format from the writer's side.
+mod Fronts
+mod Words
+mod Layouts
+mod Gives
+pub mod Most

@@ -1,0 +1,67 @@
+-- `meshfile::put_floats` meets its contract: the words put and those to come are the payload's. Assumes nothing.
+use mathlib.Core.Path.{_≡_, refl, _∙_}
+use Prim.Native.Nat.{_≤_, _-_}
+use native.Mathlib.Omega.{arith}
+use borrow.Author.Needs.{needs}
+use lib.Ieee.{binary32, ofBits}
+use lib.ListN.{length}
+use Rattle.meshfile.proofs.Words.{floats-map, Put, put-none, put-next, put-all}
+use Rattle.meshfile.proofs.put_floats.Statement.{statement}
+use Rattle.meshfile.proofs.put_floats.Tie as tie
+
+abbrev Inv-loop : tie.InvT-loop
+Inv-loop bytes vertices₀ i₀ vertices i = (i ≤ length vertices₀) × (length vertices ≡ length vertices₀) × Put (ofBits binary32) bytes i vertices
+
+abbrev μ-loop : tie.MeasureT-loop
+μ-loop bytes vertices₀ i₀ vertices i = length vertices₀ - i
+
+loop-holds : tie.Need-loop-holds Inv-loop μ-loop
+loop-holds c = (omega arith, refl, put-none (ofBits binary32) (c .before .before .args .bytes .now) (c .before .before .args .vertices .now))
+
+mul-word : tie.Need-mul-word Inv-loop μ-loop
+mul-word c = search needs
+
+word-requires : tie.Need-word-requires Inv-loop μ-loop
+word-requires c κs = search needs
+
+f32-of-requires : tie.Need-f32-of-requires Inv-loop μ-loop
+f32-of-requires c κs = search needs
+
+mul-vertices : tie.Need-mul-vertices Inv-loop μ-loop
+mul-vertices c = search needs
+
+slice-write-vertices : tie.Need-slice-write-vertices Inv-loop μ-loop
+slice-write-vertices c = search needs
+
+add-i : tie.Need-add-i Inv-loop μ-loop
+add-i c = search needs
+
+loop-less : tie.Need-loop-less Inv-loop μ-loop
+loop-less c = search needs
+
+loop-again : tie.Need-loop-again Inv-loop μ-loop
+loop-again c = (search needs, search needs, rw (c .f32-of .ensures) (put-next (ofBits binary32) (c .before .before .before .before .before .before .args .bytes .now) (c .before .before .before .loop .i) (c .before .before .before .loop .vertices) (c .before .word .result) (omega arith) (omega arith) (c .before .word .ensures) (c .before .before .before .loop .inv .2)))
+
+same-length : tie.Need-same-length Inv-loop μ-loop
+same-length c = search needs
+
+returns : tie.Need-returns Inv-loop μ-loop
+returns c = put-all (ofBits binary32) (c .before .before .before .before .args .bytes .now) (c .before .loop .i) (c .before .loop .vertices) (omega arith) (omega arith) (c .before .loop .inv .2) ∙ floats-map _
+
+pub put-floats-spec : {M : Type 1} → statement M
+put-floats-spec =
+    tie.close
+    (tie.spec
+    Inv-loop
+    μ-loop
+    loop-holds
+    mul-word
+    word-requires
+    f32-of-requires
+    mul-vertices
+    slice-write-vertices
+    add-i
+    loop-less
+    loop-again
+    same-length
+    returns)

@@ -1,0 +1,63 @@
+-- `meshfile::put_ids` meets its contract: the words put and those to come are the payload's. Assumes nothing.
+use mathlib.Core.List.{map-id}
+use mathlib.Core.Path.{_≡_, refl, _∙_}
+use Prim.Native.Nat.{ℕ, _≤_, _-_}
+use native.Mathlib.Omega.{arith}
+use borrow.Author.Needs.{needs}
+use lib.ListN.{length}
+use Rattle.meshfile.proofs.Words.{Put, put-none, put-next, put-all}
+use Rattle.meshfile.proofs.put_ids.Statement.{statement}
+use Rattle.meshfile.proofs.put_ids.Tie as tie
+
+abbrev Inv-loop : tie.InvT-loop
+Inv-loop bytes ids₀ i₀ ids i = (i ≤ length ids₀) × (length ids ≡ length ids₀) × Put (λ (w : ℕ). w) bytes i ids
+
+abbrev μ-loop : tie.MeasureT-loop
+μ-loop bytes ids₀ i₀ ids i = length ids₀ - i
+
+loop-holds : tie.Need-loop-holds Inv-loop μ-loop
+loop-holds c = (omega arith, refl, put-none (λ (w : ℕ). w) (c .before .before .args .bytes .now) (c .before .before .args .ids .now))
+
+mul-word : tie.Need-mul-word Inv-loop μ-loop
+mul-word c = search needs
+
+word-requires : tie.Need-word-requires Inv-loop μ-loop
+word-requires c κs = search needs
+
+mul-ids : tie.Need-mul-ids Inv-loop μ-loop
+mul-ids c = search needs
+
+slice-write-ids : tie.Need-slice-write-ids Inv-loop μ-loop
+slice-write-ids c = search needs
+
+add-i : tie.Need-add-i Inv-loop μ-loop
+add-i c = search needs
+
+loop-less : tie.Need-loop-less Inv-loop μ-loop
+loop-less c = search needs
+
+loop-again : tie.Need-loop-again Inv-loop μ-loop
+loop-again c = (search needs, search needs, put-next (λ (w : ℕ). w) (c .before .before .before .before .before .args .bytes .now) (c .before .before .loop .i) (c .before .before .loop .ids) (c .word .result) (omega arith) (omega arith) (c .word .ensures) (c .before .before .loop .inv .2))
+
+same-length : tie.Need-same-length Inv-loop μ-loop
+same-length c = search needs
+
+returns : tie.Need-returns Inv-loop μ-loop
+returns c = put-all (λ (w : ℕ). w) (c .before .before .before .before .args .bytes .now) (c .before .loop .i) (c .before .loop .ids) (omega arith) (omega arith) (c .before .loop .inv .2) ∙ map-id _
+
+pub put-ids-spec : {M : Type 1} → statement M
+put-ids-spec =
+    tie.close
+    (tie.spec
+    Inv-loop
+    μ-loop
+    loop-holds
+    mul-word
+    word-requires
+    mul-ids
+    slice-write-ids
+    add-i
+    loop-less
+    loop-again
+    same-length
+    returns)

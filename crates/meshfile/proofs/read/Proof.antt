@@ -1,0 +1,46 @@
+-- `meshfile::read` meets its contract: by the layout found, and by the areas' lengths. Assumes nothing.
+use borrow.Author.Needs.{needs}
+use Rattle.meshfile.proofs.Gives.{refused, short, given, fits}
+use Rattle.meshfile.proofs.read.Statement.{statement}
+use Rattle.meshfile.proofs.read.Tie as tie
+
+layout-of-requires : tie.Need-layout-of-requires
+layout-of-requires c κs = search needs
+
+enum-known-found : tie.Need-enum-known-found
+enum-known-found c = search needs
+
+enum-known-found-2 : tie.Need-enum-known-found-2
+enum-known-found-2 c = search needs
+
+returns : tie.Need-returns
+returns c = short (c .before .before .before .before .before .before .before .before .before .before .args .bytes .now) (c .before .before .before .before .found2 .given .0 .0) (c .before .before .before .before .before .before .before .before .before .before .args .vertices .now) (c .before .before .before .before .before .before .before .before .before .before .args .ids .now) (c .before .before .before .before .before .before .layout-of .result) (c .before .before .before .before .before .before .layout-of .ensures) (c .before .before .before .before .found2 .given .1) (c .if1 .taken)
+
+fill-requires : tie.Need-fill-requires
+fill-requires c κs = fits (c .before .before .before .before .before .before .before .before .before .before .before .before .args .bytes .now) (c .before .before .before .before .before .before .found2 .given .0 .0) (c .before .before .before .before .before .before .before .before .before .before .before .before .args .vertices .now) (c .before .before .before .before .before .before .before .before .before .before .before .before .args .ids .now) (c .before .before .before .before .before .before .before .before .layout-of .result) (c .before .before .before .before .before .before .before .before .layout-of .ensures) (c .before .before .before .before .before .before .found2 .given .1) (c .before .before .if1 .left)
+
+returns-2 : tie.Need-returns-2
+returns-2 c = refused (c .before .before .before .before .before .before .before .args .bytes .now) (c .before .before .before .before .before .before .before .args .vertices .now) (c .before .before .before .before .before .before .before .args .ids .now) _ (c .before .before .before .layout-of .result) (c .before .before .before .layout-of .ensures) (c .before .found .given .1)
+
+same-length : tie.Need-same-length
+same-length c = search needs
+
+same-length-2 : tie.Need-same-length-2
+same-length-2 c = search needs
+
+returns-3 : tie.Need-returns-3
+returns-3 c = given (c .before .before .before .before .before .before .before .before .before .before .before .before .before .before .before .before .before .args .bytes .now) (c .before .before .before .before .before .before .before .before .before .before .before .found2 .given .0 .0) (c .before .before .before .before .before .before .before .before .before .before .before .before .before .before .before .before .before .args .vertices .now) (c .before .before .before .before .before .before .before .before .before .before .before .before .before .before .before .before .before .args .ids .now) (c .before .before .before .before .before .before .before .before .before .before .before .before .before .layout-of .result) (c .before .before .before .before .before .before .before .before .before .before .before .before .before .layout-of .ensures) (c .before .before .before .before .before .before .before .before .before .before .before .found2 .given .1) (c .before .before .before .before .before .before .before .if1 .left) _ _ _ (c .before .before .before .before .fill .ensures)
+
+pub read-spec : {M : Type 1} → statement M
+read-spec =
+    tie.close
+    (tie.spec
+    layout-of-requires
+    enum-known-found
+    enum-known-found-2
+    returns
+    fill-requires
+    returns-2
+    same-length
+    same-length-2
+    returns-3)

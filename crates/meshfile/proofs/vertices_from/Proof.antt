@@ -1,0 +1,56 @@
+-- `meshfile::vertices_from` meets its contract: by what stands in front; the part behind it is lent whole. Assumes nothing.
+use Prim.Native.Nat.{_+_}
+use native.Mathlib.Omega.{arith}
+use borrow.Author.Needs.{needs}
+use denote.Ref.{now}
+use Rattle.meshfile.specs.Steps.{verticesFrom}
+use Rattle.meshfile.proofs.Fronts.{room-of, rest-is}
+use Rattle.meshfile.proofs.vertices_from.Statement.{statement}
+use Rattle.meshfile.proofs.vertices_from.Tie as tie
+
+front-of-requires : tie.Need-front-of-requires
+front-of-requires c κs = search needs
+
+enum-known-found : tie.Need-enum-known-found
+enum-known-found c = search needs
+
+enum-known-found-2 : tie.Need-enum-known-found-2
+enum-known-found-2 c = search needs
+
+add-ids-from : tie.Need-add-ids-from
+add-ids-from c = omega (arith, room-of 2 _ (now (c .before .before .before .before .before .args .bytes)) _ (c .before .before .before .front-of .ensures) (c .before .found2 .given .1))
+
+sub-ids-from : tie.Need-sub-ids-from
+sub-ids-from c = room-of 2 _ (now (c .before .before .before .before .before .args .bytes)) _ (c .before .before .before .front-of .ensures) (c .before .found2 .given .1)
+
+part-ids-from-start : tie.Need-part-ids-from-start
+part-ids-from-start c = room-of 2 _ (now (c .before .before .before .before .before .args .bytes)) _ (c .before .before .before .front-of .ensures) (c .before .found2 .given .1)
+
+part-ids-from-end : tie.Need-part-ids-from-end
+part-ids-from-end c = search needs
+
+ids-from-requires : tie.Need-ids-from-requires
+ids-from-requires c κs = search needs
+
+returns : tie.Need-returns
+unfolding verticesFrom
+returns c = rw (← c .before .before .before .front-of .ensures, c .before .found .given .1)
+
+returns-2 : tie.Need-returns-2
+unfolding verticesFrom
+returns-2 c = rw (← c .before .before .before .before .before .front-of .ensures, c .before .before .before .found2 .given .1) (rw (rest-is (6 + c .before .before .before .found2 .given .0 .0) (c .before .before .before .before .before .before .before .args .bytes .now)) at (c .ids-from .ensures))
+
+pub vertices-from-spec : {M : Type 1} → statement M
+vertices-from-spec =
+    tie.close
+    (tie.spec
+    front-of-requires
+    enum-known-found
+    enum-known-found-2
+    add-ids-from
+    sub-ids-from
+    part-ids-from-start
+    part-ids-from-end
+    ids-from-requires
+    returns
+    returns-2)

@@ -1,0 +1,48 @@
+-- What comes back of `read`, and what it leaves in the lent floats and ids: for every list of bytes one answer, and one later content of each area.
+use mathlib.Core.Path.{_≡_}
+use Prim.Native.Nat.{ℕ}
+use mathlib.Core.Bool.{Bool, true, false, _||_}
+use mathlib.Core.List.{List, [], _∷_, _++_}
+use lib.Dec.{eqb, ltb}
+use lib.ListN.{length, drop}
+use lib.Ieee.{Float, binary32, ofBits}
+use Rattle.record.specs.Numbers.{profileAt}
+use Rattle.meshfile.specs.declared.MeshFile.{MeshFile}
+use Rattle.meshfile.specs.declared.Reading.{Reading}
+use Rattle.meshfile.specs.Format.{Contents, File, fileOf}
+
+-- the floats of words: a NaN's pattern is a NaN
+unfoldable pub floatsOf : List ℕ → List Float
+floatsOf [] = []
+floatsOf (w ∷ ws) = ofBits binary32 w ∷ floatsOf ws
+
+-- refusal 3: an area of f floats or of i ids is too short for what the file holds
+unfoldable pub areasShort : Contents → ℕ → ℕ → Bool
+areasShort m f i = ltb f (length (m .vertices)) || ltb i (length (m .ids))
+
+abbrev pub meshFile : Contents → MeshFile
+meshFile m = record { unit = ofBits binary32 (m .unit); floats = length (m .vertices); ids = length (m .ids); clip = eqb (m .clip) 1; profile = profileAt (m .defect) }
+
+unfoldable pub unlessShort : {A : Type 0} → Bool → A → A → A
+unlessShort true short enough = short
+unlessShort false short enough = enough
+
+-- by the lengths of the two areas
+unfoldable pub readingOf : File → ℕ → ℕ → Reading
+readingOf (File.Refused n) f i = Reading.Refused n
+readingOf (File.Holds m) f i = unlessShort (areasShort m f i) (Reading.Refused 3) (Reading.File (meshFile m))
+
+-- what stands in an area afterwards: the file's floats or ids first, the rest untouched; all of it on a refusal
+unfoldable pub floatsAfter : File → ℕ → List Float → List Float
+floatsAfter (File.Refused n) i area = area
+floatsAfter (File.Holds m) i area = unlessShort (areasShort m (length area) i) area (floatsOf (m .vertices) ++ drop (length (m .vertices)) area)
+
+unfoldable pub idsAfter : File → ℕ → List ℕ → List ℕ
+idsAfter (File.Refused n) f area = area
+idsAfter (File.Holds m) f area = unlessShort (areasShort m f (length area)) area (m .ids ++ drop (length (m .ids)) area)
+
+-- The complete contract: of bytes and lent floats vs and ids come the answer r and the later vs′ and ids′.
+pub record Reads (bytes : List ℕ) (vs : List Float) (ids : List ℕ) (r : Reading) (vs′ : List Float) (ids′ : List ℕ) : Type 0 where
+  pub answers : r ≡ readingOf (fileOf bytes) (length vs) (length ids)
+  pub floats : vs′ ≡ floatsAfter (fileOf bytes) (length ids) vs
+  pub ids-after : ids′ ≡ idsAfter (fileOf bytes) (length vs) ids

@@ -1,0 +1,63 @@
+-- The format from the writer's side: the bytes of a file that holds given contents. Reading accepts these and no others.
+use mathlib.Core.Path.{_≡_}
+use mathlib.Core.Logic.{_⊎_}
+use Prim.Native.Nat.{ℕ, _^_, _/_, _%_, _≤_, _<_}
+use mathlib.Core.List.{List, [], _∷_, _++_}
+use lib.Dec.{T}
+use lib.ListN.{length, take}
+use Rattle.record.specs.Numbers.{flagsFit}
+use Rattle.meshfile.specs.Format.{most, Contents, File, fileOf}
+
+-- a u32 as four bytes, little-endian
+unfoldable pub bytesOf : ℕ → List ℕ
+bytesOf w = w % 256 ∷ w / 256 % 256 ∷ w / 65536 % 256 ∷ w / 16777216 % 256 ∷ []
+
+unfoldable pub allBytes : List ℕ → List ℕ
+allBytes [] = []
+allBytes (w ∷ ws) = bytesOf w ++ allBytes ws
+
+-- one record
+unfoldable pub recordOf : ℕ → List ℕ → List ℕ
+recordOf kind payload = bytesOf (length payload) ++ (kind ∷ 0 ∷ payload)
+
+-- a file without kind 4, and with it
+unfoldable pub plain : Contents → List ℕ
+plain m = recordOf 1 (bytesOf (m .unit)) ++ (recordOf 2 (allBytes (m .vertices)) ++ recordOf 3 (allBytes (m .ids)))
+
+unfoldable pub withFlags : Contents → List ℕ
+withFlags m = plain m ++ recordOf 4 (m .clip ∷ m .defect ∷ [])
+
+-- each number below a bound
+unfoldable pub Below : ℕ → List ℕ → Type 0
+Below n [] = Unit {0}
+Below n (x ∷ xs) = (x < n) × Below n xs
+
+-- what a file can hold
+pub record Proper (m : Contents) : Type 0 where
+  pub unit : m .unit < 2 ^ 32
+  pub vertices : Below (2 ^ 32) (m .vertices)
+  pub ids : Below (2 ^ 32) (m .ids)
+  pub floats-most : length (m .vertices) ≤ most
+  pub ids-most : length (m .ids) ≤ most
+  pub flags : T (flagsFit (m .clip) (m .defect))
+
+-- a file that holds m: with its flags, or without kind 4 where both are 0
+unfoldable pub IsFileOf : Contents → List ℕ → Type 0
+IsFileOf m bytes = (bytes ≡ withFlags m) ⊎ ((bytes ≡ plain m) × (m .clip ≡ 0) × (m .defect ≡ 0))
+
+-- The theorems: reading holds exactly what was written; a file is at most 12,318 bytes long, and of longer input the first 12,319 bytes decide, which is why
+-- the program needs to keep no more.
+abbrev pub Accepts : Type 0
+Accepts = (m : Contents) (bytes : List ℕ) → Proper m → IsFileOf m bytes → fileOf bytes ≡ File.Holds m
+
+abbrev pub AcceptsOnly : Type 0
+AcceptsOnly = (m : Contents) (bytes : List ℕ) → Below 256 bytes → fileOf bytes ≡ File.Holds m → Proper m × IsFileOf m bytes
+
+abbrev pub longest : ℕ
+longest = 12318
+
+abbrev pub FilesAreShort : Type 0
+FilesAreShort = (m : Contents) (bytes : List ℕ) → fileOf bytes ≡ File.Holds m → length bytes ≤ longest
+
+abbrev pub FrontDecides : Type 0
+FrontDecides = (bytes : List ℕ) → longest < length bytes → fileOf (take 12319 bytes) ≡ fileOf bytes

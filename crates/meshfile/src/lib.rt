@@ -1,0 +1,253 @@
+// The program's input: a mesh file's bytes read into lent floats and ids. The format is document 01's.
+ghost use mathlib.Core.Path.{_≡_};
+ghost use Prim.Native.Nat.{_+_, _*_, _≤_, _<_};
+ghost use lib.ListN.{length};
+ghost use Rattle.meshfile.specs.declared.Front.{Front};
+ghost use Rattle.meshfile.specs.Format.{byte as byteOf, half as halfOf, word as wordOf, words, lengthFits, frontOf, flagsIn, endingOf};
+ghost use Rattle.meshfile.specs.Reading.{floatsOf, Reads};
+ghost use Rattle.meshfile.specs.Steps.{partsBy, idsFrom, verticesFrom, layoutOf, contentsAt, Fits, Filled};
+use record::Profile;
+
+// What a file holds beside its floats and ids: their numbers, the unit and the flags.
+pub struct MeshFile {
+    pub unit: f32,
+    pub floats: usize,
+    pub ids: usize,
+    pub clip: bool,
+    pub profile: Profile,
+}
+
+pub enum Reading {
+    File(MeshFile),
+    Refused(u8),
+}
+
+// ---- numbers, little-endian
+
+// The byte at a place.
+fn byte(bytes: &[u8], at: usize) -> u32
+    requires { ⌜ at < length (now bytes) ⌝ }
+    ensures { λ r. ⌜ (r ≡ byteOf (now (bytes .entry)) at) × (r < 256) ⌝ }
+{
+    bytes[at] as u32
+}
+
+// The u16 at a place.
+fn half(bytes: &[u8], at: usize) -> u32
+    requires { ⌜ at + 2 ≤ length (now bytes) ⌝ }
+    ensures { λ r. ⌜ r ≡ halfOf (now (bytes .entry)) at ⌝ }
+{
+    byte(bytes, at) + 256 * byte(bytes, at + 1)
+}
+
+// The u32 at a place.
+fn word(bytes: &[u8], at: usize) -> u32
+    requires { ⌜ at + 4 ≤ length (now bytes) ⌝ }
+    ensures { λ r. ⌜ r ≡ wordOf (now (bytes .entry)) at ⌝ }
+{
+    byte(bytes, at)
+        + 256 * byte(bytes, at + 1)
+        + 65536 * byte(bytes, at + 2)
+        + 16777216 * byte(bytes, at + 3)
+}
+
+// ---- one record
+
+// What stands in front of the bytes: a payload so long, or the fault met first.
+pub enum Front {
+    Fault(u8),
+    Payload(usize),
+}
+
+// Is it a length that the kind may have?
+fn length_fits(kind: u32, n: usize) -> bool
+    ensures { λ r. ⌜ r ≡ lengthFits kind n ⌝ }
+{
+    if kind == 1 {
+        return n == 4;
+    }
+    if kind == 4 {
+        return n == 2;
+    }
+    n % 4 == 0
+}
+
+fn front_of(bytes: &[u8], kind: u32) -> Front
+    ensures { λ r. ⌜ r ≡ frontOf kind (now (bytes .entry)) ⌝ }
+{
+    if bytes.len() < 6 {
+        return Front::Fault(5);
+    }
+    if half(bytes, 4) != kind {
+        return Front::Fault(5);
+    }
+    let n = word(bytes, 0) as usize;
+    if !length_fits(kind, n) {
+        return Front::Fault(5);
+    }
+    if 1536 < n / 4 {
+        return Front::Fault(6);
+    }
+    if bytes.len() < 6 + n {
+        return Front::Fault(5);
+    }
+    Front::Payload(n)
+}
+
+// ---- the records in their order
+
+// What stands behind the ids.
+pub enum Ending {
+    Fault(u8),
+    Flags(u32, u32),
+}
+
+// Where everything stands: how many floats and ids, and the values of the flags.
+pub struct Parts {
+    pub floats: usize,
+    pub ids: usize,
+    pub clip: u32,
+    pub defect: u32,
+}
+
+pub enum Layout {
+    Fault(u8),
+    Whole(Parts),
+}
+
+// Kind 4 with known values and then the end.
+fn flags_in(bytes: &[u8], n: usize) -> Ending
+    requires { ⌜ (n ≡ 2) × (8 ≤ length (now bytes)) ⌝ }
+    ensures { λ r. ⌜ r ≡ flagsIn (Front.Payload n) (now (bytes .entry)) ⌝ }
+{
+    let clip = byte(bytes, 6);
+    let defect = byte(bytes, 7);
+    if !record::flags_fit(clip, defect) {
+        return Ending::Fault(5);
+    }
+    if 6 + n < bytes.len() {
+        return Ending::Fault(5);
+    }
+    Ending::Flags(clip, defect)
+}
+
+// The end, or kind 4.
+fn ending_of(bytes: &[u8]) -> Ending
+    ensures { λ r. ⌜ r ≡ endingOf (now (bytes .entry)) ⌝ }
+{
+    if bytes.len() == 0 {
+        return Ending::Flags(0, 0);
+    }
+    let found = front_of(bytes, 4);
+    match found {
+        Front::Fault(n) => Ending::Fault(n),
+        Front::Payload(n) => flags_in(bytes, n),
+    }
+}
+
+fn parts_by(floats: usize, ids: usize, end: Ending) -> Layout
+    ensures { λ r. ⌜ r ≡ partsBy floats ids end ⌝ }
+{
+    match end {
+        Ending::Fault(n) => Layout::Fault(n),
+        Ending::Flags(clip, defect) => Layout::Whole(Parts {
+            floats,
+            ids,
+            clip,
+            defect,
+        }),
+    }
+}
+
+// From kind 3 on.
+fn ids_from(bytes: &[u8], floats: usize) -> Layout
+    ensures { λ r. ⌜ r ≡ idsFrom floats (frontOf 3 (now (bytes .entry))) (now (bytes .entry)) ⌝ }
+{
+    let found = front_of(bytes, 3);
+    match found {
+        Front::Fault(n) => Layout::Fault(n),
+        Front::Payload(n) => parts_by(floats, n / 4, ending_of(&bytes[6 + n..])),
+    }
+}
+
+// From kind 2 on.
+fn vertices_from(bytes: &[u8]) -> Layout
+    ensures { λ r. ⌜ r ≡ verticesFrom (frontOf 2 (now (bytes .entry))) (now (bytes .entry)) ⌝ }
+{
+    let found = front_of(bytes, 2);
+    match found {
+        Front::Fault(n) => Layout::Fault(n),
+        Front::Payload(n) => ids_from(&bytes[6 + n..], n / 4),
+    }
+}
+
+// From kind 1, the unit, on.
+fn layout_of(bytes: &[u8]) -> Layout
+    ensures { λ r. ⌜ r ≡ layoutOf (now (bytes .entry)) ⌝ }
+{
+    let found = front_of(bytes, 1);
+    match found {
+        Front::Fault(n) => Layout::Fault(n),
+        Front::Payload(n) => vertices_from(&bytes[6 + n..]),
+    }
+}
+
+// ---- what stands there
+
+fn put_floats(bytes: &[u8], vertices: &mut [f32])
+    requires { ⌜ length (now bytes) ≡ 4 * length (now vertices) ⌝ }
+    ensures { λ _. ⌜ now (vertices .exit) ≡ floatsOf (words (now (bytes .entry))) ⌝ }
+{
+    let mut i = 0;
+    while i < vertices.len() {
+        vertices[i] = floats::f32_of(word(bytes, 4 * i));
+        i += 1;
+    }
+}
+
+fn put_ids(bytes: &[u8], ids: &mut [u32])
+    requires { ⌜ length (now bytes) ≡ 4 * length (now ids) ⌝ }
+    ensures { λ _. ⌜ now (ids .exit) ≡ words (now (bytes .entry)) ⌝ }
+{
+    let mut i = 0;
+    while i < ids.len() {
+        ids[i] = word(bytes, 4 * i);
+        i += 1;
+    }
+}
+
+// The floats and ids go to the front of the two areas, which are long enough.
+fn fill(bytes: &[u8], vertices: &mut [f32], ids: &mut [u32], p: Parts) -> MeshFile
+    requires { ⌜ Fits p (length (now bytes)) (length (now vertices)) (length (now ids)) ⌝ }
+    ensures { λ r. ⌜ Filled (contentsAt (now (bytes .entry)) p) (now (vertices .entry)) (now (ids .entry)) r (now (vertices .exit)) (now (ids .exit)) ⌝ }
+{
+    let f = p.floats;
+    let i = p.ids;
+    let at = 22 + 4 * f;
+    put_floats(&bytes[16..16 + 4 * f], &mut vertices[..f]);
+    put_ids(&bytes[at..at + 4 * i], &mut ids[..i]);
+    MeshFile {
+        unit: floats::f32_of(word(bytes, 6)),
+        floats: f,
+        ids: i,
+        clip: p.clip == 1,
+        profile: record::profile_of(p.defect),
+    }
+}
+
+// The file that the bytes hold: its floats and ids go to the front of the two areas. A refusal writes nothing: 5 or 6 for the
+// fault that is met first, and then 3 for an area that is too short.
+pub fn read(bytes: &[u8], vertices: &mut [f32], ids: &mut [u32]) -> Reading
+    ensures { λ r. ⌜ Reads (now (bytes .entry)) (now (vertices .entry)) (now (ids .entry)) r (now (vertices .exit)) (now (ids .exit)) ⌝ }
+{
+    let found = layout_of(bytes);
+    match found {
+        Layout::Fault(n) => Reading::Refused(n),
+        Layout::Whole(p) => {
+            if (vertices.len() < p.floats) | (ids.len() < p.ids) {
+                return Reading::Refused(3);
+            }
+            Reading::File(fill(bytes, vertices, ids, p))
+        }
+    }
+}

@@ -1,0 +1,53 @@
+-- What is printed for a file that was read is the text of its bytes: its floats and ids stand first in the two areas, which are never too short.
+use mathlib.Core.Path.{_≡_, refl, sym, ap, _∙_}
+use Prim.Native.Nat.{ℕ, suc}
+use mathlib.Core.Bool.{Bool, false}
+use mathlib.Core.List.{List, [], _∷_, _++_}
+use lib.ListN.{length, take, drop}
+use lib.Seq.{take-append-seam}
+use lib.Ieee.{Float, binary32, ofBits}
+use Rattle.meshfile.specs.declared.MeshFile.{MeshFile}
+use Rattle.meshfile.specs.declared.Reading.{Reading}
+use Rattle.meshfile.specs.Format.{Contents, File, fileOf}
+use Rattle.meshfile.specs.Reading.{floatsOf, areasShort, meshFile, unlessShort, readingOf, floatsAfter, idsAfter, Reads}
+use Rattle.meshfile.proofs.Most.{never-short}
+use Rattle.listing.specs.Listing.{refusedLine}
+use Rattle.program.specs.Program.{meshText, textFor, textOf}
+
+length-floats : (ws : List ℕ) → length (floatsOf ws) ≡ length ws
+unfolding floatsOf
+length-floats [] = refl
+length-floats (w ∷ ws) = ap suc (length-floats ws)
+
+-- the front of an area is what was put there
+front : {A : Type 0} (n : ℕ) (l rest : List A) → length l ≡ n → take n (l ++ rest) ≡ l
+front n l rest e = rw (← e) (take-append-seam l rest)
+
+readText : List Float → List ℕ → Reading → List ℕ
+readText vs ids (Reading.Refused n) = refusedLine n
+readText vs ids (Reading.File m) = meshText (take (m .floats) vs) (take (m .ids) ids) (m .unit) (m .clip) (m .profile)
+
+module _ (vs : List Float) (ids : List ℕ) where
+  text-by : (f : File) → ((m : Contents) → f ≡ File.Holds m → areasShort m (length vs) (length ids) ≡ false)
+      → readText (floatsAfter f (length ids) vs) (idsAfter f (length vs) ids) (readingOf f (length vs) (length ids)) ≡ textFor f
+  unfolding readText floatsAfter idsAfter readingOf unlessShort textFor
+  text-by (File.Refused n) h = refl
+  text-by (File.Holds m) h =
+      rw (
+        h m refl,
+        front (length (m .vertices)) (floatsOf (m .vertices)) (drop (length (m .vertices)) vs) (length-floats (m .vertices)),
+        front (length (m .ids)) (m .ids) (drop (length (m .ids)) ids) refl,
+      )
+
+  module _ (hv : length vs ≡ 1536) (hi : length ids ≡ 1536) (bytes : List ℕ) (r : Reading) (vs′ : List Float) (ids′ : List ℕ) (made : Reads bytes vs ids r vs′ ids′) where
+    text-of : readText vs′ ids′ r ≡ textOf bytes
+    unfolding textOf
+    text-of = rw (made .answers, made .floats, made .ids-after) (text-by (fileOf bytes) (λ m h. rw (hv, hi) (never-short bytes m h)))
+
+    pub refusal-text : (n : ℕ) → r ≡ Reading.Refused n → refusedLine n ≡ textOf bytes
+    unfolding readText
+    refusal-text n e = sym (ap (readText vs′ ids′) e) ∙ text-of
+
+    pub mesh-text : (m : MeshFile) → r ≡ Reading.File m → meshText (take (m .floats) vs′) (take (m .ids) ids′) (m .unit) (m .clip) (m .profile) ≡ textOf bytes
+    unfolding readText
+    mesh-text m e = sym (ap (readText vs′ ids′) e) ∙ text-of

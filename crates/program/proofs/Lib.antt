@@ -1,0 +1,6 @@
+-- What callees give, what a file that was read and an answer of compute print; what printing is worth; the lent areas suffice.
+mod Given
+mod Answered
+mod Held
+pub mod Printed
+pub mod Suffice

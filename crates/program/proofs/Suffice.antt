@@ -1,0 +1,24 @@
+-- The areas that the program lends suffice for every file, so that it never prints refusal 1 or 3.
+use mathlib.Core.Path.{_≡_, refl}
+use Prim.Native.Nat.{ℕ, _+_, _*_, _/_, _≤_}
+use mathlib.Core.Bool.{false, _||_}
+use mathlib.Core.List.{List}
+use native.Mathlib.Omega.{arith}
+use borrow.Author.Tests.{le-ltb}
+use lib.Dec.{ltb}
+use lib.ListN.{length}
+use lib.Ieee.{Float}
+use Rattle.qto.specs.Refusals.{workWords, areasShort, checkOf}
+use Rattle.program.specs.Program.{checkFile, AreasSuffice}
+
+module _ (f i : ℕ) (hf : f ≤ 1536) (hi : i ≤ 1536) where
+  not-many : (ltb 98304 f || ltb 98304 i) ≡ false
+  not-many = rw (le-ltb 98304 f (omega arith), le-ltb 98304 i (omega arith))
+
+  not-short : areasShort f i 13824 65536 2048 ≡ false
+  unfolding workWords
+  not-short = rw (le-ltb 13824 (5 * i + 4 * (i / 3) + 8 * (f / 3)) (omega arith), le-ltb 2048 (4 * (i / 3)) (omega arith))
+
+pub areas-suffice : AreasSuffice
+unfolding checkOf checkFile
+areas-suffice vs ids u hf hi = rw (not-many (length vs) (length ids) hf hi, not-short (length vs) (length ids) hf hi)

@@ -1,0 +1,2 @@
+-- The program: what it prints for every input.
+pub mod Program

@@ -1,0 +1,83 @@
+// What the program `takeoff` does between reading and writing: the bytes of a mesh file in, the bytes of its listing or of `refused N` out.
+ghost use mathlib.Core.Path.{_≡_};
+ghost use Prim.Native.Nat.{_+_, _*_, _/_, _≤_};
+ghost use lib.ListN.{length, take};
+ghost use Rattle.ids.specs.Pieces.{shareId, pieces as piecesIn};
+ghost use Rattle.rows.specs.Rows.{rowsOf};
+ghost use Rattle.record.specs.Flags.{flagged};
+ghost use Rattle.listing.specs.Listing.{listingOf, refusedLine};
+ghost use Rattle.program.specs.Program.{meshText, textOf, Prints};
+use listing::Listed;
+use meshfile::MeshFile;
+use meshfile::Reading;
+use pieces::PieceCount;
+use qto::Answer;
+use record::MeshQto;
+
+// The number of pieces: with this work area it is never refused.
+fn pieces_of(ids: &[u32], work: &mut [u32]) -> u32
+    requires { ⌜ (length (now ids) ≤ 1536) × (512 ≤ length (now work)) ⌝ }
+    ensures { λ r. ⌜ r ≡ piecesIn shareId (now (ids .entry)) ⌝ }
+{
+    let count = pieces::pieces(ids, work);
+    match count {
+        PieceCount::Answer(n) => n,
+        PieceCount::Refused(_) => 0,
+    }
+}
+
+// `refused N`.
+fn print_refusal(n: u8, text: &mut [u8]) -> usize
+    requires { ⌜ 320 ≤ length (now text) ⌝ }
+    ensures { λ r. ⌜ Prints (refusedLine n) (now (text .entry)) r (now (text .exit)) ⌝ }
+{
+    let said = listing::list_refusal(n, text);
+    match said {
+        Listed::Length(end) => end,
+        Listed::Refused(_) => 0,
+    }
+}
+
+// The listing of a record with the file's flags.
+fn print_record(q: MeshQto, m: MeshFile, count: u32, surfaces: &[f32], text: &mut [u8]) -> usize
+    requires { ⌜ (4 * q .«surface_count» ≤ length (now surfaces)) × (320 + 36 * q .«surface_count» ≤ length (now text)) ⌝ }
+    ensures { λ r. ⌜ Prints (listingOf (flagged (m .clip) (m .profile) q) (rowsOf (take (4 * q .«surface_count») (now (surfaces .entry)))) count)
+        (now (text .entry)) r (now (text .exit)) ⌝ }
+{
+    let profile = m.profile;
+    let flagged = qto::apply_product_flags(q, m.clip, profile);
+    let said = listing::list(flagged, surfaces, count, text);
+    match said {
+        Listed::Length(end) => end,
+        Listed::Refused(_) => 0,
+    }
+}
+
+// The mesh of a file: its listing, or the refusal of document 01's table.
+fn print_mesh(m: MeshFile, vertices: &[f32], ids: &[u32], text: &mut [u8]) -> usize
+    requires { ⌜ (length (now vertices) ≤ 1536) × (length (now ids) ≤ 1536) × (length (now text) ≡ 18752) ⌝ }
+    ensures { λ r. ⌜ Prints (meshText (now (vertices .entry)) (now (ids .entry)) (m .unit) (m .clip) (m .profile)) (now (text .entry)) r (now (text .exit)) ⌝ }
+{
+    let mut work = [0u32; 13824];
+    let mut raster = [0u8; 65536];
+    let mut surfaces = [0f32; 2048];
+    let count = pieces_of(ids, &mut work);
+    let answer = qto::compute(vertices, ids, m.unit, &mut work, &mut raster, &mut surfaces);
+    match answer {
+        Answer::Record(q) => print_record(q, m, count, &surfaces, text),
+        Answer::Refused(n) => print_refusal(n, text),
+    }
+}
+
+// What the program prints for the bytes that it has read: the text stands first in the area, and its length comes back.
+pub fn run(bytes: &[u8], text: &mut [u8; 18752]) -> usize
+    ensures { λ r. ⌜ Prints (textOf (now (bytes .entry))) (now (text .entry)) r (now (text .exit)) ⌝ }
+{
+    let mut vertices = [0f32; 1536];
+    let mut ids = [0u32; 1536];
+    let found = meshfile::read(bytes, &mut vertices, &mut ids);
+    match found {
+        Reading::Refused(n) => print_refusal(n, text),
+        Reading::File(m) => print_mesh(m, &vertices[..m.floats], &ids[..m.ids], text),
+    }
+}

@@ -1,0 +1,134 @@
+// Runs the meshes of data/meshes, each a u32 length and so many bytes of the program's format, and prints for each what `takeoff` prints, and a line with what
+// the routines on ids say of its ids. The gate holds this to `stdout`, which the unchanged Rust wrote (docs/DIFFERENCES.md says how).
+ghost use Prim.Native.Nat.{_<_};
+use chain::EdgeChain;
+use chain::FaceNet;
+use chain::Verdict;
+use libc::STDOUT_FILENO;
+use meshfile::Reading;
+
+// ---- what the routines on ids say
+
+fn print_count(label: &[u8], n: u64) {
+    io::write_all(STDOUT_FILENO, label);
+    io::print_decimal(STDOUT_FILENO, n);
+}
+
+// A label and a yes or no.
+fn print_bit(label: &[u8], yes: bool) {
+    print_count(label, yes as u64);
+}
+
+fn print_chain(ids: &[u32], work: &mut [u32]) {
+    let answer = chain::edge_chain(ids, work);
+    match answer {
+        EdgeChain::Answer {
+            boundary_free,
+            over_incident,
+        } => {
+            print_bit(b"chain ", boundary_free);
+            print_bit(b" ", over_incident);
+        }
+        EdgeChain::Refused(n) => print_count(b"chain refused ", n as u64),
+    }
+}
+
+fn print_net(ids: &[u32], work: &mut [u32]) {
+    let answer = chain::face_net(ids, work);
+    match answer {
+        FaceNet::Answer {
+            max_abs,
+            all_cancel,
+        } => {
+            print_count(b" net ", max_abs as u64);
+            print_bit(b" ", all_cancel);
+        }
+        FaceNet::Refused(n) => print_count(b" net refused ", n as u64),
+    }
+}
+
+fn print_verdict(label: &[u8], verdict: Verdict) {
+    match verdict {
+        Verdict::Answer(yes) => print_bit(label, yes),
+        Verdict::Refused(n) => print_count(b" refused ", n as u64),
+    }
+}
+
+fn print_ids(ids: &[u32]) {
+    let mut work = [0u32; 6144];
+    print_chain(ids, &mut work);
+    print_net(ids, &mut work);
+    print_verdict(b" manifold ", chain::is_closed_manifold(ids, &mut work));
+    print_verdict(b" winding ", chain::winding_coherent(ids, &mut work));
+    io::write_all(STDOUT_FILENO, b"\n");
+}
+
+// The ids of a file that can be read; of any other there are none to speak of.
+fn print_ids_of(bytes: &[u8]) {
+    let mut vertices = [0f32; 1536];
+    let mut ids = [0u32; 1536];
+    let found = meshfile::read(bytes, &mut vertices, &mut ids);
+    match found {
+        Reading::File(m) => print_ids(&ids[..m.ids]),
+        Reading::Refused(_) => {}
+    }
+}
+
+// ---- one mesh after the other
+
+fn print_listing(bytes: &[u8]) {
+    let mut text = [0u8; 18752];
+    let end = program::run(bytes, &mut text);
+    io::write_all(STDOUT_FILENO, &text[..end]);
+}
+
+fn wide(b: u8) -> usize
+    ensures { λ r. ⌜ r < 256 ⌝ }
+{
+    b as usize
+}
+
+fn length_in(head: &[u8; 4]) -> usize {
+    wide(head[0]) + 256 * wide(head[1]) + 65536 * wide(head[2]) + 16777216 * wide(head[3])
+}
+
+// The next bytes, as many as the part has, are a mesh file.
+fn replay_mesh(fd: i32, part: &mut [u8]) {
+    let got = io::read_full(fd, part);
+    print_listing(&part[..got]);
+    print_ids_of(&part[..got]);
+}
+
+// Answers whether there was one. No mesh of the list is longer than the buffer.
+fn replay_next(fd: i32) -> bool {
+    let mut head = [0u8; 4];
+    if io::read_full(fd, &mut head) < 4 {
+        return false;
+    }
+    let n = length_in(&head);
+    let mut area = io::large_buffer();
+    if n > 65536 {
+        return false;
+    }
+    replay_mesh(fd, &mut area[..n]);
+    true
+}
+
+// A proved loop has to end: it counts down from a number that no file uses up.
+fn replay_all(fd: i32) {
+    let mut turns = u64::MAX;
+    while turns > 0 && replay_next(fd) {
+        turns -= 1;
+    }
+}
+
+fn main() {
+    let name = b"meshes";
+    let fd = os::open_read(name);
+    if fd < 0 {
+        os::fail(name);
+        return;
+    }
+    replay_all(fd);
+    libc::close(fd);
+}

@@ -1,0 +1,1 @@
+"""The tests of the tools for people; `tools/test` runs them."""

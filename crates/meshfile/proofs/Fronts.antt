@@ -1,16 +1,15 @@
 -- What stands in front is a payload exactly where none of the five tests finds a fault. Assumes nothing.
-use mathlib.Core.Path.{_≡_, refl, sym, ap, _∙_}
-use mathlib.Core.Bool.{Bool, true, false, not}
-use mathlib.Core.List.{List, [], _∷_}
-use Prim.Native.Nat.{ℕ, _+_, _-_, _/_, _≤_}
+use mathlib.Core.Path.{_≡_, refl, sym, _∙_}
+use mathlib.Core.Bool.{Bool, true, false}
+use mathlib.Core.List.{List}
+use Prim.Native.Nat.{ℕ, _+_, _*_, _-_, _/_, _%_, _≤_, _<_}
 use native.Mathlib.Omega.{arith}
-use borrow.Author.Tests.{ltb-false, eqb-true, le-ltb, eq-eqb, not-false}
+use borrow.Author.Tests.{ltb-false, eqb-true, lt-ltb, le-ltb, eq-eqb, ne-eqb, not-false}
 use lib.Dec.{ltb, eqb}
 use lib.ListN.{length, take, drop, length-drop}
 use lib.Seq.{take-all}
 use Rattle.meshfile.specs.declared.Front.{Front}
-use Rattle.meshfile.specs.declared.Ending.{Ending}
-use Rattle.meshfile.specs.Format.{half, word, most, lengthFits, faultIf, frontOf, flagsIn, endingOf}
+use Rattle.meshfile.specs.Format.{half, word, most, lengthFits, faultIf, frontOf}
 
 -- a record of this kind whose payload is n bytes long
 pub record Record (kind n : ℕ) (bytes : List ℕ) : Type 0 where
@@ -44,11 +43,36 @@ record-of kind n bytes h =
       room = rw size at (ltb-false (length bytes) (6 + word bytes 0) (f .0));
     }
 
+-- the tests in their order: each is tried where those before it found no fault
+module _ (kind : ℕ) (bytes : List ℕ) where
+  pub header-cut : length bytes < 6 → Front.Fault 5 ≡ frontOf kind bytes
+  unfolding frontOf
+  header-cut h = rw (lt-ltb (length bytes) 6 h)
+
+  module _ (long : 6 ≤ length bytes) where
+    pub wrong-kind : (half bytes 4 ≡ kind → ⊥) → Front.Fault 5 ≡ frontOf kind bytes
+    unfolding frontOf
+    wrong-kind h = rw (le-ltb (length bytes) 6 long, ne-eqb (half bytes 4) kind h)
+
+    module _ (same : half bytes 4 ≡ kind) (n : ℕ) (size : word bytes 0 ≡ n) where
+      pub wrong-length : lengthFits kind n ≡ false → Front.Fault 5 ≡ frontOf kind bytes
+      unfolding frontOf
+      wrong-length h = rw (size, le-ltb (length bytes) 6 long, eq-eqb (half bytes 4) kind same, h)
+
+      pub too-many : lengthFits kind n ≡ true → most < n / 4 → Front.Fault 6 ≡ frontOf kind bytes
+      unfolding frontOf
+      too-many h m = rw (size, le-ltb (length bytes) 6 long, eq-eqb (half bytes 4) kind same, h, lt-ltb most (n / 4) m)
+
+      pub payload-cut : lengthFits kind n ≡ true → n / 4 ≤ most → length bytes < 6 + n → Front.Fault 5 ≡ frontOf kind bytes
+      unfolding frontOf
+      payload-cut h m r = rw (size, le-ltb (length bytes) 6 long, eq-eqb (half bytes 4) kind same, h, le-ltb most (n / 4) m, lt-ltb (length bytes) (6 + n) r)
+
+      pub payload-whole : lengthFits kind n ≡ true → n / 4 ≤ most → 6 + n ≤ length bytes → Front.Payload n ≡ frontOf kind bytes
+      unfolding frontOf
+      payload-whole h m r = rw (size, le-ltb (length bytes) 6 long, eq-eqb (half bytes 4) kind same, h, le-ltb most (n / 4) m, le-ltb (length bytes) (6 + n) r)
+
 pub front-is : (kind n : ℕ) (bytes : List ℕ) → Record kind n bytes → frontOf kind bytes ≡ Front.Payload n
-unfolding frontOf
-front-is kind n bytes r =
-    let short : 6 ≤ length bytes = omega (arith, r .room) in
-    rw (r .size, le-ltb (length bytes) 6 short, eq-eqb (half bytes 4) kind (r .kind-is), r .fits, le-ltb most (n / 4) (r .few), le-ltb (length bytes) (6 + n) (r .room))
+front-is kind n bytes r = sym (payload-whole kind bytes (omega (arith, r .room)) (r .kind-is) n (r .size) (r .fits) (r .few) (r .room))
 
 -- and as the code meets it: the front found, with what it was found to be
 pub room-of : (kind n : ℕ) (bytes : List ℕ) (k : Front) → k ≡ frontOf kind bytes → k ≡ Front.Payload n → 6 + n ≤ length bytes
@@ -58,20 +82,17 @@ room-of kind n bytes k e h = record-of kind n bytes (sym e ∙ h) .room
 pub rest-is : (k : ℕ) (bytes : List ℕ) → take (length bytes - k) (drop k bytes) ≡ drop k bytes
 rest-is k bytes = take-all (length bytes - k) (drop k bytes) (omega (arith, length-drop k bytes))
 
--- flags are two bytes
-pub flags-front : (n : ℕ) (bytes : List ℕ) → frontOf 4 bytes ≡ Front.Payload n → (n ≡ 2) × (8 ≤ length bytes)
+-- the lengths that the kinds allow: of the unit, of floats and ids, of the flags
+pub four-bytes : (n : ℕ) → lengthFits 1 n ≡ true → n ≡ 4
 unfolding lengthFits
-flags-front n bytes h =
-    let r = record-of 4 n bytes h in
-    let two : n ≡ 2 = eqb-true n 2 (r .fits) in
-    (two, omega (arith, r .room))
+four-bytes n h = eqb-true n 4 h
 
-pub ending-none : (bytes : List ℕ) → length bytes ≡ 0 → Ending.Flags 0 0 ≡ endingOf bytes
-unfolding endingOf
-ending-none [] h = refl
-ending-none (b ∷ bytes) h = absurd (omega arith)
+pub whole-words : (kind n : ℕ) → eqb kind 1 ≡ false → eqb kind 4 ≡ false → lengthFits kind n ≡ true → n ≡ 4 * (n / 4)
+unfolding lengthFits
+whole-words kind n p q h =
+    let z : n % 4 ≡ 0 = eqb-true (n % 4) 0 (rw (p, q) at h) in
+    omega arith
 
-pub ending-some : (bytes : List ℕ) → (length bytes ≡ 0 → ⊥) → flagsIn (frontOf 4 bytes) bytes ≡ endingOf bytes
-unfolding endingOf
-ending-some [] h = absurd (h refl)
-ending-some (b ∷ bytes) h = refl
+pub two-bytes : (n : ℕ) → lengthFits 4 n ≡ true → n ≡ 2
+unfolding lengthFits
+two-bytes n h = eqb-true n 2 h

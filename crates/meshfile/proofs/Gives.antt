@@ -1,13 +1,13 @@
 -- What reading gives: a fault, too short an area, or both areas filled. Assumes nothing.
-use mathlib.Core.Path.{_≡_, refl, sym, ap, _∙_}
+use mathlib.Core.Path.{_≡_, refl, ap}
 use mathlib.Core.Bool.{Bool, true, false, _||_}
 use mathlib.Core.List.{List, [], _∷_, _++_}
-use Prim.Native.Nat.{ℕ, suc, _+_, _*_, _-_, _/_, _≤_}
+use Prim.Native.Nat.{ℕ, _+_, _*_, _-_, _/_, _≤_}
 use native.Mathlib.Omega.{arith}
 use borrow.Author.Tests.{ltb-false}
 use lib.Dec.{eqb, ltb}
 use lib.Ieee.{Float, binary32, ofBits}
-use lib.ListN.{length, take, drop, length-drop, length-take}
+use lib.ListN.{length, take, drop, length-drop}
 use lib.Seq.{length-take-le}
 use Rattle.record.specs.declared.Profile.{Profile}
 use Rattle.record.specs.Numbers.{profileAt}
@@ -15,7 +15,7 @@ use Rattle.meshfile.specs.declared.Layout.{Layout}
 use Rattle.meshfile.specs.declared.MeshFile.{MeshFile}
 use Rattle.meshfile.specs.declared.Parts.{Parts}
 use Rattle.meshfile.specs.declared.Reading.{Reading}
-use Rattle.meshfile.specs.Format.{word, words, fileOf, File}
+use Rattle.meshfile.specs.Format.{word, words, File}
 use Rattle.meshfile.specs.Reading.{floatsOf, areasShort, unlessShort, readingOf, floatsAfter, idsAfter, Reads}
 use Rattle.meshfile.specs.Steps.{layoutOf, contentsAt, Fits, Filled}
 use Rattle.meshfile.proofs.Layouts.{inside, file-holds, file-refused}
@@ -40,11 +40,6 @@ pub part-is : (k n : ℕ) (bytes : List ℕ) → take (k + n - k) (drop k bytes)
 part-is k n bytes =
     let e : k + n - k ≡ n = omega arith in
     rw e
-
--- what is lent of bytes and area fits together
-pub lent-fits : {A : Type 0} (k n : ℕ) (bytes : List ℕ) (area : List A) → k + 4 * n ≤ length bytes → n ≤ length area
-    → length (take (k + 4 * n - k) (drop k bytes)) ≡ 4 * length (take n area)
-lent-fits k n bytes area h r = ap length (part-is k (4 * n) bytes) ∙ part-length k (4 * n) bytes h ∙ ap (λ (m : ℕ). 4 * m) (sym (length-take-le n area r))
 
 neither : (a b : Bool) → (a || b) ≡ false → (a ≡ false) × (b ≡ false)
 neither true b q = let y : _≡_ {A = ℕ} 0 1 = cc in absurd (omega arith)

@@ -1,43 +1,24 @@
 -- Finding first where everything stands, and then what stands there, gives the file that the format defines. Assumes nothing.
 use mathlib.Core.Path.{_≡_, refl, sym, ap, _∙_, subst}
-use mathlib.Core.Bool.{true}
 use mathlib.Core.List.{List}
-use Prim.Native.Nat.{ℕ, _+_, _*_, _/_, _%_, _≤_}
+use Prim.Native.Nat.{ℕ, _+_, _*_, _/_, _≤_}
 use native.Mathlib.Omega.{arith}
-use borrow.Author.Tests.{eqb-true}
 use lib.ListN.{length, take, drop, length-drop}
 use lib.Seq.{drop-drop}
 use Rattle.meshfile.specs.declared.Front.{Front}
 use Rattle.meshfile.specs.declared.Ending.{Ending}
 use Rattle.meshfile.specs.declared.Layout.{Layout}
 use Rattle.meshfile.specs.declared.Parts.{Parts}
-use Rattle.meshfile.specs.Format.{word, words, lengthFits, frontOf, endingOf, ended, idsIn, verticesIn, unitIn, fileOf, File}
+use Rattle.meshfile.specs.Format.{word, words, frontOf, endingOf, ended, idsIn, verticesIn, unitIn, fileOf, Contents, File}
 use Rattle.meshfile.specs.Steps.{partsBy, idsFrom, verticesFrom, unitFrom, layoutOf, contentsAt, fileAt}
-use Rattle.meshfile.proofs.Fronts.{Record, record-of}
+use Rattle.meshfile.proofs.Fronts.{Record, record-of, four-bytes, whole-words}
 
 quarter : (i : ℕ) → 4 * i / 4 ≡ i
 quarter i = omega arith
 
--- a payload of floats or ids is whole words
-whole-words : (kind n : ℕ) (bytes : List ℕ) → (lengthFits kind n ≡ true → n % 4 ≡ 0) → Record kind n bytes → n ≡ 4 * (n / 4)
-whole-words kind n bytes h r =
-    let z : n % 4 ≡ 0 = h (r .fits) in
-    omega arith
-
-ids-whole : (n : ℕ) → lengthFits 3 n ≡ true → n % 4 ≡ 0
-unfolding lengthFits
-ids-whole n h = eqb-true (n % 4) 0 h
-
-floats-whole : (n : ℕ) → lengthFits 2 n ≡ true → n % 4 ≡ 0
-unfolding lengthFits
-floats-whole n h = eqb-true (n % 4) 0 h
-
-four-bytes : (n : ℕ) → lengthFits 1 n ≡ true → n ≡ 4
-unfolding lengthFits
-four-bytes n h = eqb-true n 4 h
-
 module _ (bytes : List ℕ) where
-  drop-to : (m n k : ℕ) → n + m ≡ k → drop m (drop n bytes) ≡ drop k bytes
+  -- drops merged
+  pub drop-to : (m n k : ℕ) → n + m ≡ k → drop m (drop n bytes) ≡ drop k bytes
   drop-to m n k e = drop-drop m n bytes ∙ ap (λ (j : ℕ). drop j bytes) e
 
   pub record Laid (p : Parts) : Type 0 where
@@ -45,6 +26,11 @@ module _ (bytes : List ℕ) where
     pub floats : Record 2 (4 * p .floats) (drop 10 bytes)
     pub ids : Record 3 (4 * p .ids) (drop (16 + 4 * p .floats) bytes)
     pub end : endingOf (drop (22 + 4 * p .floats + 4 * p .ids) bytes) ≡ Ending.Flags (p .clip) (p .defect)
+
+  pub laid-inside : (p : Parts) → Laid p → 22 + 4 * p .floats + 4 * p .ids ≤ length bytes
+  laid-inside p laid =
+      let r = laid .ids .room in
+      omega (arith, length-drop (16 + 4 * p .floats) bytes)
 
   unfoldable pub Stands : Layout → Type 0
   Stands (Layout.Fault n) = Unit {0}
@@ -78,7 +64,7 @@ module _ (bytes : List ℕ) where
       from-ids (Front.Fault n) h = (refl, tt)
       from-ids (Front.Payload n) h =
           let r = record-of 3 n (drop (16 + 4 * f) bytes) h in
-          let e = whole-words 3 n (drop (16 + 4 * f) bytes) (ids-whole n) r in
+          let e = whole-words 3 n refl refl (r .fits) in
           subst (λ (m : ℕ). FromIds (Front.Payload m)) (sym e) (ids-payload (n / 4) (rw e at r))
 
     abbrev FromVertices : Front → Type 0
@@ -95,7 +81,7 @@ module _ (bytes : List ℕ) where
     from-vertices (Front.Fault n) h = (refl, tt)
     from-vertices (Front.Payload n) h =
         let r = record-of 2 n (drop 10 bytes) h in
-        let e = whole-words 2 n (drop 10 bytes) (floats-whole n) r in
+        let e = whole-words 2 n refl refl (r .fits) in
         subst (λ (m : ℕ). FromVertices (Front.Payload m)) (sym e) (vertices-payload (n / 4) (rw e at r))
 
   abbrev FromUnit : Front → Type 0
@@ -132,10 +118,17 @@ module _ (bytes : List ℕ) where
     file-holds = file-is ∙ ap (fileAt bytes) (sym e ∙ h)
 
     pub inside : 22 + 4 * p .floats + 4 * p .ids ≤ length bytes
-    inside =
-        let r = laid-out .ids .room in
-        omega (arith, length-drop (16 + 4 * p .floats) bytes)
+    inside = laid-inside p laid-out
 
   pub file-refused : (n : ℕ) (l : Layout) → l ≡ layoutOf bytes → l ≡ Layout.Fault n → fileOf bytes ≡ File.Refused n
   unfolding fileAt
   file-refused n l e h = file-is ∙ ap (fileAt bytes) (sym e ∙ h)
+
+  -- a file that holds something is laid out
+  held-by : (m : Contents) (l : Layout) → layoutOf bytes ≡ l → fileAt bytes l ≡ File.Holds m → (p : Parts) × Laid p × (contentsAt bytes p ≡ m)
+  unfolding fileAt
+  held-by m (Layout.Fault n) e h = let y : _≡_ {A = ℕ} 0 1 = cc in absurd (omega arith)
+  held-by m (Layout.Whole p) e h = (p, laid-out p (Layout.Whole p) (sym e) refl, cc)
+
+  pub held : (m : Contents) → fileOf bytes ≡ File.Holds m → (p : Parts) × Laid p × (contentsAt bytes p ≡ m)
+  held m h = held-by m (layoutOf bytes) refl (sym file-is ∙ h)

@@ -1,6 +1,12 @@
 -- Fronts of records, where everything stands, the words that are put, what reading gives, and the format from the writer's side.
 mod Fronts
+mod Endings
 mod Words
 mod Layouts
 mod Gives
 pub mod Most
+pub mod One
+pub mod Bounds
+mod Bytes
+pub mod Accepts
+pub mod AcceptsOnly

@@ -1,11 +1,11 @@
 -- Words put one by one into an area: those put so far, then those still to come, are the payload's words, each under one map. Assumes nothing.
 use mathlib.Core.Path.{_≡_, refl, sym, ap, _∙_}
-use mathlib.Core.List.{List, [], _∷_, _++_, map, map-id, append-assoc, append-nil}
-use Prim.Native.Nat.{ℕ, suc, _+_, _*_, _≤_, _<_}
+use mathlib.Core.List.{List, [], _∷_, _++_, map, append-assoc, append-nil}
+use Prim.Native.Nat.{ℕ, _+_, _*_, _≤_, _<_}
 use native.Mathlib.Numerals.{add-one}
 use native.Mathlib.Omega.{arith}
 use lib.Ieee.{Float, binary32, ofBits}
-use lib.ListN.{length, getD, take, drop, set, length-drop, drop-of-length-le}
+use lib.ListN.{length, take, drop, set, length-drop, drop-of-length-le}
 use lib.Seq.{take-all, take-suc-set, getD-drop, drop-drop}
 use Rattle.meshfile.specs.Format.{word, words}
 use Rattle.meshfile.specs.Reading.{floatsOf}
@@ -23,7 +23,7 @@ words-first (a ∷ b ∷ []) h = absurd (omega arith)
 words-first (a ∷ b ∷ d ∷ []) h = absurd (omega arith)
 words-first (a ∷ b ∷ d ∷ e ∷ l) h = refl
 
-word-drop : (n : ℕ) (l : List ℕ) → word (drop n l) 0 ≡ word l n
+pub word-drop : (n : ℕ) (l : List ℕ) → word (drop n l) 0 ≡ word l n
 unfolding word
 word-drop n l =
     let z : n + 0 ≡ n = omega arith in

@@ -1,5 +1,6 @@
 -- What comes back of `read`, and what it leaves in the lent floats and ids: for every list of bytes one answer, and one later content of each area.
 use mathlib.Core.Path.{_≡_}
+use mathlib.Core.Logic.{_⊎_}
 use Prim.Native.Nat.{ℕ}
 use mathlib.Core.Bool.{Bool, true, false, _||_}
 use mathlib.Core.List.{List, [], _∷_, _++_}
@@ -46,3 +47,15 @@ pub record Reads (bytes : List ℕ) (vs : List Float) (ids : List ℕ) (r : Read
   pub answers : r ≡ readingOf (fileOf bytes) (length vs) (length ids)
   pub floats : vs′ ≡ floatsAfter (fileOf bytes) (length ids) vs
   pub ids-after : ids′ ≡ idsAfter (fileOf bytes) (length vs) ids
+
+-- Reading refuses by 3, 5 and 6 only, and a refusal leaves both areas as they were.
+unfoldable pub Refuses : Reading → Type 0
+Refuses (Reading.File m) = Unit {0}
+Refuses (Reading.Refused n) = (n ≡ 3) ⊎ (n ≡ 5) ⊎ (n ≡ 6)
+
+abbrev pub RefusesBy356 : Type 0
+RefusesBy356 = (bytes : List ℕ) (vs : List Float) (ids : List ℕ) (r : Reading) (vs′ : List Float) (ids′ : List ℕ) → Reads bytes vs ids r vs′ ids′ → Refuses r
+
+abbrev pub RefusalsWriteNothing : Type 0
+RefusalsWriteNothing = (bytes : List ℕ) (vs : List Float) (ids : List ℕ) (n : ℕ) (vs′ : List Float) (ids′ : List ℕ)
+    → Reads bytes vs ids (Reading.Refused n) vs′ ids′ → (vs′ ≡ vs) × (ids′ ≡ ids)

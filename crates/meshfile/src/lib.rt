@@ -37,7 +37,9 @@ fn half(bytes: &[u8], at: usize) -> u32
     requires { ⌜ at + 2 ≤ length (now bytes) ⌝ }
     ensures { λ r. ⌜ r ≡ halfOf (now (bytes .entry)) at ⌝ }
 {
-    byte(bytes, at) + 256 * byte(bytes, at + 1)
+    let low = byte(bytes, at);
+    let high = byte(bytes, at + 1);
+    low + 256 * high
 }
 
 // The u32 at a place.
@@ -45,10 +47,11 @@ fn word(bytes: &[u8], at: usize) -> u32
     requires { ⌜ at + 4 ≤ length (now bytes) ⌝ }
     ensures { λ r. ⌜ r ≡ wordOf (now (bytes .entry)) at ⌝ }
 {
-    byte(bytes, at)
-        + 256 * byte(bytes, at + 1)
-        + 65536 * byte(bytes, at + 2)
-        + 16777216 * byte(bytes, at + 3)
+    let first = byte(bytes, at);
+    let second = byte(bytes, at + 1);
+    let third = byte(bytes, at + 2);
+    let fourth = byte(bytes, at + 3);
+    first + 256 * second + 65536 * third + 16777216 * fourth
 }
 
 // ---- one record

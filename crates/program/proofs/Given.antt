@@ -1,11 +1,11 @@
 -- Callees that could refuse an area do not: what they answer is the count of the pieces, and the length of the text that they put.
-use mathlib.Core.Path.{_≡_, refl, sym, ap, _∙_}
+use mathlib.Core.Path.{_≡_, refl, ap}
 use Prim.Native.Nat.{ℕ, _+_, _*_, _≤_}
 use mathlib.Core.Bool.{Bool, true, false}
-use mathlib.Core.List.{List, _++_}
+use mathlib.Core.List.{List}
 use native.Mathlib.Omega.{arith}
 use borrow.Author.Tests.{le-ltb}
-use lib.ListN.{length, take, drop}
+use lib.ListN.{length, take}
 use lib.Ieee.{Float}
 use Rattle.ids.specs.Triangles.{triangleCount}
 use Rattle.ids.specs.Lent.{refusal, unlessRefused}

@@ -1,15 +1,15 @@
 -- What is printed for a file that was read is the text of its bytes: its floats and ids stand first in the two areas, which are never too short.
 use mathlib.Core.Path.{_≡_, refl, sym, ap, _∙_}
 use Prim.Native.Nat.{ℕ, suc}
-use mathlib.Core.Bool.{Bool, false}
+use mathlib.Core.Bool.{false}
 use mathlib.Core.List.{List, [], _∷_, _++_}
 use lib.ListN.{length, take, drop}
 use lib.Seq.{take-append-seam}
-use lib.Ieee.{Float, binary32, ofBits}
+use lib.Ieee.{Float}
 use Rattle.meshfile.specs.declared.MeshFile.{MeshFile}
 use Rattle.meshfile.specs.declared.Reading.{Reading}
 use Rattle.meshfile.specs.Format.{Contents, File, fileOf}
-use Rattle.meshfile.specs.Reading.{floatsOf, areasShort, meshFile, unlessShort, readingOf, floatsAfter, idsAfter, Reads}
+use Rattle.meshfile.specs.Reading.{floatsOf, areasShort, unlessShort, readingOf, floatsAfter, idsAfter, Reads}
 use Rattle.meshfile.proofs.Most.{never-short}
 use Rattle.listing.specs.Listing.{refusedLine}
 use Rattle.program.specs.Program.{meshText, textFor, textOf}

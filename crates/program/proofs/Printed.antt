@@ -1,11 +1,16 @@
--- The text that was printed lies within its area; and there is one text for every input, of which the first 12,319 bytes decide.
-use mathlib.Core.Path.{_≡_, sym, ap, _∙_}
-use Prim.Native.Nat.{ℕ, _+_, _≤_}
-use mathlib.Core.List.{List, _++_}
+-- The text that was printed lies within its area; there is one for every input; input that is longer than any file is refused, and its first bytes decide how.
+use mathlib.Core.Path.{_≡_, refl, sym, ap, _∙_}
+use mathlib.Core.Logic.{_⊎_}
+use Prim.Native.Nat.{ℕ, _≤_}
+use mathlib.Core.List.{List}
 use native.Mathlib.Omega.{arith}
 use lib.ListN.{length, take, drop, length-append}
 use lib.Seq.{length-take-le}
-use Rattle.program.specs.Program.{textOf, Prints}
+use Rattle.meshfile.specs.Format.{Contents, File, fileOf}
+use Rattle.meshfile.proofs.Bounds.{files-are-short, front-decides as file-front-decides}
+use Rattle.meshfile.proofs.One.{File56, file-56}
+use Rattle.listing.specs.Listing.{refusedLine}
+use Rattle.program.specs.Program.{textFor, textOf, Prints, FrontDecides, LongRefused}
 
 module _ (text area : List ℕ) (r : ℕ) (area′ : List ℕ) (printed : Prints text area r area′) where
   pub prints-inside : r ≤ length area′
@@ -17,3 +22,22 @@ module _ (text area : List ℕ) (r : ℕ) (area′ : List ℕ) (printed : Prints
 -- any two answers that the contract of `run` allows are equal, and so is what stands in the area
 pub run-one : (bytes area : List ℕ) (r₁ r₂ : ℕ) (area₁ area₂ : List ℕ) → Prints (textOf bytes) area r₁ area₁ → Prints (textOf bytes) area r₂ area₂ → (r₁ ≡ r₂) × (area₁ ≡ area₂)
 run-one bytes area r₁ r₂ area₁ area₂ x y = (x .answers ∙ sym (y .answers), x .later ∙ sym (y .later))
+
+-- ---- input that is longer than any file
+
+pub front-decides : FrontDecides
+unfolding textOf
+front-decides bytes h = ap textFor (file-front-decides bytes h)
+
+refused-text : (f : File) → File56 f → ((m : Contents) → f ≡ File.Holds m → ⊥) → (n : ℕ) × ((n ≡ 5) ⊎ (n ≡ 6)) × (textFor f ≡ refusedLine n)
+unfolding textFor
+refused-text (File.Refused n) h none = (n, h, refl)
+refused-text (File.Holds m) h none = absurd (none m refl)
+
+pub long-refused : LongRefused
+unfolding textOf
+long-refused bytes h =
+    refused-text (fileOf bytes) (file-56 bytes)
+    (λ m e.
+    let short = files-are-short m bytes e in
+    omega arith)

@@ -1,13 +1,11 @@
 -- The areas that the program lends suffice for every file, so that it never prints refusal 1 or 3.
-use mathlib.Core.Path.{_≡_, refl}
+use mathlib.Core.Path.{_≡_}
 use Prim.Native.Nat.{ℕ, _+_, _*_, _/_, _≤_}
 use mathlib.Core.Bool.{false, _||_}
-use mathlib.Core.List.{List}
 use native.Mathlib.Omega.{arith}
 use borrow.Author.Tests.{le-ltb}
 use lib.Dec.{ltb}
 use lib.ListN.{length}
-use lib.Ieee.{Float}
 use Rattle.qto.specs.Refusals.{workWords, areasShort, checkOf}
 use Rattle.program.specs.Program.{checkFile, AreasSuffice}
 

@@ -1,10 +1,10 @@
 -- `meshfile::fill` meets its contract: both parts lie within the bytes, and each area gets its own. Assumes nothing.
 use mathlib.Core.Path.{sym}
-use Prim.Native.Nat.{_+_, _*_}
 use native.Mathlib.Omega.{arith}
 use borrow.Author.Needs.{needs}
+use lib.ListN.{length-take, length-drop}
 use lib.Seq.{length-take-le}
-use Rattle.meshfile.proofs.Gives.{lent-fits, filled}
+use Rattle.meshfile.proofs.Gives.{filled}
 use Rattle.meshfile.proofs.fill.Statement.{statement}
 use Rattle.meshfile.proofs.fill.Tie as tie
 
@@ -33,10 +33,12 @@ slice-relend-prefix-put-floats : tie.Need-slice-relend-prefix-put-floats
 slice-relend-prefix-put-floats c = search needs
 
 slice-aggregate-put-floats : tie.Need-slice-aggregate-put-floats
-slice-aggregate-put-floats c = sym (length-take-le (c .before .before .before .before .before .args .p .floats) (c .before .before .before .before .before .args .vertices .now) (c .before .before .before .before .before .pre .floats-room))
+slice-aggregate-put-floats c =
+    let s = c .before .before .before .before .before in
+    sym (length-take-le (s .args .p .floats) (s .args .vertices .now) (s .pre .floats-room))
 
 put-floats-requires : tie.Need-put-floats-requires
-put-floats-requires c κs = lent-fits 16 (c .before .before .before .before .before .args .p .floats) (c .before .before .before .before .before .args .bytes .now) (c .before .before .before .before .before .args .vertices .now) (omega (arith, c .before .before .before .before .before .pre .inside)) (c .before .before .before .before .before .pre .floats-room)
+put-floats-requires c κs = simp (length-take, length-drop) (omega (arith, c .before .before .before .before .before .pre))
 
 mul-put-ids : tie.Need-mul-put-ids
 mul-put-ids c = search needs
@@ -57,10 +59,12 @@ slice-relend-prefix-put-ids : tie.Need-slice-relend-prefix-put-ids
 slice-relend-prefix-put-ids c = search needs
 
 slice-aggregate-put-ids : tie.Need-slice-aggregate-put-ids
-slice-aggregate-put-ids c = sym (length-take-le (c .before .before .before .before .before .before .before .before .before .before .args .p .ids) (c .before .before .before .before .before .before .before .before .before .before .args .ids .now) (c .before .before .before .before .before .before .before .before .before .before .pre .ids-room))
+slice-aggregate-put-ids c =
+    let s = c .before .before .before .before .before .before .before .before .before .before in
+    sym (length-take-le (s .args .p .ids) (s .args .ids .now) (s .pre .ids-room))
 
 put-ids-requires : tie.Need-put-ids-requires
-put-ids-requires c κs = lent-fits (22 + 4 * c .before .before .before .before .before .before .before .before .before .before .args .p .floats) (c .before .before .before .before .before .before .before .before .before .before .args .p .ids) (c .before .before .before .before .before .before .before .before .before .before .args .bytes .now) (c .before .before .before .before .before .before .before .before .before .before .args .ids .now) (c .before .before .before .before .before .before .before .before .before .before .pre .inside) (c .before .before .before .before .before .before .before .before .before .before .pre .ids-room)
+put-ids-requires c κs = simp (length-take, length-drop) (omega (arith, c .before .before .before .before .before .before .before .before .before .before .pre))
 
 word-requires : tie.Need-word-requires
 word-requires c κs = search needs
@@ -78,7 +82,10 @@ same-length-2 : tie.Need-same-length-2
 same-length-2 c = search needs
 
 returns : tie.Need-returns
-returns c = filled (c .before .before .before .before .before .before .before .before .before .before .before .before .before .before .before .before .before .args .bytes .now) (c .before .before .before .before .before .before .before .before .before .before .before .before .before .before .before .before .before .args .p) (c .before .before .before .before .before .before .before .before .before .before .before .before .before .before .before .before .before .args .vertices .now) (c .before .before .before .before .before .before .before .before .before .before .before .before .before .before .before .before .before .args .ids .now) (c .before .before .before .before .before .before .before .before .before .before .before .before .before .before .before .before .before .pre .inside) _ _ _ _ _ (c .before .before .before .word .ensures) (c .before .before .f32-of .ensures) (c .profile-of .ensures) (c .before .before .before .before .before .before .before .before .before .before .before .put-floats .ensures) (c .before .before .before .before .before .before .put-ids .ensures)
+returns c =
+    let s = c .before .before .before .before .before .before .before .before .before .before .before .before .before .before .before .before .before in
+    filled (s .args .bytes .now) (s .args .p) (s .args .vertices .now) (s .args .ids .now) (s .pre .inside) _ _ _ _ _ (c .before .before .before .word .ensures) (c .before .before .f32-of .ensures)
+    (c .profile-of .ensures) (c .before .before .before .before .before .before .before .before .before .before .before .put-floats .ensures) (c .before .before .before .before .before .before .put-ids .ensures)
 
 pub fill-spec : {M : Type 1} → statement M
 fill-spec =

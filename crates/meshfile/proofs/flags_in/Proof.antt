@@ -1,7 +1,9 @@
 -- `meshfile::flags_in` meets its contract: its tests are the definition's. Assumes nothing.
-use borrow.Author.Tests.{lt-ltb, le-ltb, not-true, not-false}
+use mathlib.Core.Path.{sym, _∙_}
+use native.Mathlib.Omega.{arith}
+use borrow.Author.Tests.{not-true, not-false}
 use borrow.Author.Needs.{needs}
-use Rattle.meshfile.specs.Format.{flagsIn}
+use Rattle.meshfile.proofs.Endings.{flags-unknown, bytes-behind, flags-last}
 use Rattle.meshfile.proofs.flags_in.Statement.{statement}
 use Rattle.meshfile.proofs.flags_in.Tie as tie
 
@@ -15,19 +17,31 @@ flags-fit-requires : tie.Need-flags-fit-requires
 flags-fit-requires c κs = search needs
 
 returns : tie.Need-returns
-unfolding flagsIn
-returns c = rw (← c .before .before .before .byte .ensures .0, ← c .before .before .byte2 .ensures .0, ← c .before .flags-fit .ensures, not-true (c .before .flags-fit .result) (c .if1 .taken))
+returns c =
+    let s = c .before .before .before .before .before .args in
+    let clip = c .before .before .before .byte in
+    let defect = c .before .before .byte2 in
+    let fit = c .before .flags-fit in
+    flags-unknown (s .n) (clip .result) (defect .result) (s .bytes .now) (clip .ensures .0) (defect .ensures .0) (sym (fit .ensures) ∙ not-true (fit .result) (c .if1 .taken))
 
 add-if2 : tie.Need-add-if2
 add-if2 c = search needs
 
 returns-2 : tie.Need-returns-2
-unfolding flagsIn
-returns-2 c = rw (← c .before .before .before .before .byte .ensures .0, ← c .before .before .before .byte2 .ensures .0, ← c .before .before .flags-fit .ensures, not-false (c .before .before .flags-fit .result) (c .before .if1 .left), lt-ltb _ _ (c .if2 .taken))
+returns-2 c =
+    let s = c .before .before .before .before .before .before .args in
+    let clip = c .before .before .before .before .byte in
+    let defect = c .before .before .before .byte2 in
+    let fit = c .before .before .flags-fit in
+    bytes-behind (s .n) (clip .result) (defect .result) (s .bytes .now) (clip .ensures .0) (defect .ensures .0) (sym (fit .ensures) ∙ not-false (fit .result) (c .before .if1 .left)) (omega (arith, c .if2 .taken))
 
 returns-3 : tie.Need-returns-3
-unfolding flagsIn
-returns-3 c = rw (← c .before .before .before .before .byte .ensures .0, ← c .before .before .before .byte2 .ensures .0, ← c .before .before .flags-fit .ensures, not-false (c .before .before .flags-fit .result) (c .before .if1 .left), le-ltb _ _ (c .if2 .left))
+returns-3 c =
+    let s = c .before .before .before .before .before .before .args in
+    let clip = c .before .before .before .before .byte in
+    let defect = c .before .before .before .byte2 in
+    let fit = c .before .before .flags-fit in
+    flags-last (s .n) (clip .result) (defect .result) (s .bytes .now) (clip .ensures .0) (defect .ensures .0) (sym (fit .ensures) ∙ not-false (fit .result) (c .before .if1 .left)) (omega (arith, c .if2 .left))
 
 pub flags-in-spec : {M : Type 1} → statement M
 flags-in-spec =

@@ -40,13 +40,19 @@ loop-less : tie.Need-loop-less Inv-loop μ-loop
 loop-less c = search needs
 
 loop-again : tie.Need-loop-again Inv-loop μ-loop
-loop-again c = (search needs, search needs, rw (c .f32-of .ensures) (put-next (ofBits binary32) (c .before .before .before .before .before .before .args .bytes .now) (c .before .before .before .loop .i) (c .before .before .before .loop .vertices) (c .before .word .result) (omega arith) (omega arith) (c .before .word .ensures) (c .before .before .before .loop .inv .2)))
+loop-again c =
+    let b = c .before .before .before .before .before .before .args .bytes .now in
+    let l = c .before .before .before .loop in
+    (search needs, search needs, rw (c .f32-of .ensures) (put-next (ofBits binary32) b (l .i) (l .vertices) (c .before .word .result) (omega arith) (omega arith) (c .before .word .ensures) (l .inv .2)))
 
 same-length : tie.Need-same-length Inv-loop μ-loop
 same-length c = search needs
 
 returns : tie.Need-returns Inv-loop μ-loop
-returns c = put-all (ofBits binary32) (c .before .before .before .before .args .bytes .now) (c .before .loop .i) (c .before .loop .vertices) (omega arith) (omega arith) (c .before .loop .inv .2) ∙ floats-map _
+returns c =
+    let b = c .before .before .before .before .args .bytes .now in
+    let l = c .before .loop in
+    put-all (ofBits binary32) b (l .i) (l .vertices) (omega arith) (omega arith) (l .inv .2) ∙ floats-map _
 
 pub put-floats-spec : {M : Type 1} → statement M
 put-floats-spec =

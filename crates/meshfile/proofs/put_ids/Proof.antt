@@ -37,13 +37,19 @@ loop-less : tie.Need-loop-less Inv-loop μ-loop
 loop-less c = search needs
 
 loop-again : tie.Need-loop-again Inv-loop μ-loop
-loop-again c = (search needs, search needs, put-next (λ (w : ℕ). w) (c .before .before .before .before .before .args .bytes .now) (c .before .before .loop .i) (c .before .before .loop .ids) (c .word .result) (omega arith) (omega arith) (c .word .ensures) (c .before .before .loop .inv .2))
+loop-again c =
+    let b = c .before .before .before .before .before .args .bytes .now in
+    let l = c .before .before .loop in
+    (search needs, search needs, put-next (λ (w : ℕ). w) b (l .i) (l .ids) (c .word .result) (omega arith) (omega arith) (c .word .ensures) (l .inv .2))
 
 same-length : tie.Need-same-length Inv-loop μ-loop
 same-length c = search needs
 
 returns : tie.Need-returns Inv-loop μ-loop
-returns c = put-all (λ (w : ℕ). w) (c .before .before .before .before .args .bytes .now) (c .before .loop .i) (c .before .loop .ids) (omega arith) (omega arith) (c .before .loop .inv .2) ∙ map-id _
+returns c =
+    let b = c .before .before .before .before .args .bytes .now in
+    let l = c .before .loop in
+    put-all (λ (w : ℕ). w) b (l .i) (l .ids) (omega arith) (omega arith) (l .inv .2) ∙ map-id _
 
 pub put-ids-spec : {M : Type 1} → statement M
 put-ids-spec =

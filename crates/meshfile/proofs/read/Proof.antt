@@ -14,13 +14,24 @@ enum-known-found-2 : tie.Need-enum-known-found-2
 enum-known-found-2 c = search needs
 
 returns : tie.Need-returns
-returns c = short (c .before .before .before .before .before .before .before .before .before .before .args .bytes .now) (c .before .before .before .before .found2 .given .0 .0) (c .before .before .before .before .before .before .before .before .before .before .args .vertices .now) (c .before .before .before .before .before .before .before .before .before .before .args .ids .now) (c .before .before .before .before .before .before .layout-of .result) (c .before .before .before .before .before .before .layout-of .ensures) (c .before .before .before .before .found2 .given .1) (c .if1 .taken)
+returns c =
+    let s = c .before .before .before .before .before .before .before .before .before .before .args in
+    let l = c .before .before .before .before .before .before .layout-of in
+    let found = c .before .before .before .before .found2 .given in
+    short (s .bytes .now) (found .0 .0) (s .vertices .now) (s .ids .now) (l .result) (l .ensures) (found .1) (c .if1 .taken)
 
 fill-requires : tie.Need-fill-requires
-fill-requires c κs = fits (c .before .before .before .before .before .before .before .before .before .before .before .before .args .bytes .now) (c .before .before .before .before .before .before .found2 .given .0 .0) (c .before .before .before .before .before .before .before .before .before .before .before .before .args .vertices .now) (c .before .before .before .before .before .before .before .before .before .before .before .before .args .ids .now) (c .before .before .before .before .before .before .before .before .layout-of .result) (c .before .before .before .before .before .before .before .before .layout-of .ensures) (c .before .before .before .before .before .before .found2 .given .1) (c .before .before .if1 .left)
+fill-requires c κs =
+    let s = c .before .before .before .before .before .before .before .before .before .before .before .before .args in
+    let l = c .before .before .before .before .before .before .before .before .layout-of in
+    let found = c .before .before .before .before .before .before .found2 .given in
+    fits (s .bytes .now) (found .0 .0) (s .vertices .now) (s .ids .now) (l .result) (l .ensures) (found .1) (c .before .before .if1 .left)
 
 returns-2 : tie.Need-returns-2
-returns-2 c = refused (c .before .before .before .before .before .before .before .args .bytes .now) (c .before .before .before .before .before .before .before .args .vertices .now) (c .before .before .before .before .before .before .before .args .ids .now) _ (c .before .before .before .layout-of .result) (c .before .before .before .layout-of .ensures) (c .before .found .given .1)
+returns-2 c =
+    let s = c .before .before .before .before .before .before .before .args in
+    let l = c .before .before .before .layout-of in
+    refused (s .bytes .now) (s .vertices .now) (s .ids .now) _ (l .result) (l .ensures) (c .before .found .given .1)
 
 same-length : tie.Need-same-length
 same-length c = search needs
@@ -29,7 +40,11 @@ same-length-2 : tie.Need-same-length-2
 same-length-2 c = search needs
 
 returns-3 : tie.Need-returns-3
-returns-3 c = given (c .before .before .before .before .before .before .before .before .before .before .before .before .before .before .before .before .before .args .bytes .now) (c .before .before .before .before .before .before .before .before .before .before .before .found2 .given .0 .0) (c .before .before .before .before .before .before .before .before .before .before .before .before .before .before .before .before .before .args .vertices .now) (c .before .before .before .before .before .before .before .before .before .before .before .before .before .before .before .before .before .args .ids .now) (c .before .before .before .before .before .before .before .before .before .before .before .before .before .layout-of .result) (c .before .before .before .before .before .before .before .before .before .before .before .before .before .layout-of .ensures) (c .before .before .before .before .before .before .before .before .before .before .before .found2 .given .1) (c .before .before .before .before .before .before .before .if1 .left) _ _ _ (c .before .before .before .before .fill .ensures)
+returns-3 c =
+    let s = c .before .before .before .before .before .before .before .before .before .before .before .before .before .before .before .before .before .args in
+    let l = c .before .before .before .before .before .before .before .before .before .before .before .before .before .layout-of in
+    let found = c .before .before .before .before .before .before .before .before .before .before .before .found2 .given in
+    given (s .bytes .now) (found .0 .0) (s .vertices .now) (s .ids .now) (l .result) (l .ensures) (found .1) (c .before .before .before .before .before .before .before .if1 .left) _ _ _ (c .before .before .before .before .fill .ensures)
 
 pub read-spec : {M : Type 1} → statement M
 read-spec =

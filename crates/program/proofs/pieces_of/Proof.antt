@@ -1,40 +1,29 @@
 -- `program::pieces_of` meets its contract: no more than 1,536 ids and 512 words are never refused. Assumes nothing.
 use mathlib.Core.Path.{sym, ap, _∙_}
 use Rattle.program.proofs.Given.{countIn, pieces-counted}
-use native.Mathlib.Omega.{arith}
 use borrow.Author.Needs.{needs}
 use Rattle.program.proofs.pieces_of.Statement.{statement}
 use Rattle.program.proofs.pieces_of.Tie as tie
-use Rattle.program.proofs.pieces_of.Reads as reads
-use Rattle.program.proofs.pieces_of.Lts as lts
-use Rattle.pieces.proofs.pieces.Reads as pieces-reads
 
--- src/lib.rt:22:9
 pieces-requires : tie.Need-pieces-requires
 pieces-requires c κs = search needs
 
--- src/lib.rt:24:28
 enum-known-count : tie.Need-enum-known-count
 enum-known-count c = search needs
 
--- src/lib.rt:25:35
 enum-told : tie.Need-enum-told
 enum-told c = search needs
 
--- src/lib.rt:18:1
 same-length : tie.Need-same-length
 same-length c = search needs
 
--- src/lib.rt:18:1
 returns : tie.Need-returns
 unfolding countIn
 returns c = sym (ap countIn (c .before .count .given .1)) ∙ pieces-counted _ _ _ _ (c .before .before .before .before .before .before .before .before .before .pre .0) (c .before .before .before .before .before .before .before .before .before .pre .1) (c .before .before .before .before .before .pieces .ensures)
 
--- src/lib.rt:18:1
 same-length-2 : tie.Need-same-length-2
 same-length-2 c = search needs
 
--- src/lib.rt:18:1
 returns-2 : tie.Need-returns-2
 unfolding countIn
 returns-2 c = sym (ap countIn (c .enum-told .given .1)) ∙ pieces-counted _ _ _ _ (c .before .before .before .before .before .before .before .before .pre .0) (c .before .before .before .before .before .before .before .before .pre .1) (c .before .before .before .before .pieces .ensures)

@@ -1,40 +1,29 @@
 -- `program::print_refusal` meets its contract: the text area is long enough. Assumes nothing.
-use mathlib.Core.Path.{sym, ap, _∙_}
+use mathlib.Core.Path.{sym, ap}
 use Rattle.program.proofs.Given.{lengthIn, refusal-prints}
-use native.Mathlib.Omega.{arith}
 use borrow.Author.Needs.{needs}
 use Rattle.program.proofs.print_refusal.Statement.{statement}
 use Rattle.program.proofs.print_refusal.Tie as tie
-use Rattle.program.proofs.print_refusal.Reads as reads
-use Rattle.program.proofs.print_refusal.Lts as lts
-use Rattle.listing.proofs.list_refusal.Reads as list-refusal-reads
 
--- src/lib.rt:34:9
 list-refusal-requires : tie.Need-list-refusal-requires
 list-refusal-requires c κs = search needs
 
--- src/lib.rt:36:24
 enum-known-said : tie.Need-enum-known-said
 enum-known-said c = search needs
 
--- src/lib.rt:37:31
 enum-told : tie.Need-enum-told
 enum-told c = search needs
 
--- src/lib.rt:30:1
 same-length : tie.Need-same-length
 same-length c = search needs
 
--- src/lib.rt:30:1
 returns : tie.Need-returns
 unfolding lengthIn
 returns c = rw (sym (ap lengthIn (c .before .said .given .1))) (refusal-prints _ _ _ _ (c .before .before .before .before .before .before .before .before .pre) (c .before .before .before .before .before .list-refusal .ensures))
 
--- src/lib.rt:30:1
 same-length-2 : tie.Need-same-length-2
 same-length-2 c = search needs
 
--- src/lib.rt:30:1
 returns-2 : tie.Need-returns-2
 unfolding lengthIn
 returns-2 c = rw (sym (ap lengthIn (c .enum-told .given .1))) (refusal-prints _ _ _ _ (c .before .before .before .before .before .before .before .pre) (c .before .before .before .before .list-refusal .ensures))

@@ -8,61 +8,54 @@ use native.Mathlib.Omega.{arith}
 use borrow.Author.Needs.{needs}
 use Rattle.program.proofs.run.Statement.{statement}
 use Rattle.program.proofs.run.Tie as tie
-use Rattle.program.proofs.run.Reads as reads
-use Rattle.program.proofs.run.Lts as lts
-use Rattle.meshfile.proofs.read.Reads as read-reads
-use Rattle.program.proofs.print_mesh.Reads as print-mesh-reads
-use Rattle.program.proofs.print_refusal.Reads as print-refusal-reads
 
--- src/lib.rt:78:39
 slice-aggregate-read : tie.Need-slice-aggregate-read
 slice-aggregate-read c = search needs
 
--- src/lib.rt:78:54
 slice-aggregate-read-2 : tie.Need-slice-aggregate-read-2
 slice-aggregate-read-2 c = search needs
 
--- src/lib.rt:78:9
 read-requires : tie.Need-read-requires
 read-requires c κs = search needs
 
--- src/lib.rt:80:26
 enum-known-found : tie.Need-enum-known-found
 enum-known-found c = search needs
 
--- src/lib.rt:80:32
 print-refusal-requires : tie.Need-print-refusal-requires
 print-refusal-requires c κs = search needs
 
--- src/lib.rt:81:23
 enum-known-found-2 : tie.Need-enum-known-found-2
 enum-known-found-2 c = search needs
 
--- src/lib.rt:81:43
 array-share-prefix-vertices : tie.Need-array-share-prefix-vertices
-array-share-prefix-vertices c = omega (arith, reads-most _ _ _ _ _ _ (c .before .before .before .before .before .read .ensures) _ (c .before .found2 .given .1) .0)
+array-share-prefix-vertices c =
+    let most = reads-most _ _ _ _ _ _ (c .before .before .before .before .before .read .ensures) _ (c .before .found2 .given .1) in
+    omega (arith, most .0)
 
--- src/lib.rt:81:43
 slice-aggregate-print-mesh : tie.Need-slice-aggregate-print-mesh
-slice-aggregate-print-mesh c = sym (length-take-le _ _ (omega (arith, reads-most _ _ _ _ _ _ (c .before .before .before .before .before .before .read .ensures) _ (c .before .before .found2 .given .1) .0)))
+slice-aggregate-print-mesh c =
+    let most = reads-most _ _ _ _ _ _ (c .before .before .before .before .before .before .read .ensures) _ (c .before .before .found2 .given .1) in
+    sym (length-take-le _ _ (omega (arith, most .0)))
 
--- src/lib.rt:81:66
 array-share-prefix-ids : tie.Need-array-share-prefix-ids
-array-share-prefix-ids c = omega (arith, reads-most _ _ _ _ _ _ (c .before .before .before .before .before .before .read .ensures) _ (c .before .before .found2 .given .1) .1)
+array-share-prefix-ids c =
+    let most = reads-most _ _ _ _ _ _ (c .before .before .before .before .before .before .read .ensures) _ (c .before .before .found2 .given .1) in
+    omega (arith, most .1)
 
--- src/lib.rt:81:66
 slice-aggregate-print-mesh-2 : tie.Need-slice-aggregate-print-mesh-2
-slice-aggregate-print-mesh-2 c = sym (length-take-le _ _ (omega (arith, reads-most _ _ _ _ _ _ (c .before .before .before .before .before .before .before .read .ensures) _ (c .before .before .before .found2 .given .1) .1)))
+slice-aggregate-print-mesh-2 c =
+    let most = reads-most _ _ _ _ _ _ (c .before .before .before .before .before .before .before .read .ensures) _ (c .before .before .before .found2 .given .1) in
+    sym (length-take-le _ _ (omega (arith, most .1)))
 
--- src/lib.rt:81:29
 print-mesh-requires : tie.Need-print-mesh-requires
-print-mesh-requires c κs = (omega (arith, length-take (c .before .before .before .before .found2 .given .0 .0 .floats) (c .before .before .before .before .before .before .before .before .read .last .1 .0)), omega (arith, length-take (c .before .before .before .before .found2 .given .0 .0 .ids) (c .before .before .before .before .before .before .before .before .read .last .1 .1 .0)), search needs)
+print-mesh-requires c κs =
+    let m = c .before .before .before .before .found2 .given .0 .0 in
+    let areas = c .before .before .before .before .before .before .before .before .read .last .1 in
+    (omega (arith, length-take (m .floats) (areas .0)), omega (arith, length-take (m .ids) (areas .1 .0)), search needs)
 
--- src/lib.rt:73:1
 returns : tie.Need-returns
 returns c = rw (← refusal-text _ _ (omega arith) (omega arith) _ _ _ _ (c .before .before .before .before .before .before .before .read .ensures) _ (c .before .before .before .found .given .1)) (c .print-refusal .ensures)
 
--- src/lib.rt:73:1
 returns-2 : tie.Need-returns-2
 returns-2 c = rw (← mesh-text _ _ (omega arith) (omega arith) _ _ _ _ (c .before .before .before .before .before .before .before .before .before .read .ensures) _ (c .before .before .before .before .before .found2 .given .1)) (c .print-mesh .ensures)
 

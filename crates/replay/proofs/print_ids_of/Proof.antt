@@ -6,47 +6,34 @@ use Rattle.meshfile.proofs.Most.{reads-most}
 use borrow.Author.Needs.{needs}
 use Rattle.replay.proofs.print_ids_of.Statement.{statement}
 use Rattle.replay.proofs.print_ids_of.Tie as tie
-use Rattle.replay.proofs.print_ids_of.Reads as reads
-use Rattle.replay.proofs.print_ids_of.Lts as lts
-use Rattle.meshfile.proofs.read.Reads as read-reads
-use Rattle.replay.proofs.print_ids.Reads as print-ids-reads
 
--- src/main.rt:70:39
 slice-aggregate-read : tie.Need-slice-aggregate-read
 slice-aggregate-read c = search needs
 
--- src/main.rt:70:54
 slice-aggregate-read-2 : tie.Need-slice-aggregate-read-2
 slice-aggregate-read-2 c = search needs
 
--- src/main.rt:70:9
 read-requires : tie.Need-read-requires
 read-requires c κs = search needs
 
--- src/main.rt:72:23
 enum-known-found : tie.Need-enum-known-found
 enum-known-found c = search needs
 
--- src/main.rt:72:39
 array-share-prefix-ids : tie.Need-array-share-prefix-ids
 array-share-prefix-ids c = omega (arith, reads-most _ _ _ _ _ _ (c .before .before .before .before .before .read .ensures) _ (c .before .found .given .1) .1)
 
--- src/main.rt:72:39
 slice-aggregate-print-ids : tie.Need-slice-aggregate-print-ids
 slice-aggregate-print-ids c = sym (length-take-le _ _ (array-share-prefix-ids (c .before)))
 
--- src/main.rt:72:29
 print-ids-requires : tie.Need-print-ids-requires
 print-ids-requires c κs = search needs
 
 enum-told : tie.Need-enum-told
 enum-told c = search needs
 
--- src/main.rt:67:1
 returns : tie.Need-returns
 returns c = search needs
 
--- src/main.rt:67:1
 returns-2 : tie.Need-returns-2
 returns-2 c = search needs
 

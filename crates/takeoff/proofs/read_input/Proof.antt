@@ -1,17 +1,11 @@
 -- `takeoff::read_input` meets its contract: each turn but the last reads at least one byte. Assumes nothing.
 use Prim.Native.Nat.{_-_, _≤_}
 use mathlib.Core.Path.{_≡_}
-use native.Mathlib.Omega.{arith}
 use lib.ListN.{length}
 use Rattle.io.proofs.Counting.{counts}
 use borrow.Author.Needs.{needs}
 use Rattle.takeoff.proofs.read_input.Statement.{statement}
 use Rattle.takeoff.proofs.read_input.Tie as tie
-use Rattle.takeoff.proofs.read_input.Reads as reads
-use Rattle.takeoff.proofs.read_input.Lts as lts
-use Rattle.io.proofs.count.Reads as count-reads
-use Rattle.takeoff.proofs.read_some.Reads as read-some-reads
-use Rattle.takeoff.proofs.skip_rest.Reads as skip-rest-reads
 
 abbrev Inv-loop : tie.InvT-loop
 Inv-loop bytes₀ n₀ bytes n = (length bytes ≡ length bytes₀) × (n ≤ length bytes)
@@ -19,79 +13,60 @@ Inv-loop bytes₀ n₀ bytes n = (length bytes ≡ length bytes₀) × (n ≤ le
 abbrev μ-loop : tie.MeasureT-loop
 μ-loop bytes₀ n₀ bytes n = length bytes - n
 
--- src/main.rt:36:5
 loop-holds : tie.Need-loop-holds Inv-loop μ-loop
 loop-holds c = search needs
 
--- src/main.rt:37:29
 sub-read-some : tie.Need-sub-read-some Inv-loop μ-loop
 sub-read-some c = search needs
 
--- src/main.rt:37:29
 part-read-some-start : tie.Need-part-read-some-start Inv-loop μ-loop
 part-read-some-start c = search needs
 
--- src/main.rt:37:29
 part-read-some-end : tie.Need-part-read-some-end Inv-loop μ-loop
 part-read-some-end c = search needs
 
--- src/main.rt:37:13
 read-some-requires : tie.Need-read-some-requires Inv-loop μ-loop
 read-some-requires c κs = search needs
 
--- src/main.rt:39:13
 same-length : tie.Need-same-length Inv-loop μ-loop
 same-length c = search needs
 
--- src/main.rt:39:13
 returns : tie.Need-returns Inv-loop μ-loop
 returns c = search needs
 
--- src/main.rt:41:35
 sub-count : tie.Need-sub-count Inv-loop μ-loop
 sub-count c = search needs
 
--- src/main.rt:41:35
 part-count-start : tie.Need-part-count-start Inv-loop μ-loop
 part-count-start c = search needs
 
--- src/main.rt:41:35
 part-count-end : tie.Need-part-count-end Inv-loop μ-loop
 part-count-end c = search needs
 
--- src/main.rt:41:13
 count-requires : tie.Need-count-requires Inv-loop μ-loop
 count-requires c κs = search needs
 
--- src/main.rt:43:13
 same-length-2 : tie.Need-same-length-2 Inv-loop μ-loop
 same-length-2 c = search needs
 
--- src/main.rt:43:13
 returns-2 : tie.Need-returns-2 Inv-loop μ-loop
 returns-2 c = counts _ _ (search needs)
 
--- src/main.rt:45:9
 add-n : tie.Need-add-n Inv-loop μ-loop
 add-n c = search needs
 
--- src/main.rt:36:5
 loop-less : tie.Need-loop-less Inv-loop μ-loop
 loop-less c = search needs
 
--- src/main.rt:36:5
 loop-again : tie.Need-loop-again Inv-loop μ-loop
 loop-again c = search needs
 
--- src/main.rt:47:5
 skip-rest-requires : tie.Need-skip-rest-requires Inv-loop μ-loop
 skip-rest-requires c κs = search needs
 
--- src/main.rt:32:1
 same-length-3 : tie.Need-same-length-3 Inv-loop μ-loop
 same-length-3 c = search needs
 
--- src/main.rt:32:1
 returns-3 : tie.Need-returns-3 Inv-loop μ-loop
 returns-3 c = search (needs, counts)
 

@@ -2,9 +2,6 @@
 use native.Mathlib.Omega.{arith}
 use Rattle.takeoff.proofs.skip_rest.Statement.{statement}
 use Rattle.takeoff.proofs.skip_rest.Tie as tie
-use Rattle.takeoff.proofs.skip_rest.Reads as reads
-use Rattle.takeoff.proofs.skip_rest.Lts as lts
-use Rattle.takeoff.proofs.skip_some.Reads as skip-some-reads
 
 abbrev Inv-loop : tie.InvT-loop
 Inv-loop turns₀ turns = Unit {0}
@@ -12,31 +9,24 @@ Inv-loop turns₀ turns = Unit {0}
 abbrev μ-loop : tie.MeasureT-loop
 μ-loop turns₀ turns = turns
 
--- src/main.rt:44:5
 loop-holds : tie.Need-loop-holds Inv-loop μ-loop
 loop-holds c = tt
 
--- src/main.rt:44:24
 skip-some-requires : tie.Need-skip-some-requires Inv-loop μ-loop
 skip-some-requires c κs = tt
 
--- src/main.rt:45:9
 sub-turns : tie.Need-sub-turns Inv-loop μ-loop
 sub-turns c = omega arith
 
--- src/main.rt:44:5
 loop-less : tie.Need-loop-less Inv-loop μ-loop
 loop-less c = omega arith
 
--- src/main.rt:44:5
 loop-again : tie.Need-loop-again Inv-loop μ-loop
 loop-again c = tt
 
--- src/main.rt:42:1
 returns : tie.Need-returns Inv-loop μ-loop
 returns c = tt
 
--- src/main.rt:42:1
 returns-2 : tie.Need-returns-2 Inv-loop μ-loop
 returns-2 c = tt
 

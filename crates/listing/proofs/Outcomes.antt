@@ -2,10 +2,9 @@
 use mathlib.Core.Path.{_≡_, refl, sym, ap, _∙_}
 use mathlib.Core.Bool.{Bool, true, false, _||_, true≢false}
 use mathlib.Core.List.{List, _++_}
-use Prim.Native.Nat.{ℕ, _+_, _*_, _≤_}
-use native.Mathlib.Omega.{arith}
+use Prim.Native.Nat.{ℕ, _+_, _*_, _≤_, _<_}
 use native.Mathlib.Nat.{zero-add}
-use borrow.Author.Tests.{ltb-false}
+use borrow.Author.Tests.{ltb-false, lt-ltb, le-ltb}
 use lib.Dec.{ltb}
 use lib.ListN.{length, drop}
 use lib.Ieee.{Float}
@@ -30,13 +29,29 @@ areas-fit n s t h =
 -- ---- what comes back
 
 module _ (short : Bool) (text area : List ℕ) where
-  pub when-short : short ≡ true → (Listed.Refused 3 ≡ listedAs short text) × (area ≡ areaWith short text area)
+  when-short : short ≡ true → (Listed.Refused 3 ≡ listedAs short text) × (area ≡ areaWith short text area)
   unfolding listedAs areaWith
   when-short h = rw h (refl, refl)
 
-  pub when-put : short ≡ false → (r : ℕ) (area′ : List ℕ) → Puts 0 text area r area′ → (Listed.Length r ≡ listedAs short text) × (area′ ≡ areaWith short text area)
+  when-put : short ≡ false → (r : ℕ) (area′ : List ℕ) → Puts 0 text area r area′ → (Listed.Length r ≡ listedAs short text) × (area′ ≡ areaWith short text area)
   unfolding listedAs areaWith written
   when-put h r area′ p = rw h (ap Listed.Length (p .place ∙ zero-add (length text)), p .later ∙ ap (λ (n : ℕ). text ++ drop n area) (zero-add (length text)))
+
+module _ (q : MeshQto) (s : List Float) (pieces : ℕ) (area : List ℕ) (short : Bool) (is : short ≡ areasShort (q .«surface_count») (length s) (length area)) where
+  pub list-short : short ≡ true → Lists q s pieces area (Listed.Refused 3) area
+  list-short h = let w = when-short _ (listingFor q s pieces) area (sym is ∙ h) in record { answers = w .0; text = w .1 }
+
+  pub list-put : short ≡ false → (r : ℕ) (area′ : List ℕ) → Puts 0 (listingFor q s pieces) area r area′ → Lists q s pieces area (Listed.Length r) area′
+  list-put h r area′ p = let w = when-put _ (listingFor q s pieces) area (sym is ∙ h) r area′ p in record { answers = w .0; text = w .1 }
+
+module _ (n : ℕ) (area : List ℕ) where
+  pub refusal-short : length area < 320 → ListsRefusal n area (Listed.Refused 3) area
+  unfolding textBytes
+  refusal-short h = let w = when-short _ (refusedLine n) area (lt-ltb (length area) 320 h) in record { answers = w .0; text = w .1 }
+
+  pub refusal-put : 320 ≤ length area → (r : ℕ) (area′ : List ℕ) → Puts 0 (refusedLine n) area r area′ → ListsRefusal n area (Listed.Length r) area′
+  unfolding textBytes
+  refusal-put h r area′ p = let w = when-put _ (refusedLine n) area (le-ltb (length area) 320 h) r area′ p in record { answers = w .0; text = w .1 }
 
 -- ---- any two answers that the contract allows are equal, and so is what is left in the area
 

@@ -1,6 +1,5 @@
 -- The listing of document 01, line by line, and the line of a refusal.
 use Prim.Native.Nat.{ℕ}
-use mathlib.Core.Bool.{Bool}
 use mathlib.Core.List.{List, [], _++_, _∷_}
 use Rattle.ids.specs.Uses.{bit}
 use Rattle.rows.specs.declared.PlanarSurface.{PlanarSurface}

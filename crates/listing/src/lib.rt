@@ -8,8 +8,8 @@ ghost use Rattle.rows.specs.Rows.{rowsOf};
 ghost use Rattle.record.specs.Names.{qualityName, methodName, defectName, profileName};
 ghost use Rattle.listing.specs.Text.{codes, glyph as glyphOf, bits, decimalIn, decimal as decimalOf, line};
 ghost use Rattle.listing.specs.Listing.{trustLines, amountLines, slopeLines, prismText, boundLines, countLines, rowLine, rowLines, headLines};
-ghost use Rattle.listing.specs.Lists.{areasShort, Lists, ListsRefusal};
-ghost use Rattle.listing.specs.Steps.{Puts, numberAnd};
+ghost use Rattle.listing.specs.Lists.{Lists, ListsRefusal};
+ghost use Rattle.listing.specs.Steps.{Puts, numberAnd, Short};
 use record::MeshQto;
 use record::Profile;
 use record::ProfileDefect;
@@ -267,7 +267,7 @@ fn row_lines(out: &mut [u8], at: usize, surfaces: &[f32], n: usize) -> usize
 
 fn areas_short(n: usize, surfaces: usize, text: usize) -> bool
     requires { ⌜ n < 4294967296 ⌝ }
-    ensures { λ r. ⌜ r ≡ areasShort n surfaces text ⌝ }
+    ensures { λ r. ⌜ Short n surfaces text r ⌝ }
 {
     (surfaces < 4 * n) | (text < 320 + 36 * n)
 }

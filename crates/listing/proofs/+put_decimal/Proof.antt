@@ -4,8 +4,7 @@ use native.Mathlib.Omega.{arith}
 use borrow.Author.Needs.{needs}
 use borrow.Fn.Kinds.{In}
 use borrow.Fn.PlainCycle.{Measures, is, falls, and}
-use Rattle.listing.proofs.Puts.{puts-both}
-use Rattle.listing.proofs.Digits.{decimal-short, decimal-long, digits-fall}
+use Rattle.listing.proofs.Digits.{digits-fall, puts-short, puts-long}
 use Rattle.listing.proofs.put_decimal.Reads as self
 use Rattle.listing.proofs.put_decimal.Kinds as kinds
 use Rattle.listing.proofs.+put_decimal.Lts-put_decimal as lts
@@ -44,16 +43,19 @@ module _ (t : ℕ) where
 
   returns : lts.Need-returns (Calls t) (Given t) self.Post
   returns c =
-      let s = c .before .before .before .before .before .before .before .before in
-      rw (decimal-short (s .args .more) (s .args .n) (c .before .before .before .before .before .before .if1 .taken), ← c .before .before .before .before .glyph .ensures) (c .before .before .put .ensures, omega (arith, c .before .before .put .ensures .place))
+      let w = c .before .before in
+      let a = w .before .before .before .before .before .before .args in
+      (puts-short (a .more) (a .n) _ (search needs) (w .before .before .glyph .ensures) (w .put .ensures), omega (arith, w .put .ensures .place))
 
   sub-put-decimal : lts.Need-sub-put-decimal (Calls t) (Given t) self.Post
-  sub-put-decimal c = digits-fall (c .before .before .before .args .more) (c .before .before .before .args .n) (c .before .if1 .left) (c .before .before .before .pre .1 .1) .0
+  sub-put-decimal c =
+      let s = c .before .before .before in
+      digits-fall (s .args .more) (s .args .n) (search needs) (s .pre .1 .1) .0
 
   put-decimal-requires : lts.Need-put-decimal-requires (Calls t) (Given t) self.Post
   put-decimal-requires c κs =
       let s = c .before .before .before in
-      let f = digits-fall (s .args .more) (s .args .n) (c .before .if1 .left) (s .pre .1 .1) in
+      let f = digits-fall (s .args .more) (s .args .n) (search needs) (s .pre .1 .1) in
       (omega (arith, s .pre .0, f .0), (omega (arith, s .pre .1 .0, f .0), f .1))
 
   glyph-requires-2 : lts.Need-glyph-requires-2 (Calls t) (Given t) self.Post
@@ -65,16 +67,20 @@ module _ (t : ℕ) where
   put-requires-2 : lts.Need-put-requires-2 (Calls t) (Given t) self.Post
   put-requires-2 c κs =
       let s = c .before .before .before .before .before .before .before .before .before in
-      omega (arith, digits-fall (s .args .more) (s .args .n) (c .before .before .before .before .before .before .before .if1 .left) (s .pre .1 .1) .0)
+      omega (arith, digits-fall (s .args .more) (s .args .n) (search needs) (s .pre .1 .1) .0)
 
   same-length-2 : lts.Need-same-length-2 (Calls t) (Given t) self.Post
   same-length-2 c = search needs
 
   returns-2 : lts.Need-returns-2 (Calls t) (Given t) self.Post
   returns-2 c =
-      let s = c .before .before .before .before .before .before .before .before .before .before .before .before in
-      let f = digits-fall (s .args .more) (s .args .n) (c .before .before .before .before .before .before .before .before .before .before .if1 .left) (s .pre .1 .1) in
-      rw (decimal-long (s .args .more) (s .args .n) (f .0) (c .before .before .before .before .before .before .before .before .before .before .if1 .left), ← c .before .before .before .before .glyph2 .ensures) (puts-both (c .before .before .before .before .before .before .before .before .put-decimal .ensures .0) (c .before .before .put2 .ensures) (search needs), omega (arith, c .before .before .put2 .ensures .place, c .before .before .before .before .before .before .before .before .put-decimal .ensures .1, f .0))
+      let w = c .before .before in
+      let k = w .before .before .before .before .before .before in
+      let s = k .before .before .before .before in
+      let f = digits-fall (s .args .more) (s .args .n) (search needs) (s .pre .1 .1) in (
+        puts-long (s .args .more) (s .args .n) _ (f .0) (search needs) (w .before .before .glyph2 .ensures) (search needs) (k .put-decimal .ensures .0) (w .put2 .ensures),
+        omega (arith, w .put2 .ensures .place, k .put-decimal .ensures .1, f .0),
+      )
 
 pub +put-decimal-spec : {M : Type 1} → statement M
 +put-decimal-spec = close μ λ t. lts.spec (Calls t)

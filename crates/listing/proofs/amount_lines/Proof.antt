@@ -29,7 +29,11 @@ same-length c = search needs
 
 returns : tie.Need-returns
 unfolding line amountLines
-returns c = (puts-both (c .before .before .before .before .before .before .before .before .before .before .before .before .number-line .ensures .0) (puts-both (c .before .before .before .before .before .before .before .number-line2 .ensures .0) (c .before .before .number-line3 .ensures .0) (search needs)) (search needs), search needs)
+returns c =
+    let z = c .before .before in
+    let y = z .before .before .before .before .before in
+    let x = y .before .before .before .before .before in
+    (puts-both (x .number-line .ensures .0) (puts-both (y .number-line2 .ensures .0) (z .number-line3 .ensures .0) (search needs)) (search needs), search needs)
 
 pub amount-lines-spec : {M : Type 1} → statement M
 amount-lines-spec =

@@ -21,7 +21,13 @@ same-length : tie.Need-same-length
 same-length c = search needs
 
 returns : tie.Need-returns
-returns c = (puts-both (c .before .before .before .before .before .before .before .before .before .before .before .put .ensures) (puts-both (c .before .before .before .before .before .before .before .put-decimal .ensures .0) (c .before .before .put2 .ensures) (search needs)) (search needs), omega (arith, c .before .before .put2 .ensures .place, c .before .before .before .before .before .before .before .put-decimal .ensures .1, c .before .before .before .before .before .before .before .before .before .before .before .put .ensures .place))
+returns c =
+    let z = c .before .before in
+    let y = z .before .before .before .before .before in
+    let x = y .before .before .before .before in (
+      puts-both (x .put .ensures) (puts-both (y .put-decimal .ensures .0) (z .put2 .ensures) (search needs)) (search needs),
+      omega (arith, z .put2 .ensures .place, y .put-decimal .ensures .1, x .put .ensures .place),
+    )
 
 pub count-line-spec : {M : Type 1} → statement M
 count-line-spec =

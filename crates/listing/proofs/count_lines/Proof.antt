@@ -23,7 +23,10 @@ same-length c = search needs
 
 returns : tie.Need-returns
 unfolding line countLines
-returns c = (puts-both (c .before .before .before .before .before .before .before .count-line .ensures .0) (c .before .before .count-line2 .ensures .0) (search needs), search needs)
+returns c =
+    let y = c .before .before in
+    let x = y .before .before .before .before .before in
+    (puts-both (x .count-line .ensures .0) (y .count-line2 .ensures .0) (search needs), search needs)
 
 pub count-lines-spec : {M : Type 1} → statement M
 count-lines-spec =

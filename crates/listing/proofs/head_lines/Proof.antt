@@ -25,7 +25,13 @@ same-length c = search needs
 
 returns : tie.Need-returns
 unfolding headLines
-returns c = (puts-both (c .before .before .before .before .before .before .before .before .before .before .before .before .before .before .before .before .before .before .trust-lines .ensures .0) (puts-both (c .before .before .before .before .before .before .before .before .before .before .before .before .before .before .amount-lines .ensures .0) (puts-both (c .before .before .before .before .before .before .before .before .before .before .slope-lines .ensures .0) (puts-both (c .before .before .before .before .before .before .bound-lines .ensures .0) (c .before .before .count-lines .ensures .0) (search needs)) (search needs)) (search needs)) (search needs), search needs)
+returns c =
+    let v = c .before .before in
+    let u = v .before .before .before .before in
+    let z = u .before .before .before .before in
+    let y = z .before .before .before .before in
+    let x = y .before .before .before .before in
+    (puts-both (x .trust-lines .ensures .0) (puts-both (y .amount-lines .ensures .0) (puts-both (z .slope-lines .ensures .0) (puts-both (u .bound-lines .ensures .0) (v .count-lines .ensures .0) (search needs)) (search needs)) (search needs)) (search needs), search needs)
 
 pub head-lines-spec : {M : Type 1} → statement M
 head-lines-spec =

@@ -1,10 +1,6 @@
 -- `listing::put_number` meets its contract: the digits are those of the definition. Assumes nothing.
-use mathlib.Core.Path.{subst}
-use mathlib.Core.List.{List}
-use Prim.Native.Nat.{ℕ}
 use borrow.Author.Needs.{needs}
-use Rattle.listing.specs.Steps.{Puts}
-use Rattle.listing.proofs.Digits.{number-digits}
+use Rattle.listing.proofs.Digits.{puts-number}
 use Rattle.listing.proofs.put_number.Statement.{statement}
 use Rattle.listing.proofs.put_number.Tie as tie
 
@@ -46,8 +42,15 @@ same-length c = search needs
 
 returns : tie.Need-returns
 returns c =
-    let s = c .before .before .before .before .before .before .before .before .before .before .before .before .before .before .before in
-    (subst (λ (l : List ℕ). Puts (s .args .at) l (s .args .out .now) (c .before .before .put .result) (c .before .before .put .last .0)) (number-digits (s .args .x) _ (s .args .end) (c .before .before .before .before .before .before .before .before .before .before .before .before .before .bits32 .ensures) _ _ _ _ _ _ _ _ (c .before .before .before .before .before .before .before .before .before .before .before .glyph .ensures) (c .before .before .before .before .before .before .before .before .before .before .glyph2 .ensures) (c .before .before .before .before .before .before .before .before .before .glyph3 .ensures) (c .before .before .before .before .before .before .before .before .glyph4 .ensures) (c .before .before .before .before .before .before .before .glyph5 .ensures) (c .before .before .before .before .before .before .glyph6 .ensures) (c .before .before .before .before .before .glyph7 .ensures) (c .before .before .before .before .glyph8 .ensures)) (c .before .before .put .ensures), c .before .before .put .ensures .place)
+    let p = c .before .before in
+    let d = p .before .before in
+    let e = d .before .before .before .before in
+    let w = e .before .before .before .before .before in
+    let a = w .before .before .args in (
+      puts-number (a .x) _ (a .end) (w .bits32 .ensures) (e .before .before .before .glyph .ensures) (e .before .before .glyph2 .ensures) (e .before .glyph3 .ensures) (e .glyph4 .ensures)
+          (d .before .before .before .glyph5 .ensures) (d .before .before .glyph6 .ensures) (d .before .glyph7 .ensures) (d .glyph8 .ensures) (p .put .ensures),
+      p .put .ensures .place,
+    )
 
 pub put-number-spec : {M : Type 1} → statement M
 put-number-spec =

@@ -1,10 +1,6 @@
 -- `listing::row_line` meets its contract: four numbers, one behind the other. Assumes nothing.
-use mathlib.Core.Path.{subst, sym}
-use mathlib.Core.List.{List}
-use Prim.Native.Nat.{ℕ}
 use borrow.Author.Needs.{needs}
-use Rattle.listing.specs.Steps.{Puts}
-use Rattle.listing.proofs.Digits.{row-digits}
+use Rattle.listing.proofs.Digits.{puts-row}
 use Rattle.listing.proofs.Puts.{puts-both}
 use Rattle.listing.proofs.row_line.Statement.{statement}
 use Rattle.listing.proofs.row_line.Tie as tie
@@ -26,9 +22,13 @@ same-length c = search needs
 
 returns : tie.Need-returns
 returns c =
-    let s = c .before .before .before .before .before .before .before .before .before .before .before .before .before .before .before .before .before in (
-      subst (λ (l : List ℕ). Puts (s .args .at) l (s .args .out .now) (c .before .before .put-number4 .result) (c .before .before .put-number4 .last .0)) (sym (row-digits (record { area = s .args .area; nx = s .args .nx; ny = s .args .ny; nz = s .args .nz })))
-          (puts-both (c .before .before .before .before .before .before .before .before .before .before .before .before .before .before .put-number .ensures .0) (puts-both (c .before .before .before .before .before .before .before .before .before .before .put-number2 .ensures .0) (puts-both (c .before .before .before .before .before .before .put-number3 .ensures .0) (c .before .before .put-number4 .ensures .0) (search needs)) (search needs)) (search needs)),
+    let u = c .before .before in
+    let z = u .before .before .before .before in
+    let y = z .before .before .before .before in
+    let x = y .before .before .before .before in
+    let a = x .before .before .before .args in (
+      puts-row (record { area = a .area; nx = a .nx; ny = a .ny; nz = a .nz })
+          (puts-both (x .put-number .ensures .0) (puts-both (y .put-number2 .ensures .0) (puts-both (z .put-number3 .ensures .0) (u .put-number4 .ensures .0) (search needs)) (search needs)) (search needs)),
       search needs,
     )
 

@@ -75,11 +75,13 @@ loop-less c = search needs
 
 loop-again : tie.Need-loop-again Inv-loop μ-loop
 loop-again c =
-    let s = c .before .before .before .before .before .before .before .before .before .before .before .before in (
+    let k = c .before .before in
+    let l = k .before .before .before .before .before .before .before in
+    let s = l .before .before .before .args .surfaces .now in (
       search needs,
       search needs,
       search needs,
-      λ r area p. c .before .before .before .before .before .before .before .before .before .loop .inv .3 r area (rows-next (s .args .surfaces .now) (c .before .before .before .before .before .before .before .before .before .loop .i) (c .before .before .before .before .before .before .before .before .before .loop .end) (c .before .before .before .before .before .before .before .before .before .loop .out) (search needs) (c .before .before .row-line .result) (c .before .before .row-line .last .0) (search needs) (c .before .before .row-line .ensures .0) r area p),
+      λ r area p. l .loop .inv .3 r area (rows-next s (l .loop .i) (l .loop .end) (l .loop .out) (search needs) (k .row-line .result) (k .row-line .last .0) (search needs) (k .row-line .ensures .0) r area p),
     )
 
 same-length : tie.Need-same-length Inv-loop μ-loop

@@ -22,7 +22,12 @@ same-length c = search needs
 
 returns : tie.Need-returns
 unfolding trustLines
-returns c = (puts-both (c .before .before .before .before .before .before .before .before .before .before .before .before .before .before .quality-line .ensures .0) (puts-both (c .before .before .before .before .before .before .before .before .before .before .reliable-line .ensures .0) (puts-both (c .before .before .before .before .before .before .method-line .ensures .0) (c .before .before .profile-line .ensures .0) (search needs)) (search needs)) (search needs), search needs)
+returns c =
+    let u = c .before .before in
+    let z = u .before .before .before .before in
+    let y = z .before .before .before .before in
+    let x = y .before .before .before .before in
+    (puts-both (x .quality-line .ensures .0) (puts-both (y .reliable-line .ensures .0) (puts-both (z .method-line .ensures .0) (u .profile-line .ensures .0) (search needs)) (search needs)) (search needs), search needs)
 
 pub trust-lines-spec : {M : Type 1} → statement M
 trust-lines-spec =

@@ -1,0 +1,12 @@
+-- The cube's listing is the one that document 01 prints: both compute. Assumes nothing.
+use mathlib.Core.Path.{refl}
+use lib.Ieee.{toBits, ofBits}
+use Rattle.ids.specs.Uses.{bit}
+use Rattle.record.specs.Names.{qualityName, methodName, profileName}
+use Rattle.listing.specs.Text.{glyph, hex, bits, decimalIn, line}
+use Rattle.listing.specs.Listing.{trustLines, amountLines, slopeLines, prismText, boundLines, countLines, rowLine, rowLines, headLines, listingOf}
+use Rattle.listing.specs.Cube.{cubeRecord, cubeRows, text, cubeText, CubeLines}
+
+pub cube-lines : CubeLines
+unfolding CubeLines cubeRecord cubeRows text cubeText qualityName methodName profileName bit glyph hex bits decimalIn line trustLines amountLines slopeLines prismText boundLines countLines rowLine rowLines headLines listingOf toBits ofBits
+cube-lines = refl

@@ -12,16 +12,20 @@ pub mod exception;
 pub mod file;
 #[cfg(port)]
 pub mod floats;
+pub mod frames;
 #[cfg(port)]
 pub mod ids;
 pub mod kinds;
 pub mod listing;
 pub mod pieces;
+pub mod program;
 pub mod random;
 #[cfg(port)]
 pub mod raster;
 pub mod reach;
 pub mod record;
+pub mod sent;
 pub mod solids;
+pub mod stored;
 #[cfg(port)]
 pub mod weld;

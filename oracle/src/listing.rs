@@ -1,6 +1,7 @@
 //! The listing (01, 'The program `takeoff`'): what the program prints for a file.
 
 use crate::file;
+use crate::mesh::qto::probe;
 use crate::pieces::pieces;
 use crate::record::{compute, Answer, Exception, Lent, Record};
 use std::fmt::Write;
@@ -15,6 +16,25 @@ pub fn listing(bytes: &[u8]) -> (String, Exception) {
         Answer::Refused(refusal) => (refused(refusal), Exception::Apart),
         Answer::Record(record, exception) => (text(&record, pieces(&mesh.ids)), exception),
     }
+}
+
+/// The text that `replay` has to print for a file: its listing, and where the file could be read, also with a refusal of
+/// the mesh, a line with what the routines on ids answer.
+pub fn replayed(bytes: &[u8]) -> (String, Exception) {
+    let (mut text, exception) = listing(bytes);
+    if let Ok(mesh) = file::read(bytes) {
+        text += &routines(&mesh.ids);
+    }
+    (text, exception)
+}
+
+/// Yes is 1 and no is 0; the largest face sum is decimal.
+fn routines(ids: &[u32]) -> String {
+    let (boundary_free, over_incident) = probe::edge_chain(ids);
+    let (largest, all_cancel) = probe::face_net(ids);
+    let (manifold, winding) = (probe::is_closed_manifold(ids), probe::winding_coherent(ids));
+    let [b, o, z, m, w] = [boundary_free, over_incident, all_cancel, manifold, winding].map(u32::from);
+    format!("chain {b} {o} net {largest} {z} manifold {m} winding {w}\n")
 }
 
 fn refused(refusal: u32) -> String {

@@ -1,9 +1,10 @@
 //! `oracle COMMAND ..`: see `USAGE`.
 
-use mowfrost_oracle::kinds;
-use mowfrost_oracle::listing::listing;
+use mowfrost_oracle::listing::{listing, replayed};
+use mowfrost_oracle::program::{compare, Program, LIMIT};
 use mowfrost_oracle::reach::Reach;
 use mowfrost_oracle::record::Exception;
+use mowfrost_oracle::{frames, kinds, sent, stored};
 use std::io::{self, BufWriter, ErrorKind, Read, Write};
 use std::process::ExitCode;
 
@@ -20,6 +21,23 @@ oracle: the unchanged Rust original, asked in document 01's words
   oracle meshes SEED COUNT     writes COUNT meshes in that framing, of every kind in turn
   oracle kinds                 names the kinds, in the order in which 'meshes' takes them
   oracle reach SEED COUNT      counts what those meshes reach: verdicts, methods, refusals, branches
+  oracle answer                standard input: one file of the program's format, without a length before it; prints its
+                               listing or 'refused N', as the program does
+  oracle stored                writes the meshes that the crate 'replay' holds (crates/replay/data/meshes), in the framing
+                               of 'meshes'
+  oracle stored names          names them, a line each
+  oracle replayed              standard input as for 'listing'; prints what 'replay' has to print (crates/replay/stdout):
+                               each listing and, where the file could be read, 'chain B O net L Z manifold M winding W':
+                               boundary-free, over-incident, largest face sum, all sums 0, and the two answers
+
+Against the program:
+
+  oracle program N BIN ..      N files through the program BIN, called with the words behind it, a process a file: meshes of
+                               every kind in turn, those by hand of 'stored', and files that are empty, full, far too long or
+                               written in parts. Output byte for byte, status and an empty standard error; meshes near the
+                               one exception are counted and compared by document 01's exact form; last line 'A agree, D
+                               differ'. MOWFROST_WORKERS: so many processes at a time, by default 2
+  oracle file NUMBER           writes the file of that number as 'program' sends it
 
 Against the port (x86-64; first, at the root of the repository: rt staticlib capi. For another machine MOWFROST_PORT names
 a folder with a libcapi.a of its kind when this is built):
@@ -48,7 +66,19 @@ fn main() -> ExitCode {
     let args: Vec<String> = std::env::args().skip(1).collect();
     let words: Vec<&str> = args.iter().map(String::as_str).collect();
     let done = match words.as_slice() {
-        ["listing"] => print_listings(),
+        ["listing"] => print_texts(listing),
+        ["replayed"] => print_texts(replayed),
+        ["answer"] => print_answer(),
+        ["stored"] => write_stored(),
+        ["stored", "names"] => print_stored(),
+        ["program", n, bin @ ..] if !bin.is_empty() => match (n.parse(), workers()) {
+            (Ok(n), Some(workers)) => run_program(n, bin, workers),
+            _ => return usage("N, and MOWFROST_WORKERS where it is set, are whole numbers, the second from 1 up"),
+        },
+        ["file", number] => match number.parse() {
+            Ok(number) => write_file(number),
+            Err(_) => return usage("NUMBER is a whole number from 0 up"),
+        },
         ["kinds"] => print_kinds(),
         [command @ ("meshes" | "reach"), seed, count] => match (seed.parse(), count.parse()) {
             (Ok(seed), Ok(count)) if *command == "meshes" => write_meshes(seed, count),
@@ -91,18 +121,18 @@ fn usage(why: &str) -> ExitCode {
     ExitCode::from(2)
 }
 
-fn print_listings() -> io::Result<ExitCode> {
-    let mut input = Vec::new();
-    io::stdin().lock().read_to_end(&mut input)?;
+/// A text for each frame of the input; how each stands to the one exception goes to standard error.
+fn print_texts(text_of: fn(&[u8]) -> (String, Exception)) -> io::Result<ExitCode> {
+    let input = all_input()?;
     let mut out = BufWriter::new(io::stdout().lock());
     let (mut rest, mut meshes, mut near, mut outside) = (input.as_slice(), 0u64, 0u64, 0u64);
     while !rest.is_empty() {
-        let Some((bytes, behind)) = frame(rest) else {
+        let Some((bytes, behind)) = frames::first(rest) else {
             out.flush()?;
             eprintln!("oracle: frame {meshes} is cut: {} bytes are left", rest.len());
             return Ok(ExitCode::from(2));
         };
-        let (text, exception) = listing(bytes);
+        let (text, exception) = text_of(bytes);
         out.write_all(text.as_bytes())?;
         match exception {
             Exception::Apart => {}
@@ -123,18 +153,74 @@ fn print_listings() -> io::Result<ExitCode> {
     Ok(if outside == 0 { ExitCode::SUCCESS } else { ExitCode::FAILURE })
 }
 
-/// The first frame's bytes and what stands behind it.
-fn frame(input: &[u8]) -> Option<(&[u8], &[u8])> {
-    let (length, rest) = input.split_at_checked(4)?;
-    rest.split_at_checked(u32::from_le_bytes([length[0], length[1], length[2], length[3]]) as usize)
+fn all_input() -> io::Result<Vec<u8>> {
+    let mut input = Vec::new();
+    io::stdin().lock().read_to_end(&mut input)?;
+    Ok(input)
+}
+
+fn print_answer() -> io::Result<ExitCode> {
+    let (text, _) = listing(&all_input()?);
+    write_out(text.as_bytes())
+}
+
+fn write_out(bytes: &[u8]) -> io::Result<ExitCode> {
+    let mut out = io::stdout().lock();
+    out.write_all(bytes)?;
+    out.flush()?;
+    Ok(ExitCode::SUCCESS)
+}
+
+fn workers() -> Option<usize> {
+    match std::env::var("MOWFROST_WORKERS") {
+        Ok(number) => number.parse().ok().filter(|&workers| workers > 0),
+        Err(_) => Some(2),
+    }
+}
+
+fn run_program(n: u64, bin: &[&str], workers: usize) -> io::Result<ExitCode> {
+    let count = compare(&Program::new(bin, LIMIT)?, n, workers)?;
+    let mut out = io::stdout().lock();
+    for (what, times) in count.reach.counts() {
+        writeln!(out, "{times:>9} {what}")?;
+    }
+    writeln!(out, "{} near the one exception, compared by document 01's exact form", count.near)?;
+    for number in &count.otherwise {
+        writeln!(out, "  file {number} of seed {}: powf answers otherwise", sent::SEED)?;
+    }
+    for (_, line) in &count.shown {
+        writeln!(out, "  {line}")?;
+    }
+    writeln!(out, "{} agree, {} differ", count.agree, count.differ)?;
+    Ok(if count.differ == 0 { ExitCode::SUCCESS } else { ExitCode::FAILURE })
+}
+
+fn write_file(number: u64) -> io::Result<ExitCode> {
+    write_out(&sent::sent(number).bytes)
+}
+
+fn write_stored() -> io::Result<ExitCode> {
+    let mut bytes = Vec::new();
+    stored::all().iter().for_each(|stored| frames::push(&mut bytes, &stored.bytes));
+    write_out(&bytes)
+}
+
+fn print_stored() -> io::Result<ExitCode> {
+    let mut out = BufWriter::new(io::stdout().lock());
+    for (number, stored) in stored::all().iter().enumerate() {
+        writeln!(out, "{number:>3} {:>5} bytes: {}", stored.bytes.len(), stored.name)?;
+    }
+    out.flush()?;
+    Ok(ExitCode::SUCCESS)
 }
 
 fn write_meshes(seed: u64, count: u64) -> io::Result<ExitCode> {
     let mut out = BufWriter::new(io::stdout().lock());
+    let mut framed = Vec::new();
     for i in 0..count {
-        let bytes = kinds::mesh(seed, i);
-        out.write_all(&(bytes.len() as u32).to_le_bytes())?;
-        out.write_all(&bytes)?;
+        framed.clear();
+        frames::push(&mut framed, &kinds::mesh(seed, i));
+        out.write_all(&framed)?;
     }
     out.flush()?;
     Ok(ExitCode::SUCCESS)

@@ -78,6 +78,10 @@ impl Reach {
         reach
     }
 
+    pub fn join(&mut self, other: &Reach) {
+        other.counts().for_each(|(what, times)| *self.counts.entry(what).or_insert(0) += times);
+    }
+
     pub fn counts(&self) -> impl Iterator<Item = (&'static str, u64)> + '_ {
         self.counts.iter().map(|(what, times)| (*what, *times))
     }
@@ -96,7 +100,7 @@ impl Reach {
         }
     }
 
-    fn count(&mut self, bytes: &[u8]) {
+    pub fn count(&mut self, bytes: &[u8]) {
         let mesh = match file::read(bytes) {
             Ok(mesh) => mesh,
             Err(refusal) => return self.refused(refusal),

@@ -1,6 +1,7 @@
 //! Shapes to make meshes of, and what can be done to them.
 
 use crate::random::Random;
+use std::collections::HashMap;
 
 /// Vertex floats and ids under construction.
 #[derive(Clone, Debug, Default)]
@@ -124,6 +125,29 @@ impl Shape {
                 let a = y * (wide + 1) + x;
                 shape.triangle(a, a + 1, a + wide + 2);
                 shape.triangle(a, a + wide + 2, a + wide + 1);
+            }
+        }
+        shape
+    }
+
+    /// A box of so many squares a side, each of side 1; closed.
+    pub fn blocks(sides: [u32; 3]) -> Shape {
+        let (mut shape, mut names) = (Shape::default(), HashMap::new());
+        for axis in 0..3 {
+            let (u, v) = ((axis + 1) % 3, (axis + 2) % 3);
+            for at in [0, sides[axis]] {
+                for (i, j) in (0..sides[u]).flat_map(|i| (0..sides[v]).map(move |j| (i, j))) {
+                    let [a, b, c, d] = [(i, j), (i + 1, j), (i + 1, j + 1), (i, j + 1)].map(|(i, j)| {
+                        let mut corner = [at; 3];
+                        (corner[u], corner[v]) = (i, j);
+                        let [x, y, z] = corner.map(|k| k as f32);
+                        *names.entry(corner).or_insert_with(|| shape.vertex(x, y, z))
+                    });
+                    // outward: on the low side the other way round
+                    let (b, d) = if at == 0 { (d, b) } else { (b, d) };
+                    shape.triangle(a, b, c);
+                    shape.triangle(a, c, d);
+                }
             }
         }
         shape

@@ -1,0 +1,209 @@
+//! The meshes that `replay` holds: they reach everything, say what they were made for, and are the ones that are stored.
+
+use mowfrost_oracle::file::{read, MeshFile, MOST};
+use mowfrost_oracle::frames;
+use mowfrost_oracle::listing::{listing, replayed};
+use mowfrost_oracle::reach::{Reach, WANTED};
+use mowfrost_oracle::record::{compute, Answer, Exception, Lent, Record};
+use mowfrost_oracle::sent::FULL;
+use mowfrost_oracle::stored::{all, Stored};
+use std::collections::HashSet;
+use std::io::Write;
+use std::path::Path;
+use std::process::{Command, Stdio};
+use std::sync::LazyLock;
+
+static STORED: LazyLock<Vec<Stored>> = LazyLock::new(all);
+
+fn framed() -> Vec<u8> {
+    let mut bytes = Vec::new();
+    STORED.iter().for_each(|stored| frames::push(&mut bytes, &stored.bytes));
+    bytes
+}
+
+fn answers() -> String {
+    STORED.iter().map(|stored| replayed(&stored.bytes).0).collect()
+}
+
+/// Refusals 1 and 3 are not on the list of what is wanted: a program's file is too short for the one, and the program lends
+/// areas that are long enough.
+#[test]
+fn everything_is_reached() {
+    let reach = Reach::of(STORED.iter().map(|stored| stored.bytes.clone()));
+    let missed: Vec<_> = WANTED.iter().filter(|what| reach.times(what) == 0).collect();
+    assert!(missed.is_empty(), "not reached: {missed:?}");
+    assert!(!WANTED.contains(&"refused 1") && !WANTED.contains(&"refused 3"));
+    assert_eq!(reach.times("refused 1") + reach.times("refused 3"), 0);
+}
+
+#[test]
+fn they_are_few_short_and_all_different() {
+    assert!((200..=400).contains(&STORED.len()), "{}", STORED.len());
+    let (bytes, text) = (framed().len(), answers().len());
+    assert!(bytes <= 400 << 10 && text <= 400 << 10, "{bytes} and {text} bytes");
+    let different: HashSet<_> = STORED.iter().map(|stored| &stored.bytes).collect();
+    assert_eq!(different.len(), STORED.len());
+    let names: HashSet<_> = STORED.iter().map(|stored| &stored.name).collect();
+    assert_eq!(names.len(), STORED.len());
+}
+
+#[test]
+fn they_are_the_same_each_time() {
+    let again: Vec<_> = all().into_iter().map(|stored| (stored.name, stored.bytes)).collect();
+    assert!(STORED.iter().zip(&again).all(|(one, (name, bytes))| one.name == *name && one.bytes == *bytes));
+    assert_eq!(again.len(), STORED.len());
+}
+
+/// `powf` decides nothing: the few meshes near the one exception have a prism of 1, whose power is 1 on every machine.
+#[test]
+fn none_hangs_on_powf() {
+    let mut near = 0;
+    for stored in STORED.iter() {
+        match listing(&stored.bytes).1 {
+            Exception::Apart => {}
+            Exception::Near { changed } => {
+                assert!(!changed && record(&stored.name).prism == Some(1.0), "{}", stored.name);
+                near += 1;
+            }
+            Exception::Outside => panic!("{}: against document 01", stored.name),
+        }
+    }
+    assert_eq!(near, 3);
+}
+
+/// Quality, reliable and method, or the refusal.
+fn head(text: &str) -> String {
+    let words = text.lines().take(3).map(|line| line.split_once(' ').map_or("", |(_, word)| word));
+    match text.strip_suffix('\n') {
+        Some(refused) if refused.starts_with("refused") => refused.to_string(),
+        _ => words.collect::<Vec<_>>().join(" "),
+    }
+}
+
+#[test]
+fn each_says_what_it_was_made_for() {
+    let says = |stored: &Stored| head(&listing(&stored.bytes).0);
+    let wrong: Vec<_> = STORED.iter().filter(|stored| !says(stored).starts_with(stored.says)).collect();
+    let told = |stored: &&Stored| format!("{}: {}, should be {}", stored.name, says(stored), stored.says);
+    assert!(wrong.is_empty(), "{:?}", wrong.iter().map(told).collect::<Vec<_>>());
+    assert!(STORED.iter().filter(|stored| !stored.says.is_empty()).count() > 250);
+}
+
+fn mesh(name: &str) -> MeshFile {
+    let stored = STORED.iter().find(|stored| stored.name == name).unwrap_or_else(|| panic!("none is named {name}"));
+    read(&stored.bytes).expect("it can be read")
+}
+
+fn record(name: &str) -> Record {
+    let mesh = mesh(name);
+    match compute(&mesh, Lent::exactly(mesh.vertices.len(), mesh.ids.len())) {
+        Answer::Record(record, _) => record,
+        Answer::Refused(number) => panic!("{name}: refused {number}"),
+    }
+}
+
+/// Numbers that a verdict does not show.
+#[test]
+fn thresholds_are_met_exactly() {
+    assert_eq!(record("a volume of 1.001 of the box").volume, 1.001);
+    assert_eq!(record("a step above 1.001 of the box").volume, 1.001f32.next_up());
+    assert_eq!(record("cancels, a volume of 1e-6 of the box").volume, -1e-6);
+    assert_eq!(record("cancels, a step above 1e-6 of the box").volume, -1e-6f32.next_up());
+    assert_eq!(record("collapsed, a prism of 1e-3").prism, Some(1e-3));
+    assert_eq!(record("a prism a step under 1e-3").prism, Some(1e-3f32.next_down()));
+    let above = record("a prism a step above the box");
+    assert_eq!((above.aabb, above.prism), (27.0, Some(27f32.next_up())));
+    assert_eq!(record("8s³ is p²").surface, 0.5);
+    assert_eq!(record("8s³ is above p², by a step of s").surface, 0.5f32.next_up());
+    assert_eq!(record("8s³ is under p², by a step of s").surface, 0.5f32.next_down());
+    assert_eq!(record("a smallest surface of 1e-6").smallest, 0.0);
+    assert_eq!(record("a smallest surface of 1.0000001e-6").smallest, 1e-6f32.next_up());
+    assert_eq!(record("edges through centres").prism, Some(2.0 * 101.0 * 101.0));
+    assert_eq!(record("d4: a volume of -0").volume.to_bits(), 0x8000_0000);
+    let slopes = |name: &str| {
+        let record = record(name);
+        [record.top, record.bottom, record.side, record.inclined].map(|area| area > 0.0)
+    };
+    assert_eq!(slopes("nz of 0.940 and of its opposite"), [false, false, false, true]);
+    assert_eq!(slopes("nz a step above 0.940"), [true, true, false, false]);
+    assert_eq!(slopes("nz of 0.342"), [false, false, false, true]);
+    assert_eq!(slopes("nz a step under 0.342"), [false, false, true, false]);
+    let heights = |name: &str| record(name).rows.iter().map(|row| row[3]).collect::<Vec<_>>();
+    assert_eq!(heights("nz of 0.25, a half in the key"), [-0.3, 0.3]);
+    assert_eq!(heights("nz of 0.45, a half in the key once rounded"), [-0.5, 0.5]);
+}
+
+#[test]
+fn lengths_go_to_the_limit() {
+    let whole: Vec<MeshFile> = STORED.iter().filter_map(|stored| read(&stored.bytes).ok()).collect();
+    let some = |test: &dyn Fn(&MeshFile) -> bool| whole.iter().any(test);
+    assert!(some(&|m| m.vertices.len() == MOST && m.ids.len() == MOST));
+    assert!(some(&|m| m.vertices.len() == MOST - 1) && some(&|m| m.ids.len() == MOST - 1));
+    assert!(STORED.iter().any(|stored| stored.bytes.len() == FULL && read(&stored.bytes).is_ok()));
+    assert!(STORED.iter().any(|stored| stored.bytes.len() == FULL + 1) && STORED[0].bytes.len() == 262);
+    let rows = |n: usize| {
+        let text = |stored: &Stored| listing(&stored.bytes).0;
+        STORED.iter().filter(|stored| text(stored).lines().count() > 17 + n).count()
+    };
+    assert!(rows(64) > 4 && rows(200) > 1, "{} and {}", rows(64), rows(200));
+}
+
+/// What the routines on ids say of document 01's examples.
+#[test]
+fn the_line_of_ids_has_the_answers() {
+    let line = |name: &str| {
+        let stored = STORED.iter().find(|stored| stored.name.starts_with(name)).expect("there is one");
+        let text = replayed(&stored.bytes).0;
+        assert!(text.starts_with(&listing(&stored.bytes).0));
+        text.lines().last().unwrap_or("").to_string()
+    };
+    assert_eq!(line("the cube"), "chain 1 0 net 1 0 manifold 1 winding 1");
+    assert_eq!(line("faces that cancel: 012 210 333"), "chain 1 0 net 0 1 manifold 1 winding 1");
+    assert_eq!(line("nine zeros"), "chain 0 0 net 0 1 manifold 1 winding 0");
+    assert_eq!(line("each face twice"), "chain 1 1 net 2 0 manifold 0 winding 0");
+    assert_eq!(line("one bad edge of 50"), "chain 0 0 net 1 0 manifold 0 winding 1");
+    assert_eq!(line("one bad edge of 49"), "chain 0 0 net 1 0 manifold 0 winding 0");
+    assert_eq!(line("1,536 ids, one triangle over and over"), "chain 0 1 net 512 0 manifold 0 winding 0");
+    assert_eq!(line("a closed shell, unit and float bad"), "chain 1 0 net 1 0 manifold 1 winding 1");
+    assert_eq!(line("a closed shell, float bad"), "chain 1 0 net 1 0 manifold 1 winding 1");
+    // a file that could not be read has no ids
+    assert_eq!((line("1,537 ids").as_str(), line("cut to 0 bytes").as_str()), ("refused 6", "refused 5"));
+}
+
+fn oracle(words: &[&str], input: &[u8]) -> (Option<i32>, Vec<u8>, String) {
+    let mut command = Command::new(env!("CARGO_BIN_EXE_oracle"));
+    let pipes = command.args(words).stdin(Stdio::piped()).stdout(Stdio::piped()).stderr(Stdio::piped());
+    let mut child = pipes.spawn().expect("it starts");
+    let (mut stdin, input) = (child.stdin.take().expect("a pipe"), input.to_vec());
+    // what is read and what is printed are longer than a pipe
+    let feed = std::thread::spawn(move || drop(stdin.write_all(&input)));
+    let out = child.wait_with_output().expect("it ends");
+    feed.join().expect("it goes through");
+    (out.status.code(), out.stdout, String::from_utf8_lossy(&out.stderr).to_string())
+}
+
+#[test]
+fn the_commands_write_them_and_their_answers() {
+    let (code, bytes, err) = oracle(&["stored"], &[]);
+    assert_eq!((code, bytes == framed(), err.as_str()), (Some(0), true, ""));
+    assert!(frames::all(&bytes).eq(STORED.iter().map(|stored| stored.bytes.as_slice())));
+    let (code, text, err) = oracle(&["replayed"], &bytes);
+    assert_eq!((code, text == answers().as_bytes()), (Some(0), true));
+    assert!(
+        err.ends_with(&format!("oracle: {} meshes, 3 near the one exception, 0 against document 01\n", STORED.len()))
+    );
+    let (code, names, _) = oracle(&["stored", "names"], &[]);
+    assert_eq!((code, String::from_utf8_lossy(&names).lines().count()), (Some(0), STORED.len()));
+}
+
+/// What the crate holds. Its meshes could be other ones than this machine would make if a sine's last digit told in a round
+/// shape; the answers must be the Rust's in any case.
+#[test]
+fn the_crate_holds_these() {
+    let replay = Path::new(env!("CARGO_MANIFEST_DIR")).join("../crates/replay");
+    let read = |name: &str| std::fs::read(replay.join(name)).unwrap_or_else(|e| panic!("{name}: {e}"));
+    let (meshes, stdout) = (read("data/meshes"), read("stdout"));
+    let text: String = frames::all(&meshes).map(|bytes| replayed(bytes).0).collect();
+    assert!(text.as_bytes() == stdout, "crates/replay/stdout is not what the Rust answers");
+    assert!(meshes == framed(), "crates/replay/data/meshes is not what `oracle stored` writes here");
+}

@@ -8,11 +8,7 @@ use mowfrost_oracle::mesh::qto::probe;
 use mowfrost_oracle::pieces::pieces;
 use mowfrost_oracle::record::{compute, plain, Answer, Lent, Record};
 use mowfrost_oracle::solids::Shape;
-
-/// "023 031" as ids.
-fn ids(text: &str) -> Vec<u32> {
-    text.bytes().filter(u8::is_ascii_digit).map(|b| (b - b'0') as u32).collect()
-}
+use mowfrost_oracle::stored::examples::{ids, with_one_bad_edge};
 
 fn record(mesh: &MeshFile) -> Record {
     match compute(mesh, Lent::exactly(mesh.vertices.len(), mesh.ids.len())) {
@@ -168,23 +164,6 @@ fn the_areas_are_asked_for_exactly_and_in_01s_order() {
     assert_eq!(with(nothing, &plain(f32::NAN, &vec![0.0; 98_305], &[])), 1, "1 before the zero record");
     assert_eq!(with(nothing, &plain(f32::NAN, &[], &vec![0; 98_305])), 1);
     assert_eq!(with(nothing, &plain(f32::NAN, &vec![0.0; 98_304], &[])), 0);
-}
-
-/// One bad edge (two triangles that walk it the same way) among `edges` edges.
-fn with_one_bad_edge(edges: u32) -> Vec<u32> {
-    let mut ids = vec![0, 1, 2, 0, 1, 3];
-    let mut have = 5;
-    let mut next = 4;
-    while have + 3 <= edges {
-        ids.extend([next, next + 1, next + 2]);
-        (have, next) = (have + 3, next + 3);
-    }
-    while have < edges {
-        // a repeated id: one edge, walked once each way
-        ids.extend([next, next, next + 1]);
-        (have, next) = (have + 1, next + 2);
-    }
-    ids
 }
 
 #[test]

@@ -7,6 +7,7 @@ use mowfrost_oracle::mesh::qto::probe;
 use mowfrost_oracle::pieces::pieces;
 use mowfrost_oracle::record::{compute, original, plain, Answer, Lent, Record, LEAST_UNIT};
 use mowfrost_oracle::solids::Shape;
+use mowfrost_oracle::stored::readings::shelf;
 use std::hint::black_box;
 
 /// A tetrahedron with three legs along the axes, outward.
@@ -68,22 +69,14 @@ fn d2_constants_are_f32_and_so_are_products_with_them() {
     assert_eq!((cancels(bound), cancels(bound.next_up())), ("degenerate", "closed"));
 }
 
-/// An open shell in a box of side 2: a floor of depth d and a wall, both through the origin, give a prism of 4d and no
-/// volume; whole ceilings over the floor add a third of that each, and one of depth `part` its share.
-fn shelf(d: f32, part: f32, whole_ceilings: usize) -> Record {
-    let w = 2.0;
-    let floor = [[0.0, 0.0, 0.0], [w, 0.0, 0.0], [w, d, 0.0], [0.0, d, 0.0]];
-    let above = [[0.0, 0.0, w], [w, 0.0, w], [w, d, w], [0.0, d, w], [w, part, w], [0.0, part, w], [w, w, w]];
-    let mut mesh =
-        shape(&[&floor[..], &above].concat(), &[[0, 1, 2], [0, 2, 3], [0, 1, 5], [0, 5, 4], [4, 5, 8], [4, 8, 9]]);
-    (0..whole_ceilings).for_each(|_| mesh.ids.extend([4, 5, 6, 4, 6, 7]));
-    answer(&mesh, 1.0)
+fn shelf_record(d: f32, part: f32, whole_ceilings: usize) -> Record {
+    answer(&shelf(d, part, whole_ceilings), 1.0)
 }
 
 #[test]
 fn d2_the_margin_of_1_05_is_f32() {
     // The volume is at most 7 times 1.05 and above 7 times the f32: not trusted.
-    let record = shelf(1.75, 0.2625, 3);
+    let record = shelf_record(1.75, 0.2625, 3);
     assert_eq!((record.prism, bits(record.volume)), (Some(7.0), "40eb3333".into()));
     assert!(record.volume as f64 <= 7.0 * 1.05 && record.volume > 7.0 * 1.05f32);
     assert_eq!((record.quality, record.method), ("open_shell", "prism_fallback"));
@@ -92,7 +85,7 @@ fn d2_the_margin_of_1_05_is_f32() {
 #[test]
 fn d2_the_share_of_1e_3_is_f32() {
     // The volume is under 4.125 times 1e-3 and not under 4.125 times the f32: not collapsed.
-    let record = shelf(1.03125, f32::from_bits(0x3b4a_c083), 0);
+    let record = shelf_record(1.03125, f32::from_bits(0x3b4a_c083), 0);
     assert_eq!((record.prism, bits(record.volume)), (Some(4.125), "3b872b02".into()));
     assert!((record.volume as f64) < 4.125 * 1e-3 && record.volume == 4.125 * 1e-3f32);
     assert_eq!((record.quality, record.method), ("open_shell", "mesh_open"));

@@ -48,7 +48,7 @@ fn without(face: usize) -> MeshFile {
     of(1.0, &shape)
 }
 
-pub fn examples(list: &mut List) {
+pub(super) fn examples(list: &mut List) {
     let cube = of(1.0, &Shape::cube(2.0));
     list.mesh(CLOSED, "the cube", &cube);
     list.file(CLOSED, "the cube with kind 4", write(&cube, true));
@@ -103,7 +103,7 @@ pub fn examples(list: &mut List) {
 }
 
 /// One bad edge (two triangles that walk it the same way) among `edges` edges.
-fn with_one_bad_edge(edges: u32) -> Vec<u32> {
+pub fn with_one_bad_edge(edges: u32) -> Vec<u32> {
     let mut ids = vec![0, 1, 2, 0, 1, 3];
     let (mut have, mut next) = (5, 4);
     while have + 3 <= edges {
@@ -119,7 +119,7 @@ fn with_one_bad_edge(edges: u32) -> Vec<u32> {
 }
 
 /// Every clip with every defect, on every sort of record.
-pub fn flags(list: &mut List) {
+pub(super) fn flags(list: &mut List) {
     const CLIPPED: [&str; 2] = ["closed 0 mesh_unclipped", "open_shell 0 mesh_unclipped"];
     const INVALID: [&str; 2] = ["closed 0 mesh_profile_invalid", "open_shell 0 mesh_profile_invalid"];
     for (name, mesh, says, taken) in [

@@ -1,10 +1,10 @@
 //! The meshes that the crate `replay` holds, so that the gate has some of the Rust's answers without the Rust: those made
 //! by hand for document 01's examples, limits and orders, then of each kind the smallest and the one that reaches most.
 
-mod examples;
+pub mod examples;
 mod faults;
 mod limits;
-mod readings;
+pub mod readings;
 mod thresholds;
 
 use crate::file::{write, MeshFile};

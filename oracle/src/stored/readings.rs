@@ -17,7 +17,7 @@ pub const fn two_to(exponent: i32) -> f32 {
 }
 
 /// The inputs of docs/DIFFERENCES.md that are meshes of a program's file, by their numbers there.
-pub fn readings(list: &mut List) {
+pub(super) fn readings(list: &mut List) {
     const TINY: f32 = two_to(-50);
     let legs = |x: f32, y: f32, z: f32| Shape::tetrahedron(1.0).scaled([x, y, z]);
     let (x, y, z) = (2048.0, TINY, 0.9 * TINY);
@@ -63,7 +63,7 @@ pub fn readings(list: &mut List) {
 
 /// An open shell in a box of side 2: a floor of depth d and a wall, both through the origin, give a prism of 4d and no
 /// volume; whole ceilings over the floor add a third of that each, and one of depth `part` its share.
-fn shelf(d: f32, part: f32, whole_ceilings: usize) -> Shape {
+pub fn shelf(d: f32, part: f32, whole_ceilings: usize) -> Shape {
     let w = 2.0;
     let floor = [[0.0, 0.0, 0.0], [w, 0.0, 0.0], [w, d, 0.0], [0.0, d, 0.0]];
     let above = [[0.0, 0.0, w], [w, 0.0, w], [w, d, w], [0.0, d, w], [w, part, w], [0.0, part, w], [w, w, w]];
@@ -79,7 +79,7 @@ fn with_apex(id: u32) -> MeshFile {
     mesh
 }
 
-pub fn mistakes(list: &mut List) {
+pub(super) fn mistakes(list: &mut List) {
     // ids out of range count in the chain; of these, three times the id and two is a small number in 32 bits
     for id in [4, 0x5555_5555, 0x5555_5556, 0xaaaa_aaab, u32::MAX] {
         list.mesh(CLOSED, format!("an apex of id {id:x}, out of range"), &with_apex(id));

@@ -4,3 +4,4 @@ mod Answered
 mod Held
 pub mod Printed
 pub mod Suffice
+pub mod NotFinite

@@ -10,7 +10,8 @@ use Rattle.meshfile.specs.Format.{Contents, File, fileOf}
 use Rattle.meshfile.proofs.Bounds.{files-are-short, front-decides as file-front-decides}
 use Rattle.meshfile.proofs.One.{File56, file-56}
 use Rattle.listing.specs.Listing.{refusedLine}
-use Rattle.program.specs.Program.{textFor, textOf, Prints, FrontDecides, LongRefused}
+use Rattle.program.specs.Program.{textFor, textOf, Prints}
+use Rattle.program.specs.Promises.{FrontDecides, LongRefused}
 
 module _ (text area : List ℕ) (r : ℕ) (area′ : List ℕ) (printed : Prints text area r area′) where
   pub prints-inside : r ≤ length area′

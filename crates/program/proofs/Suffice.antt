@@ -7,7 +7,7 @@ use borrow.Author.Tests.{le-ltb}
 use lib.Dec.{ltb}
 use lib.ListN.{length}
 use Rattle.qto.specs.Refusals.{workWords, areasShort, checkOf}
-use Rattle.program.specs.Program.{checkFile, AreasSuffice}
+use Rattle.program.specs.Promises.{checkFile, AreasSuffice}
 
 module _ (f i : ℕ) (hf : f ≤ 1536) (hi : i ≤ 1536) where
   not-many : (ltb 98304 f || ltb 98304 i) ≡ false

@@ -1,2 +1,3 @@
--- The program: what it prints for every input.
+-- The program: what it prints for every input, and what is proved of that.
 pub mod Program
+pub mod Promises

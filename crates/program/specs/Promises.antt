@@ -1,0 +1,37 @@
+-- What is proved of the program beside its contract: which refusals a file can meet, that no NaN gets past, and what becomes of input that is longer than any file.
+use mathlib.Core.Path.{_≡_}
+use mathlib.Core.Logic.{_⊎_}
+use Prim.Native.Nat.{ℕ, _%_, _^_, _≤_, _<_}
+use mathlib.Core.Bool.{false, not, _||_}
+use mathlib.Core.List.{List}
+use lib.Dec.{ltb}
+use lib.ListN.{length, take}
+use lib.Ieee.{Float, binary32, ofBits}
+use Rattle.sums.specs.Fine.{fine, allFine}
+use Rattle.qto.specs.declared.Check.{Check}
+use Rattle.qto.specs.Refusals.{first, unitFits, checkOf}
+use Rattle.listing.specs.Listing.{refusedLine}
+use Rattle.program.specs.Program.{textOf}
+
+-- the rows of 01's table that a file can meet: it is never too large, and no area is too short (`areas-suffice`)
+unfoldable pub checkFile : List Float → List ℕ → Float → Check
+checkFile vs ids u =
+    first (ltb (length ids) 3 || ltb (length vs) 9) Check.Zero
+    (first (not (unitFits u)) (Check.Refuse 2)
+    (first (not (allFine vs)) (Check.Refuse 4)
+    Check.Full))
+
+abbrev pub AreasSuffice : Type 0
+AreasSuffice = (vs : List Float) (ids : List ℕ) (u : Float) → length vs ≤ 1536 → length ids ≤ 1536 → checkOf vs ids u 13824 65536 2048 ≡ checkFile vs ids u
+
+-- no pattern of an infinity or a NaN, whatever its digits, gets past refusal 4
+abbrev pub NotFiniteRefused : Type 0
+NotFiniteRefused = (w : ℕ) → 0x7f80_0000 ≤ w % 2 ^ 31 → fine (ofBits binary32 w) ≡ false
+
+-- Of input that is longer than any file the first 12,319 bytes decide, so the program needs to keep no more.
+abbrev pub FrontDecides : Type 0
+FrontDecides = (bytes : List ℕ) → 12318 < length bytes → textOf (take 12319 bytes) ≡ textOf bytes
+
+-- and it is refused
+abbrev pub LongRefused : Type 0
+LongRefused = (bytes : List ℕ) → 12318 < length bytes → (n : ℕ) × ((n ≡ 5) ⊎ (n ≡ 6)) × (textOf bytes ≡ refusedLine n)

@@ -1,11 +1,14 @@
 // Runs the meshes of data/meshes, each a u32 length and so many bytes of the program's format, and prints for each what `takeoff` prints, and a line with what
-// the routines on ids say of its ids. The gate holds this to `stdout`, which the unchanged Rust wrote (docs/DIFFERENCES.md says how).
-ghost use Prim.Native.Nat.{_<_};
+// the routines on ids say of its ids and what `compute` says to a work area that is one word short. The gate holds this to `stdout`, which the unchanged Rust
+// wrote (docs/DIFFERENCES.md says how).
+ghost use Prim.Native.Nat.{_≤_, _<_};
+ghost use lib.ListN.{length};
 use chain::EdgeChain;
 use chain::FaceNet;
 use chain::Verdict;
 use libc::STDOUT_FILENO;
 use meshfile::Reading;
+use qto::Answer;
 
 // ---- what the routines on ids say
 
@@ -60,16 +63,45 @@ fn print_ids(ids: &[u32]) {
     print_net(ids, &mut work);
     print_verdict(b" manifold ", chain::is_closed_manifold(ids, &mut work));
     print_verdict(b" winding ", chain::winding_coherent(ids, &mut work));
-    io::write_all(STDOUT_FILENO, b"\n");
 }
 
-// The ids of a file that can be read; of any other there are none to speak of.
-fn print_ids_of(bytes: &[u8]) {
+// ---- a work area that is one word short
+
+fn one_less(n: usize) -> usize
+    ensures { λ r. ⌜ r ≤ n ⌝ }
+{
+    if n == 0 {
+        return 0;
+    }
+    n - 1
+}
+
+// Refusal 3 unless one comes before it, or 0 for the zero record, which asks for no words.
+fn print_short(vertices: &[f32], ids: &[u32], unit: f32)
+    requires { ⌜ (length (now vertices) ≤ 1536) × (length (now ids) ≤ 1536) ⌝ }
+{
+    let mut work = [0u32; 13824];
+    let mut raster = [0u8; 65536];
+    let mut surfaces = [0f32; 2048];
+    let lent = one_less(5 * ids.len() + 4 * (ids.len() / 3) + 8 * (vertices.len() / 3));
+    let answer = qto::compute(vertices, ids, unit, &mut work[..lent], &mut raster, &mut surfaces);
+    match answer {
+        Answer::Record(_) => print_count(b" short ", 0),
+        Answer::Refused(n) => print_count(b" short ", n as u64),
+    }
+}
+
+// The line for a file that can be read; of any other there is nothing to say.
+fn print_line_of(bytes: &[u8]) {
     let mut vertices = [0f32; 1536];
     let mut ids = [0u32; 1536];
     let found = meshfile::read(bytes, &mut vertices, &mut ids);
     match found {
-        Reading::File(m) => print_ids(&ids[..m.ids]),
+        Reading::File(m) => {
+            print_ids(&ids[..m.ids]);
+            print_short(&vertices[..m.floats], &ids[..m.ids], m.unit);
+            io::write_all(STDOUT_FILENO, b"\n");
+        }
         Reading::Refused(_) => {}
     }
 }
@@ -96,7 +128,7 @@ fn length_in(head: &[u8; 4]) -> usize {
 fn replay_mesh(fd: i32, part: &mut [u8]) {
     let got = io::read_full(fd, part);
     print_listing(&part[..got]);
-    print_ids_of(&part[..got]);
+    print_line_of(&part[..got]);
 }
 
 // Answers whether there was one. No mesh of the list is longer than the buffer.

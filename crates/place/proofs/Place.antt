@@ -1,0 +1,67 @@
+-- Demand 3: the checks, the answer and the lent areas of a mesh and of the same mesh moved agree. Assumes nothing.
+use mathlib.Core.Path.{_≡_, refl, sym, _∙_, ap, subst}
+use mathlib.Core.Bool.{Bool, true, false, not, _||_}
+use mathlib.Core.List.{List}
+use Prim.Native.Nat.{ℕ, _≤_}
+use lib.Dec.{T}
+use lib.IntN.{ℤ}
+use lib.ListN.{length}
+use lib.Ieee.{Float}
+use lib.Ieee.Bits.{is-true}
+use Rattle.ids.specs.Lent.{cleared}
+use Rattle.sums.specs.Fine.{allFine}
+use Rattle.record.specs.declared.MeshQto.{MeshQto}
+use Rattle.record.specs.Record.{zeroRecord}
+use Rattle.qto.specs.declared.Answer.{Answer}
+use Rattle.qto.specs.declared.Check.{Check}
+use Rattle.qto.specs.Refusals.{workWords, rasterBytes, unitFits, checkOf}
+use Rattle.qto.specs.Full.{recordOf, surfacesAfter}
+use Rattle.qto.specs.Compute.{answerAt, areaAt, Computes}
+use Rattle.qto.proofs.Checks.{Admitted, admitted}
+use Rattle.place.specs.Moved.{Moved, unitEnough}
+use Rattle.place.specs.Agree.{AgreeBy, AgreeRecords, AgreeAnswers, Agree}
+use Rattle.place.specs.Place.{PlaceDoesNotShow}
+use Rattle.place.proofs.Vertices.{same-length, all-fine}
+use Rattle.place.proofs.Record.{surfaces-stay, records-agree}
+
+module _ (dx dy dz : ℤ) (vs vs′ : List Float) (m : Moved dx dy dz vs vs′) where
+  pub fine-stays : allFine vs′ ≡ allFine vs
+  fine-stays = let t = all-fine dx dy dz vs vs′ m in is-true (allFine vs′) (t .1) ∙ sym (is-true (allFine vs) (t .0))
+
+  pub check-stays : (ids : List ℕ) (u : Float) (w r s : ℕ) → checkOf vs′ ids u w r s ≡ checkOf vs ids u w r s
+  unfolding checkOf
+  check-stays ids u w r s = rw (same-length dx dy dz vs vs′ m, fine-stays)
+
+  pub work-stays : (ids area : List ℕ) → cleared (workWords (length vs′) (length ids)) area ≡ cleared (workWords (length vs) (length ids)) area
+  work-stays ids area = rw (same-length dx dy dz vs vs′ m)
+
+-- a refusal and the zero record do not depend on the mesh's floats
+agree-at : (k : Check) (q q′ : MeshQto) → (k ≡ Check.Full → AgreeRecords q q′) → AgreeAnswers (answerAt k q) (answerAt k q′)
+unfolding answerAt AgreeAnswers AgreeBy
+agree-at (Check.Refuse n) q q′ h = refl
+agree-at Check.Zero q q′ h = record { verdict = refl; rest = refl }
+agree-at Check.Full q q′ h = h refl
+
+area-at : {A : Type 0} (k : Check) (after after′ area : List A) → (k ≡ Check.Full → after′ ≡ after) → areaAt k after′ area ≡ areaAt k after area
+unfolding areaAt
+area-at (Check.Refuse n) after after′ area h = refl
+area-at Check.Zero after after′ area h = refl
+area-at Check.Full after after′ area h = h refl
+
+pub place-does-not-show : PlaceDoesNotShow
+place-does-not-show dx dy dz vs vs′ ids u w r s a a′ w₁ w₂ r₁ r₂ s₁ s₂ m enough c c′ =
+    let k = checkOf vs ids u (length w) (length r) (length s) in
+    let e : checkOf vs′ ids u (length w) (length r) (length s) ≡ k = check-stays dx dy dz vs vs′ m ids u (length w) (length r) (length s) in
+    let passes : k ≡ Check.Full → Admitted vs ids u (length w) (length r) (length s) = λ h. admitted vs ids u (length w) (length r) (length s) k h refl in
+    record {
+      answers =
+        rw (c .answers, c′ .answers, e)
+        (agree-at k (recordOf vs ids u) (recordOf vs′ ids u)
+        (λ h. records-agree dx dy dz vs vs′ m (passes h .mesh .floats-least) ids u enough (passes h .mesh .unit)));
+      work = rw (c .work, c′ .work, e, same-length dx dy dz vs vs′ m);
+      raster = rw (c .raster, c′ .raster, e);
+      surfaces =
+        rw (c .surfaces, c′ .surfaces, e)
+        (area-at k (surfacesAfter vs ids u s) (surfacesAfter vs′ ids u s) s
+        (λ h. surfaces-stay dx dy dz vs vs′ m (passes h .mesh .floats-least) ids u s));
+    }

@@ -1,0 +1,95 @@
+-- What the record is made of agrees, one part after the other; only the footprints of an open mesh depend on where it stands. Assumes nothing.
+use mathlib.Core.Path.{_≡_, refl, sym, _∙_}
+use mathlib.Core.Bool.{Bool, true, false}
+use mathlib.Core.List.{List}
+use Prim.Native.Nat.{ℕ, _≤_}
+use native.Mathlib.Omega.{arith}
+use lib.Dec.{T}
+use lib.IntN.{ℤ}
+use lib.ListN.{length}
+use lib.Ieee.{Float}
+use Rattle.ids.specs.Triangles.{triangleCount}
+use Rattle.sums.specs.Box.{box, boxVolume}
+use Rattle.sums.specs.Totals.{thresholds}
+use Rattle.verdict.specs.declared.Quality.{Quality}
+use Rattle.verdict.specs.Verdict.{byChain, quality}
+use Rattle.volume.specs.declared.Method.{Method}
+use Rattle.volume.specs.declared.PrismBound.{PrismBound}
+use Rattle.volume.specs.Best.{upper, trusted, orElse, openBest, bestOf}
+use Rattle.record.specs.Numbers.{prismNumber}
+use Rattle.qto.specs.declared.Measures.{Measures}
+use Rattle.qto.specs.Refusals.{unitFits}
+use Rattle.qto.specs.Full.{cube, totals, buckets, surfaceRows, surfacesAfter, measures, verdict, best, recordFrom, recordBy, recordOf}
+use Rattle.place.specs.Moved.{Moved, unitEnough}
+use Rattle.place.specs.Agree.{AgreeBy, AgreeRecords}
+use Rattle.place.proofs.Box.{box-shifted, same-box-volume}
+use Rattle.place.proofs.Triangles.{same-totals, same-buckets}
+use Rattle.place.proofs.Weld.{same-welded}
+
+-- an open mesh has a prism bound, trusted or not
+open-bounded : (v s aabb p : Float) → prismNumber (openBest v s aabb p .prism) ≡ 1
+unfolding openBest prismNumber
+open-bounded v s aabb p = go (trusted p (upper p aabb) v s)
+  where
+    go : (t : Bool) → prismNumber (orElse t (record { volume = v; method = Method.MeshOpen; reliable = true; prism = PrismBound.Bound p }) (record { volume = p; method = Method.PrismFallback; reliable = false; prism = PrismBound.Bound p }) .prism) ≡ 1
+    go true = refl
+    go false = refl
+
+-- of a closed or degenerate mesh nothing asks for the prism, p or p′
+agree-but-prism : (m : Measures) (q : Quality) (v s aabb p p′ : Float) → AgreeRecords (recordFrom m aabb q (bestOf q v s aabb p)) (recordFrom m aabb q (bestOf q v s aabb p′))
+unfolding recordFrom bestOf AgreeBy
+agree-but-prism m Quality.Closed v s aabb p p′ = record { verdict = refl; rest = refl }
+agree-but-prism m Quality.Degenerate v s aabb p p′ = record { verdict = refl; rest = refl }
+agree-but-prism m Quality.OpenShell v s aabb p p′ =
+    record {
+      verdict = refl;
+      rest =
+        record {
+          volume = refl;
+          aabb = refl;
+          surface = refl;
+          top = refl;
+          bottom = refl;
+          side = refl;
+          inclined = refl;
+          largest = refl;
+          smallest = refl;
+          count = refl;
+          profile = refl;
+          bounded = open-bounded v s aabb p′ ∙ sym (open-bounded v s aabb p);
+        };
+    }
+
+module _ (dx dy dz : ℤ) (vs vs′ : List Float) (m : Moved dx dy dz vs vs′) (some : 9 ≤ length vs) (ids : List ℕ) where
+  pub totals-stay : totals vs′ ids ≡ totals vs ids
+  unfolding totals
+  totals-stay = same-totals dx dy dz vs vs′ m (box vs) (box vs′) (box-shifted dx dy dz vs vs′ m (omega arith)) thresholds ids (triangleCount ids)
+
+  buckets-stay : buckets vs′ ids ≡ buckets vs ids
+  unfolding buckets
+  buckets-stay = same-buckets dx dy dz vs vs′ m (box vs) (box vs′) (box-shifted dx dy dz vs vs′ m (omega arith)) ids (triangleCount ids)
+
+  module _ (u : Float) where
+    pub box-volume-stays : boxVolume (box vs′) (cube u) ≡ boxVolume (box vs) (cube u)
+    box-volume-stays = same-box-volume dx dy dz (box vs) (box vs′) (cube u) (box-shifted dx dy dz vs vs′ m (omega arith))
+
+    pub rows-stay : surfaceRows vs′ ids u ≡ surfaceRows vs ids u
+    unfolding surfaceRows
+    rows-stay = rw buckets-stay
+
+    pub surfaces-stay : (area : List Float) → surfacesAfter vs′ ids u area ≡ surfacesAfter vs ids u area
+    unfolding surfacesAfter
+    surfaces-stay area = rw rows-stay
+
+    measures-stay : measures vs′ ids u ≡ measures vs ids u
+    unfolding measures
+    measures-stay = rw (totals-stay, rows-stay)
+
+    module _ (enough : T (unitEnough u)) (fits : T (unitFits u)) where
+      pub verdict-stays : verdict vs′ ids u (measures vs′ ids u .volume) ≡ verdict vs ids u (measures vs ids u .volume)
+      unfolding verdict quality byChain
+      verdict-stays = rw (measures-stay, box-volume-stays, same-welded u enough fits dx dy dz vs vs′ m ids)
+
+      pub records-agree : AgreeRecords (recordOf vs ids u) (recordOf vs′ ids u)
+      unfolding recordOf recordBy best
+      records-agree = rw (verdict-stays, measures-stay, box-volume-stays) (agree-but-prism (measures vs ids u) (verdict vs ids u (measures vs ids u .volume)) _ _ (boxVolume (box vs) (cube u)) _ _)

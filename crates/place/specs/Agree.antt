@@ -1,0 +1,49 @@
+-- Demand 3's conclusion: what agrees of the two outcomes.
+use mathlib.Core.Path.{_≡_}
+use mathlib.Core.List.{List}
+use Prim.Native.Nat.{ℕ}
+use lib.Ieee.{Float}
+use Rattle.verdict.specs.declared.Quality.{Quality}
+use Rattle.record.specs.declared.MeshQto.{MeshQto}
+use Rattle.record.specs.Numbers.{prismNumber}
+use Rattle.qto.specs.declared.Answer.{Answer}
+
+-- all of a record but best volume, its method, its trust and the prism bound
+pub record AgreeButBest (q q′ : MeshQto) : Type 0 where
+  pub volume : q′ .«volume_m3» ≡ q .«volume_m3»
+  pub aabb : q′ .«aabb_volume_m3» ≡ q .«aabb_volume_m3»
+  pub surface : q′ .«surface_area_m2» ≡ q .«surface_area_m2»
+  pub top : q′ .«area_top_m2» ≡ q .«area_top_m2»
+  pub bottom : q′ .«area_bottom_m2» ≡ q .«area_bottom_m2»
+  pub side : q′ .«area_side_m2» ≡ q .«area_side_m2»
+  pub inclined : q′ .«area_inclined_m2» ≡ q .«area_inclined_m2»
+  pub largest : q′ .«largest_surface_m2» ≡ q .«largest_surface_m2»
+  pub smallest : q′ .«smallest_surface_m2» ≡ q .«smallest_surface_m2»
+  pub count : q′ .«surface_count» ≡ q .«surface_count»
+  pub profile : q′ .«profile_invalid» ≡ q .«profile_invalid»
+  -- the bound itself may differ, but it is a number in both or in neither
+  pub bounded : prismNumber (q′ .«volume_prism_bound_m3») ≡ prismNumber (q .«volume_prism_bound_m3»)
+
+-- by the verdict: an open mesh's record but for these four, any other whole
+unfoldable pub AgreeBy : Quality → MeshQto → MeshQto → Type 0
+AgreeBy Quality.Closed q q′ = q′ ≡ q
+AgreeBy Quality.Degenerate q q′ = q′ ≡ q
+AgreeBy Quality.OpenShell q q′ = AgreeButBest q q′
+
+pub record AgreeRecords (q q′ : MeshQto) : Type 0 where
+  pub verdict : q′ .«mesh_quality» ≡ q .«mesh_quality»
+  pub rest : AgreeBy (q .«mesh_quality») q q′
+
+-- two refusals with one number, or two records that agree
+unfoldable pub AgreeAnswers : Answer → Answer → Type 0
+AgreeAnswers (Answer.Refused n) (Answer.Refused m) = m ≡ n
+AgreeAnswers (Answer.Record q) (Answer.Record q′) = AgreeRecords q q′
+AgreeAnswers (Answer.Refused n) (Answer.Record q) = ⊥
+AgreeAnswers (Answer.Record q) (Answer.Refused n) = ⊥
+
+-- the answers, and what stands in work area, raster and surface area afterwards
+pub record Agree (a a′ : Answer) (w w′ r r′ : List ℕ) (s s′ : List Float) : Type 0 where
+  pub answers : AgreeAnswers a a′
+  pub work : w′ ≡ w
+  pub raster : r′ ≡ r
+  pub surfaces : s′ ≡ s

@@ -1,0 +1,32 @@
+-- The road of a mesh through the definitions: what is seen of it at each station stays where the mesh is moved. (`stations`)
+use mathlib.Core.Path.{_≡_}
+use mathlib.Core.List.{List}
+use Prim.Native.Nat.{ℕ, _≤_}
+use lib.Dec.{T}
+use lib.IntN.{ℤ}
+use lib.ListN.{length}
+use lib.Ieee.{Float}
+use Rattle.ids.specs.Lent.{cleared}
+use Rattle.sums.specs.Box.{box, boxVolume}
+use Rattle.sums.specs.Fine.{allFine}
+use Rattle.weld.specs.Weld.{epsilonOf, welded}
+use Rattle.qto.specs.Refusals.{workWords, unitFits, checkOf}
+use Rattle.qto.specs.Full.{cube, totals, surfaceRows, measures, distance, verdict}
+use Rattle.place.specs.Moved.{Moved, unitEnough}
+
+abbrev pub Stays : {A : Type 0} → (List Float → A) → Type 0
+Stays see = (dx dy dz : ℤ) (vs vs′ : List Float) → Moved dx dy dz vs vs′ → 9 ≤ length vs → see vs′ ≡ see vs
+
+pub record Stations (ids : List ℕ) (u : Float) : Type 0 where
+  -- no such coordinate is refused
+  pub fine : Stays allFine
+  -- the box is moved with the mesh, so its corners show the place; its volume does not
+  pub box-volume : Stays (λ vs. boxVolume (box vs) (cube u))
+  -- corners are rebased by the box, and all else is made of them
+  pub sums : Stays (λ vs. totals vs ids)
+  pub rows : Stays (λ vs. surfaceRows vs ids u)
+  -- the weld's cells show the place; which vertex names one does not
+  pub weld : T (unitEnough u) → T (unitFits u) → Stays (λ vs. welded vs ids (epsilonOf distance u))
+  pub quality : T (unitEnough u) → T (unitFits u) → Stays (λ vs. verdict vs ids u (measures vs ids u .volume))
+  -- what stands in the work area afterwards
+  pub work : (area : List ℕ) → Stays (λ vs. cleared (workWords (length vs) (length ids)) area)

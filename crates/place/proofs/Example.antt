@@ -41,12 +41,14 @@ unfolding Moved floats shift inRange
 integers-meet dx dy dz [] h k = tt
 integers-meet dx dy dz (z ∷ zs) h k =
     let l = leb→le (natAbs z) 16777216 (and-l (leb (natAbs z) 16777216) (inRange zs) h) in
-    let l′ = leb→le (natAbs (z +ℤ dx)) 16777216 (and-l (leb (natAbs (z +ℤ dx)) 16777216) (inRange (shift dy dz dx zs)) k) in
-    (record {
-      before = whole-told (ofInt binary32 z) z (ofInt-whole binary32 z l) l;
-      after = whole-told (ofInt binary32 (z +ℤ dx)) (z +ℤ dx) (ofInt-whole binary32 (z +ℤ dx) l′) l′;
-      plus = of-integer (z +ℤ dx) l′ ∙ sym (ap (λ (i : ℤ). i +ℤ dx) (of-integer z l));
-    }, integers-meet dy dz dx zs (and-r (leb (natAbs z) 16777216) (inRange zs) h) (and-r (leb (natAbs (z +ℤ dx)) 16777216) (inRange (shift dy dz dx zs)) k))
+    let l′ = leb→le (natAbs (z +ℤ dx)) 16777216 (and-l (leb (natAbs (z +ℤ dx)) 16777216) (inRange (shift dy dz dx zs)) k) in (
+      record {
+        before = whole-told (ofInt binary32 z) z (ofInt-whole binary32 z l) l;
+        after = whole-told (ofInt binary32 (z +ℤ dx)) (z +ℤ dx) (ofInt-whole binary32 (z +ℤ dx) l′) l′;
+        plus = of-integer (z +ℤ dx) l′ ∙ sym (ap (λ (i : ℤ). i +ℤ dx) (of-integer z l));
+      },
+      integers-meet dy dz dx zs (and-r (leb (natAbs z) 16777216) (inRange zs) h) (and-r (leb (natAbs (z +ℤ dx)) 16777216) (inRange (shift dy dz dx zs)) k),
+    )
 
 moved-there : Moved (pos 16777214) (negsuc 16777215) (negsuc 6) (floats here) (floats there)
 unfolding inRange shift

@@ -55,13 +55,13 @@ place-does-not-show dx dy dz vs vs′ ids u w r s a a′ w₁ w₂ r₁ r₂ s�
     let passes : k ≡ Check.Full → Admitted vs ids u (length w) (length r) (length s) = λ h. admitted vs ids u (length w) (length r) (length s) k h refl in
     record {
       answers =
-        rw (c .answers, c′ .answers, e)
-        (agree-at k (recordOf vs ids u) (recordOf vs′ ids u)
-        (λ h. records-agree dx dy dz vs vs′ m (passes h .mesh .floats-least) ids u enough (passes h .mesh .unit)));
+          rw (c .answers, c′ .answers, e)
+          (agree-at k (recordOf vs ids u) (recordOf vs′ ids u)
+          (λ h. records-agree dx dy dz vs vs′ m (passes h .mesh .floats-least) ids u enough (passes h .mesh .unit)));
       work = rw (c .work, c′ .work, e, same-length dx dy dz vs vs′ m);
       raster = rw (c .raster, c′ .raster, e);
       surfaces =
-        rw (c .surfaces, c′ .surfaces, e)
-        (area-at k (surfacesAfter vs ids u s) (surfacesAfter vs′ ids u s) s
-        (λ h. surfaces-stay dx dy dz vs vs′ m (passes h .mesh .floats-least) ids u s));
+          rw (c .surfaces, c′ .surfaces, e)
+          (area-at k (surfacesAfter vs ids u s) (surfacesAfter vs′ ids u s) s
+          (λ h. surfaces-stay dx dy dz vs vs′ m (passes h .mesh .floats-least) ids u s));
     }

@@ -44,20 +44,20 @@ agree-but-prism m Quality.OpenShell v s aabb p p′ =
     record {
       verdict = refl;
       rest =
-        record {
-          volume = refl;
-          aabb = refl;
-          surface = refl;
-          top = refl;
-          bottom = refl;
-          side = refl;
-          inclined = refl;
-          largest = refl;
-          smallest = refl;
-          count = refl;
-          profile = refl;
-          bounded = open-bounded v s aabb p′ ∙ sym (open-bounded v s aabb p);
-        };
+          record {
+            volume = refl;
+            aabb = refl;
+            surface = refl;
+            top = refl;
+            bottom = refl;
+            side = refl;
+            inclined = refl;
+            largest = refl;
+            smallest = refl;
+            count = refl;
+            profile = refl;
+            bounded = open-bounded v s aabb p′ ∙ sym (open-bounded v s aabb p);
+          };
     }
 
 module _ (dx dy dz : ℤ) (vs vs′ : List Float) (m : Moved dx dy dz vs vs′) (some : 9 ≤ length vs) (ids : List ℕ) where

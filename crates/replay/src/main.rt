@@ -84,7 +84,14 @@ fn print_short(vertices: &[f32], ids: &[u32], unit: f32)
     let mut raster = [0u8; 65536];
     let mut surfaces = [0f32; 2048];
     let lent = one_less(5 * ids.len() + 4 * (ids.len() / 3) + 8 * (vertices.len() / 3));
-    let answer = qto::compute(vertices, ids, unit, &mut work[..lent], &mut raster, &mut surfaces);
+    let answer = qto::compute(
+        vertices,
+        ids,
+        unit,
+        &mut work[..lent],
+        &mut raster,
+        &mut surfaces,
+    );
     match answer {
         Answer::Record(_) => print_count(b" short ", 0),
         Answer::Refused(n) => print_count(b" short ", n as u64),

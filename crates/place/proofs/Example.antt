@@ -1,4 +1,5 @@
 -- Integers in the range, moved within it, meet the premise; so does a mesh with a real move, which is closed by computing. Assumes nothing.
+use mathlib.Core.Logic.{_≢_}
 use mathlib.Core.Path.{_≡_, refl, sym, _∙_, ap}
 use mathlib.Core.Bool.{Bool, true, false}
 use mathlib.Core.List.{List, [], _∷_}
@@ -6,8 +7,9 @@ use Prim.Native.Nat.{ℕ, _^_, _≤_, _<_}
 use native.Mathlib.Omega.{arith}
 use lib.Dec.{T, leb, leb→le}
 use lib.IntN.{ℤ, pos, negsuc, natAbs, _+ℤ_}
-use lib.Ieee.{Float, binary32, add, climb, div, eq, isNan, le, lt, mul, neg, odd, ofBits, ofFields, ofInt, round, size as numberSize, span, sub, sum, units}
+use lib.Ieee.{Float, binary32, add, climb, div, eq, isNan, le, lt, mul, neg, odd, ofBits, ofFields, ofInt, round, size as numberSize, span, sub, sum, toSigned, units}
 use lib.Ieee.Fits.{and-l, and-r}
+use Rattle.ieee.specs.Integral.{integral}
 use Rattle.ieee.specs.Magnitude.{magnitude}
 use Rattle.ieee.specs.Order.{least, greatest}
 use Rattle.ieee.specs.Root.{closestRoot, digits, floorRoot, root, rootRound}
@@ -19,13 +21,15 @@ use Rattle.ids.specs.Triangles.{distinct, overTriangles, triangle}
 use Rattle.ids.specs.Uses.{bit, counting, keys, keysThat, largest, maxBy, signed, sumBy, uses}
 use Rattle.grid.specs.Grid.{extent}
 use Rattle.vertices.specs.Vertices.{cornersInRange, inRange as inRangeOf}
-use Rattle.sums.specs.Box.{boxTo, boxVolume, highest, lowest}
+use Rattle.sums.specs.declared.Bounds.{Bounds}
+use Rattle.sums.specs.Box.{box, boxTo, boxVolume, highest, lowest}
 use Rattle.sums.specs.Facet.{facetOf, normal, part, partOf, rebased, size, tetra}
 use Rattle.sums.specs.Totals.{onSlope, slopeOf, totalsTo, withFacet, withPart}
+use Rattle.weld.specs.Weld.{cellOf, epsilonOf, inverse}
 use Rattle.verdict.specs.declared.Quality.{Quality}
 use Rattle.verdict.specs.Verdict.{byChain, byFaces, nearZero, quality, tooLarge}
 use Rattle.record.specs.declared.MeshQto.{MeshQto}
-use Rattle.qto.specs.Full.{measures, measuresFrom, recordBy, recordFrom, recordOf, totals, verdict, volumeOf}
+use Rattle.qto.specs.Full.{distance, measures, measuresFrom, recordBy, recordFrom, recordOf, totals, verdict, volumeOf}
 use Rattle.place.specs.Moved.{wholeOf, Plus, Moved, millimetre}
 use Rattle.place.specs.Example.{floats, shift, inRange, IntegersMeet, here, there, RealMove}
 use Rattle.place.proofs.Shifted.{whole-told}
@@ -58,6 +62,15 @@ closed-here : recordOf (floats here) tetrahedron millimetre .«mesh_quality» �
 unfolding floats tetrahedron recordOf recordBy recordFrom verdict measures measuresFrom volumeOf totals totalsTo withPart withFacet onSlope slopeOf part partOf cornersInRange inRangeOf rebased normal size tetra facetOf triangle boxTo lowest highest boxVolume extent quality tooLarge nearZero byChain byFaces boundaryFree overIncident enough chain step around sameEdge present unbalanced crowded keysThat largest keys counting uses signed bit sumBy maxBy distinct overTriangles least greatest magnitude rounded rootRound closestRoot floorRoot digits root add sub mul div lt le eq neg sum round units odd numberSize climb span isNan ofBits ofFields ofInt
 closed-here = refl
 
-pub example : RealMove
+-- the lowest x is 16,777,214 there and 0 here, and so are their cells' numbers apart
+corner-shows : box (floats there) .xmin ≢ box (floats here) .xmin
+unfolding floats shift boxTo lowest least lt isNan ofInt round units odd numberSize climb span toSigned
+corner-shows e = let n : _≡_ {A = ℕ} 16777214 0 = ap (λ (x : Float). natAbs (wholeOf x)) e in absurd (omega arith)
+
+cell-shows : cellOf (inverse (epsilonOf distance millimetre)) (box (floats there) .xmin) ≢ cellOf (inverse (epsilonOf distance millimetre)) (box (floats here) .xmin)
+unfolding floats shift boxTo lowest least greatest lt isNan ofInt ofBits ofFields round units odd numberSize climb span toSigned cellOf epsilonOf div mul integral
+cell-shows e = let n : _≡_ {A = ℕ} 167772150 0 = ap natAbs e in absurd (omega arith)
+
+pub real-move : RealMove
 unfolding le ofBits
-example = record { moved = moved-there; unit = tt; closed = closed-here }
+real-move = record { moved = moved-there; unit = tt; closed = closed-here; corner-shows = corner-shows; cell-shows = cell-shows }

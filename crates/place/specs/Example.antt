@@ -1,14 +1,18 @@
 -- The premise can be met: by any integers in the range that are moved within it. One such mesh, with a real move, is a closed one.
 use mathlib.Core.Path.{_≡_}
+use mathlib.Core.Logic.{_≢_}
 use mathlib.Core.Bool.{Bool, true, _&&_}
 use mathlib.Core.List.{List, [], _∷_}
 use lib.Dec.{T, leb}
 use lib.IntN.{ℤ, pos, negsuc, natAbs, _+ℤ_}
 use lib.Ieee.{Float, binary32, ofInt}
 use Rattle.ids.specs.Examples.{tetrahedron}
+use Rattle.sums.specs.declared.Bounds.{Bounds}
+use Rattle.sums.specs.Box.{box}
+use Rattle.weld.specs.Weld.{epsilonOf, inverse, cellOf}
 use Rattle.verdict.specs.declared.Quality.{Quality}
 use Rattle.record.specs.declared.MeshQto.{MeshQto}
-use Rattle.qto.specs.Full.{recordOf}
+use Rattle.qto.specs.Full.{distance, recordOf}
 use Rattle.place.specs.Moved.{Moved, millimetre, unitEnough}
 
 -- integers as f32
@@ -37,8 +41,11 @@ here = pos 0 ∷ pos 0 ∷ pos 0 ∷ pos 2 ∷ pos 0 ∷ pos 0 ∷ pos 0 ∷ pos
 abbrev pub there : List ℤ
 there = shift (pos 16777214) (negsuc 16777215) (negsuc 6) here
 
--- (`example`)
+-- (`real-move`)
 pub record RealMove : Type 0 where
   pub moved : Moved (pos 16777214) (negsuc 16777215) (negsuc 6) (floats here) (floats there)
   pub unit : T (unitEnough millimetre)
   pub closed : recordOf (floats here) tetrahedron millimetre .«mesh_quality» ≡ Quality.Closed
+  -- what does show: the box's corners and the weld's cells. So neither may come into the record or stay in an area
+  pub corner-shows : box (floats there) .xmin ≢ box (floats here) .xmin
+  pub cell-shows : cellOf (inverse (epsilonOf distance millimetre)) (box (floats there) .xmin) ≢ cellOf (inverse (epsilonOf distance millimetre)) (box (floats here) .xmin)

@@ -6,7 +6,7 @@ use native.Mathlib.Omega.{arith}
 use lib.Dec.{lit<}
 use lib.IntN.{ℤ, _+ℤ_}
 use lib.ListN.{length}
-use lib.Ieee.{Float, inf, binary32}
+use lib.Ieee.{Float, binary32}
 use Rattle.ieee.specs.Order.{least, greatest}
 use Rattle.grid.specs.Grid.{extent}
 use Rattle.vertices.specs.Vertices.{vertexCount, coordinate}

@@ -1,11 +1,10 @@
 -- Integers in the range, moved within it, meet the premise; so does a mesh with a real move, which is closed by computing. Assumes nothing.
 use mathlib.Core.Logic.{_≢_}
 use mathlib.Core.Path.{_≡_, refl, sym, _∙_, ap}
-use mathlib.Core.Bool.{Bool, true, false}
-use mathlib.Core.List.{List, [], _∷_}
+use mathlib.Core.List.{[], _∷_}
 use Prim.Native.Nat.{ℕ, _^_, _≤_, _<_}
 use native.Mathlib.Omega.{arith}
-use lib.Dec.{T, leb, leb→le}
+use lib.Dec.{leb, leb→le}
 use lib.IntN.{ℤ, pos, negsuc, natAbs, _+ℤ_}
 use lib.Ieee.{Float, binary32, add, climb, div, eq, isNan, le, lt, mul, neg, odd, ofBits, ofFields, ofInt, round, size as numberSize, span, sub, sum, toSigned, units}
 use lib.Ieee.Fits.{and-l, and-r}
@@ -21,16 +20,14 @@ use Rattle.ids.specs.Triangles.{distinct, overTriangles, triangle}
 use Rattle.ids.specs.Uses.{bit, counting, keys, keysThat, largest, maxBy, signed, sumBy, uses}
 use Rattle.grid.specs.Grid.{extent}
 use Rattle.vertices.specs.Vertices.{cornersInRange, inRange as inRangeOf}
-use Rattle.sums.specs.declared.Bounds.{Bounds}
 use Rattle.sums.specs.Box.{box, boxTo, boxVolume, highest, lowest}
 use Rattle.sums.specs.Facet.{facetOf, normal, part, partOf, rebased, size, tetra}
 use Rattle.sums.specs.Totals.{onSlope, slopeOf, totalsTo, withFacet, withPart}
 use Rattle.weld.specs.Weld.{cellOf, epsilonOf, inverse}
 use Rattle.verdict.specs.declared.Quality.{Quality}
 use Rattle.verdict.specs.Verdict.{byChain, byFaces, nearZero, quality, tooLarge}
-use Rattle.record.specs.declared.MeshQto.{MeshQto}
 use Rattle.qto.specs.Full.{distance, measures, measuresFrom, recordBy, recordFrom, recordOf, totals, verdict, volumeOf}
-use Rattle.place.specs.Moved.{wholeOf, Plus, Moved, millimetre}
+use Rattle.place.specs.Moved.{wholeOf, Moved, millimetre}
 use Rattle.place.specs.Example.{floats, shift, inRange, IntegersMeet, here, there, RealMove}
 use Rattle.place.proofs.Shifted.{whole-told}
 

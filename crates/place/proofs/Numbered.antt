@@ -1,5 +1,5 @@
 -- Demand 3 for the C interface, from that for `compute`: the words are made of the record. Assumes nothing.
-use mathlib.Core.Path.{_≡_, refl, sym, _∙_, ap}
+use mathlib.Core.Path.{_≡_, refl, ap}
 use mathlib.Core.Bool.{Bool, true, false, not}
 use mathlib.Core.List.{List}
 use Prim.Native.Nat.{ℕ}
@@ -15,7 +15,7 @@ use Rattle.qto.specs.declared.Check.{Check}
 use Rattle.qto.specs.Refusals.{first, workWords, rasterBytes, checkOf}
 use Rattle.qto.specs.Full.{recordOf, surfacesAfter}
 use Rattle.qto.specs.Compute.{answerAt, areaAt}
-use Rattle.qto.specs.Numbers.{wordsOf, withFlags, numberAt, wordsAt, checkFlags}
+use Rattle.qto.specs.Numbers.{wordsOf, withFlags, wordsAt, checkFlags}
 use Rattle.place.specs.Moved.{Moved, unitEnough}
 use Rattle.place.specs.Agree.{AgreeBy, AgreeRecords, AgreeAnswers, Agree}
 use Rattle.place.specs.Numbered.{unexcepted, owed, NumberedDoesNotShow}

@@ -1,9 +1,7 @@
 -- Demand 3: the checks, the answer and the lent areas of a mesh and of the same mesh moved agree. Assumes nothing.
-use mathlib.Core.Path.{_≡_, refl, sym, _∙_, ap, subst}
-use mathlib.Core.Bool.{Bool, true, false, not, _||_}
+use mathlib.Core.Path.{_≡_, refl, sym, _∙_}
 use mathlib.Core.List.{List}
-use Prim.Native.Nat.{ℕ, _≤_}
-use lib.Dec.{T}
+use Prim.Native.Nat.{ℕ}
 use lib.IntN.{ℤ}
 use lib.ListN.{length}
 use lib.Ieee.{Float}
@@ -11,21 +9,19 @@ use lib.Ieee.Bits.{is-true}
 use Rattle.ids.specs.Lent.{cleared}
 use Rattle.sums.specs.Fine.{allFine}
 use Rattle.record.specs.declared.MeshQto.{MeshQto}
-use Rattle.record.specs.Record.{zeroRecord}
-use Rattle.qto.specs.declared.Answer.{Answer}
 use Rattle.qto.specs.declared.Check.{Check}
-use Rattle.qto.specs.Refusals.{workWords, rasterBytes, unitFits, checkOf}
+use Rattle.qto.specs.Refusals.{workWords, checkOf}
 use Rattle.qto.specs.Full.{recordOf, surfacesAfter}
-use Rattle.qto.specs.Compute.{answerAt, areaAt, Computes}
+use Rattle.qto.specs.Compute.{answerAt, areaAt}
 use Rattle.qto.proofs.Checks.{Admitted, admitted}
-use Rattle.place.specs.Moved.{Moved, unitEnough}
-use Rattle.place.specs.Agree.{AgreeBy, AgreeRecords, AgreeAnswers, Agree}
+use Rattle.place.specs.Moved.{Moved}
+use Rattle.place.specs.Agree.{AgreeBy, AgreeRecords, AgreeAnswers}
 use Rattle.place.specs.Place.{PlaceDoesNotShow}
 use Rattle.place.proofs.Vertices.{same-length, all-fine}
 use Rattle.place.proofs.Record.{surfaces-stay, records-agree}
 
 module _ (dx dy dz : ℤ) (vs vs′ : List Float) (m : Moved dx dy dz vs vs′) where
-  pub fine-stays : allFine vs′ ≡ allFine vs
+  fine-stays : allFine vs′ ≡ allFine vs
   fine-stays = let t = all-fine dx dy dz vs vs′ m in is-true (allFine vs′) (t .1) ∙ sym (is-true (allFine vs) (t .0))
 
   pub check-stays : (ids : List ℕ) (u : Float) (w r s : ℕ) → checkOf vs′ ids u w r s ≡ checkOf vs ids u w r s

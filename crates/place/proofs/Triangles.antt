@@ -1,9 +1,8 @@
 -- Triangles are rebased by the box, so each adds the same where the mesh is moved; so do all of them, to the totals and to the surfaces. Assumes nothing.
-use mathlib.Core.Path.{_≡_, refl, ap}
+use mathlib.Core.Path.{_≡_, refl}
 use mathlib.Core.Bool.{Bool, true, false, _&&_}
 use mathlib.Core.List.{List}
 use Prim.Native.Nat.{ℕ, zero, suc, _+_, _*_, _<_}
-use native.Mathlib.Omega.{arith}
 use lib.Dec.{T, lit<, ltb→lt}
 use lib.IntN.{ℤ}
 use lib.ListN.{length}
@@ -14,8 +13,8 @@ use Rattle.sums.specs.declared.Bounds.{Bounds}
 use Rattle.sums.specs.declared.Thresholds.{Thresholds}
 use Rattle.sums.specs.Box.{origin}
 use Rattle.sums.specs.Facet.{rebased, corners, ifInRange, partOf, part}
-use Rattle.sums.specs.Totals.{totalsTo, withPart}
-use Rattle.walk.specs.Walk.{bucketsTo, withSurface}
+use Rattle.sums.specs.Totals.{totalsTo}
+use Rattle.walk.specs.Walk.{bucketsTo}
 use Rattle.place.specs.Moved.{Moved}
 use Rattle.place.proofs.Shifted.{same-sub}
 use Rattle.place.proofs.Vertices.{same-length, coordinate-shifted}

@@ -1,6 +1,5 @@
 -- The premise, said of the lists of floats, holds of every coordinate of every vertex. Assumes nothing.
 use mathlib.Core.Path.{_≡_, refl, ap}
-use mathlib.Core.Bool.{true, _&&_}
 use mathlib.Core.List.{List, [], _∷_}
 use Prim.Native.Nat.{ℕ, zero, suc, _+_, _*_, _<_}
 use native.Mathlib.Omega.{arith}
@@ -11,7 +10,7 @@ use lib.Ieee.{Float, nan}
 use lib.Ieee.Fits.{and-i}
 use Rattle.vertices.specs.Vertices.{coordinate}
 use Rattle.sums.specs.Fine.{fine, allFine}
-use Rattle.place.specs.Moved.{Plus, Moved}
+use Rattle.place.specs.Moved.{Moved}
 use Rattle.place.proofs.Shifted.{Shifted, shifted-of, whole-fine}
 
 -- the move on an axis: the axes in turn

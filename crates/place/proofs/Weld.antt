@@ -1,11 +1,11 @@
 -- Two vertices share a weld cell just where they did before the move, so every vertex keeps its name, and the welded ids are the same. Assumes nothing.
 use mathlib.Core.Path.{_≡_, refl, sym, _∙_}
-use mathlib.Core.Bool.{Bool, true, false, cond, decide}
+use mathlib.Core.Bool.{Bool, true, false, cond}
 use mathlib.Core.List.{List, [], _∷_}
 use Prim.Native.Nat.{ℕ, zero, suc, _+_, _*_, _<_}
 use native.Mathlib.Omega.{arith}
 use lib.Dec.{T, ltb, ltb→lt, lit<}
-use lib.IntN.{ℤ, ℤ-discrete, _+ℤ_}
+use lib.IntN.{ℤ, _+ℤ_}
 use lib.ListN.{length}
 use lib.Ieee.{Float}
 use Rattle.ieee.proofs.Integers.Order.{eq-whole, eq-moved}

@@ -7,11 +7,9 @@ use lib.Dec.{T, leb}
 use lib.IntN.{ℤ, pos, negsuc, natAbs, _+ℤ_}
 use lib.Ieee.{Float, binary32, ofInt}
 use Rattle.ids.specs.Examples.{tetrahedron}
-use Rattle.sums.specs.declared.Bounds.{Bounds}
 use Rattle.sums.specs.Box.{box}
 use Rattle.weld.specs.Weld.{epsilonOf, inverse, cellOf}
 use Rattle.verdict.specs.declared.Quality.{Quality}
-use Rattle.record.specs.declared.MeshQto.{MeshQto}
 use Rattle.qto.specs.Full.{distance, recordOf}
 use Rattle.place.specs.Moved.{Moved, millimetre, unitEnough}
 

@@ -2,7 +2,7 @@
 use mathlib.Core.Path.{_≡_}
 use mathlib.Core.Bool.{Bool}
 use mathlib.Core.List.{List, [], _∷_}
-use Prim.Native.Nat.{ℕ, _≤_}
+use Prim.Native.Nat.{_≤_}
 use lib.Dec.{T}
 use lib.IntN.{ℤ, natAbs, _+ℤ_}
 use lib.Ieee.{Float, binary32, le, ofBits, toSigned, whole}

@@ -8,18 +8,17 @@ use lib.ListN.{length}
 use lib.Ieee.{Float}
 use Rattle.ids.specs.Lent.{cleared}
 use Rattle.sums.specs.Box.{box, boxVolume}
-use Rattle.sums.specs.Fine.{allFine}
 use Rattle.weld.specs.Weld.{epsilonOf, welded}
 use Rattle.qto.specs.Refusals.{workWords, unitFits, checkOf}
-use Rattle.qto.specs.Full.{cube, totals, surfaceRows, measures, distance, verdict}
+use Rattle.qto.specs.Full.{cube, totals, surfaceRows, surfacesAfter, measures, distance, verdict}
 use Rattle.place.specs.Moved.{Moved, unitEnough}
 
 abbrev pub Stays : {A : Type 0} → (List Float → A) → Type 0
 Stays see = (dx dy dz : ℤ) (vs vs′ : List Float) → Moved dx dy dz vs vs′ → 9 ≤ length vs → see vs′ ≡ see vs
 
 pub record Stations (ids : List ℕ) (u : Float) : Type 0 where
-  -- no such coordinate is refused
-  pub fine : Stays allFine
+  -- no such coordinate is refused, so what the table of refusals says does not hang on where they are
+  pub checks : (w r s : ℕ) → Stays (λ vs. checkOf vs ids u w r s)
   -- the box is moved with the mesh, so its corners show the place; its volume does not
   pub box-volume : Stays (λ vs. boxVolume (box vs) (cube u))
   -- corners are rebased by the box, and all else is made of them
@@ -28,5 +27,6 @@ pub record Stations (ids : List ℕ) (u : Float) : Type 0 where
   -- the weld's cells show the place; which vertex names one does not
   pub weld : T (unitEnough u) → T (unitFits u) → Stays (λ vs. welded vs ids (epsilonOf distance u))
   pub quality : T (unitEnough u) → T (unitFits u) → Stays (λ vs. verdict vs ids u (measures vs ids u .volume))
-  -- what stands in the work area afterwards
+  -- what stands in the work area and in the surface area afterwards
   pub work : (area : List ℕ) → Stays (λ vs. cleared (workWords (length vs) (length ids)) area)
+  pub surfaces : (area : List Float) → Stays (λ vs. surfacesAfter vs ids u area)

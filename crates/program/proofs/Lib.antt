@@ -5,3 +5,5 @@ mod Held
 pub mod Printed
 pub mod Suffice
 pub mod NotFinite
+pub mod Place
+pub mod Cube

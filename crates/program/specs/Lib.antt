@@ -1,3 +1,5 @@
 -- The program: what it prints for every input, and what is proved of that.
 pub mod Program
 pub mod Promises
+pub mod Place
+pub mod Cube

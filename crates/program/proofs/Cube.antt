@@ -1,0 +1,60 @@
+-- The cube's text, by computing: its file, its record, its rows and its pieces, and then the listing of these. Assumes nothing.
+use mathlib.Core.Path.{_≡_, refl}
+use lib.Ieee.{binary32, add, climb, div, eq, isNan, le, lt, mul, neg, odd, ofBits, ofFields, ofInt, round, size as numberSize, span, sub, sum, toSigned, units}
+use Rattle.ieee.specs.Integral.{integral}
+use Rattle.ieee.specs.Magnitude.{magnitude}
+use Rattle.ieee.specs.Order.{greatest, least}
+use Rattle.ieee.specs.Root.{closestRoot, digits, floorRoot, root, rootRound}
+use Rattle.ieee.specs.Rounded.{rounded}
+use Rattle.ids.specs.EdgeChain.{around, boundaryFree, chain, crowded, enough, overIncident, present, sameEdge, step, unbalanced}
+use Rattle.ids.specs.Pieces.{any, apart, groups, has, pieces, shareId, solid, solids, those, touched}
+use Rattle.ids.specs.Triangles.{distinct, overTriangles, triangle}
+use Rattle.ids.specs.Uses.{bit, counting, keys, keysThat, maxBy, signed, sumBy, uses}
+use Rattle.vertices.specs.Vertices.{cornersInRange, inRange}
+use Rattle.grid.specs.Grid.{extent}
+use Rattle.sums.specs.Box.{boxTo, boxVolume, highest, lowest}
+use Rattle.sums.specs.Facet.{facetOf, normal, part, partOf, rebased, size, tetra}
+use Rattle.sums.specs.Fine.{allFine}
+use Rattle.sums.specs.Totals.{onSlope, slopeOf, totalsTo, withFacet, withPart}
+use Rattle.weld.specs.Weld.{sameInteger}
+use Rattle.rows.specs.Rows.{inserted, largest, leastAbove, precedes, scaled, smallest, sorted}
+use Rattle.surfaces.specs.Surfaces.{keyOf, put, rows, sameKey, tenths}
+use Rattle.walk.specs.Walk.{bucketsTo, withSurface}
+use Rattle.verdict.specs.Verdict.{byChain, byFaces, nearZero, quality, tooLarge}
+use Rattle.volume.specs.Best.{bestOf}
+use Rattle.record.specs.Flags.{ifClip, ifInvalid}
+use Rattle.record.specs.Numbers.{profileAt}
+use Rattle.qto.specs.declared.Check.{Check}
+use Rattle.qto.specs.Refusals.{checkOf, unitFits, workWords}
+use Rattle.qto.specs.Full.{best, buckets, measures, measuresFrom, recordBy, recordFrom, recordOf, surfaceOf, surfaceRows, totals, verdict, volumeOf}
+use Rattle.meshfile.specs.Format.{File, ended, endingOf, fileOf, frontOf, half, idsIn, lengthFits, unitIn, verticesIn, word, words}
+use Rattle.meshfile.specs.Reading.{floatsOf}
+use Rattle.meshfile.specs.Written.{allBytes, bytesOf, plain, recordOf as recordBytes}
+use Rattle.listing.specs.Cube.{cubeRecord, cubeRows, CubeLines}
+use Rattle.listing.proofs.Cube.{cube-lines}
+use Rattle.program.specs.Program.{listed, meshText, textAt, textFor, textOf}
+use Rattle.program.specs.Cube.{cube, CubePrinted}
+
+cube-file : fileOf (plain cube) ≡ File.Holds cube
+unfolding cube plain recordBytes allBytes bytesOf fileOf frontOf half word words lengthFits unitIn verticesIn idsIn ended endingOf
+cube-file = refl
+
+cube-passes : checkOf (floatsOf (cube .vertices)) (cube .ids) (ofBits binary32 (cube .unit)) 13824 65536 2048 ≡ Check.Full
+unfolding cube floatsOf checkOf unitFits workWords allFine magnitude le lt eq ofBits ofFields
+cube-passes = refl
+
+cube-record : recordOf (floatsOf (cube .vertices)) (cube .ids) (ofBits binary32 (cube .unit)) ≡ cubeRecord
+unfolding cube floatsOf cubeRecord recordOf recordBy recordFrom verdict measures measuresFrom volumeOf surfaceOf totals totalsTo withPart withFacet onSlope slopeOf part partOf cornersInRange inRange rebased normal size tetra facetOf triangle boxTo lowest highest boxVolume extent quality tooLarge nearZero byChain byFaces boundaryFree overIncident enough chain step around sameEdge present unbalanced crowded keysThat keys counting uses signed bit sumBy maxBy distinct overTriangles best bestOf buckets surfaceRows bucketsTo withSurface tenths keyOf sameKey sameInteger put rows precedes inserted sorted scaled largest leastAbove smallest least greatest magnitude integral rounded rootRound closestRoot floorRoot digits root add sub mul div lt le eq neg sum round units odd numberSize climb span isNan ofBits ofFields ofInt toSigned
+cube-record = refl
+
+cube-rows : surfaceRows (floatsOf (cube .vertices)) (cube .ids) (ofBits binary32 (cube .unit)) ≡ cubeRows
+unfolding cube floatsOf cubeRows surfaceRows buckets bucketsTo withSurface part partOf cornersInRange inRange rebased normal size tetra facetOf triangle boxTo lowest highest tenths keyOf sameKey sameInteger put rows precedes inserted sorted scaled least greatest integral rounded rootRound closestRoot floorRoot digits root add sub mul div lt le eq neg sum round units odd numberSize climb span isNan ofBits ofFields ofInt toSigned
+cube-rows = refl
+
+cube-pieces : pieces shareId (cube .ids) ≡ 1
+unfolding cube pieces groups apart touched any has shareId those solid solids distinct triangle
+cube-pieces = refl
+
+pub cube-printed : CubePrinted
+unfolding CubeLines cube textOf textFor meshText textAt listed ifClip ifInvalid profileAt
+cube-printed = rw (cube-file, cube-passes, cube-record, cube-rows, cube-pieces) cube-lines

@@ -11,9 +11,9 @@ use Rattle.record.specs.declared.MeshQto.{MeshQto}
 use Rattle.record.specs.declared.Profile.{Profile}
 use Rattle.record.specs.Flags.{flagged}
 use Rattle.record.specs.Numbers.{profileAt, flagsFit}
+use Rattle.refusals.specs.declared.Check.{Check}
+use Rattle.refusals.specs.Refusals.{checkOf, first, workWords, rasterBytes}
 use Rattle.qto.specs.declared.Answer.{Answer}
-use Rattle.qto.specs.declared.Check.{Check}
-use Rattle.qto.specs.Refusals.{checkOf, first, workWords, rasterBytes}
 use Rattle.qto.specs.Full.{recordOf, surfacesAfter}
 use Rattle.qto.specs.Compute.{answerAt, areaAt, Computes}
 use Rattle.qto.specs.Numbers.{wordsOf, withFlags, numberAt, wordsAt, checkFlags, ComputesNumbered}

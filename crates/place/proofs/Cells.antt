@@ -26,8 +26,8 @@ use Rattle.ieee.proofs.Order.Signed.{AtMost}
 use Rattle.ieee.proofs.Values.Unchanged.{integral-own}
 use Rattle.weld.specs.Weld.{cellOf, epsilonOf, inverse, sameInteger}
 use Rattle.weld.proofs.Codes.{integer-eq, integer-refl}
+use Rattle.refusals.specs.Refusals.{unitFits}
 use Rattle.qto.specs.Full.{distance}
-use Rattle.qto.specs.Refusals.{unitFits}
 use Rattle.place.specs.Moved.{unitEnough}
 use Rattle.place.proofs.Epsilon.{Wide, wide}
 

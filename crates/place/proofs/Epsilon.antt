@@ -12,8 +12,8 @@ use Rattle.ieee.proofs.Order.Extremes.{greatest-mono}
 use Rattle.ieee.proofs.Order.Quotients.{div-anti}
 use Rattle.weld.specs.Weld.{epsilonOf, inverse}
 use Rattle.sums.proofs.Units.{leastUnit, mostUnit}
+use Rattle.refusals.specs.Refusals.{unitFits}
 use Rattle.qto.specs.Full.{distance}
-use Rattle.qto.specs.Refusals.{unitFits}
 use Rattle.place.specs.Moved.{millimetre, unitEnough}
 
 -- i is from 2 to 2 ^ 29: multiples of it are 2 at least apart, and up to the 2 ^ 24th they stay within 2 ^ 53

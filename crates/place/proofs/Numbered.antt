@@ -11,8 +11,8 @@ use Rattle.ids.specs.Lent.{cleared}
 use Rattle.verdict.specs.declared.Quality.{Quality}
 use Rattle.record.specs.declared.MeshQto.{MeshQto}
 use Rattle.record.specs.Numbers.{qualityNumber, profileAt, flagsFit}
-use Rattle.qto.specs.declared.Check.{Check}
-use Rattle.qto.specs.Refusals.{first, workWords, rasterBytes, checkOf}
+use Rattle.refusals.specs.declared.Check.{Check}
+use Rattle.refusals.specs.Refusals.{first, workWords, rasterBytes, checkOf}
 use Rattle.qto.specs.Full.{recordOf, surfacesAfter}
 use Rattle.qto.specs.Compute.{answerAt, areaAt}
 use Rattle.qto.specs.Numbers.{wordsOf, withFlags, wordsAt, checkFlags}

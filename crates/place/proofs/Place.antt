@@ -9,11 +9,11 @@ use lib.Ieee.Bits.{is-true}
 use Rattle.ids.specs.Lent.{cleared}
 use Rattle.sums.specs.Fine.{allFine}
 use Rattle.record.specs.declared.MeshQto.{MeshQto}
-use Rattle.qto.specs.declared.Check.{Check}
-use Rattle.qto.specs.Refusals.{workWords, checkOf}
+use Rattle.refusals.specs.declared.Check.{Check}
+use Rattle.refusals.specs.Refusals.{workWords, checkOf}
 use Rattle.qto.specs.Full.{recordOf, surfacesAfter}
 use Rattle.qto.specs.Compute.{answerAt, areaAt}
-use Rattle.qto.proofs.Checks.{Admitted, admitted}
+use Rattle.refusals.proofs.Checks.{Admitted, admitted}
 use Rattle.place.specs.Moved.{Moved}
 use Rattle.place.specs.Agree.{AgreeBy, AgreeRecords, AgreeAnswers}
 use Rattle.place.specs.Place.{PlaceDoesNotShow}

@@ -17,8 +17,8 @@ use Rattle.volume.specs.declared.Method.{Method}
 use Rattle.volume.specs.declared.PrismBound.{PrismBound}
 use Rattle.volume.specs.Best.{upper, trusted, orElse, openBest, bestOf}
 use Rattle.record.specs.Numbers.{prismNumber}
+use Rattle.refusals.specs.Refusals.{unitFits}
 use Rattle.qto.specs.declared.Measures.{Measures}
-use Rattle.qto.specs.Refusals.{unitFits}
 use Rattle.qto.specs.Full.{cube, totals, buckets, surfaceRows, surfacesAfter, measures, verdict, best, recordFrom, recordBy, recordOf}
 use Rattle.place.specs.Moved.{Moved, unitEnough}
 use Rattle.place.specs.Agree.{AgreeBy, AgreeRecords}

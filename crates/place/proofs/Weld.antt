@@ -11,7 +11,7 @@ use lib.Ieee.{Float}
 use Rattle.ieee.proofs.Integers.Order.{eq-whole, eq-moved}
 use Rattle.vertices.specs.Vertices.{vertexCount, coordinate}
 use Rattle.weld.specs.Weld.{epsilonOf, inverse, cellOf, cellAt, sameInteger, sameCell, first, named, weldId, weldAll, unwelded, welded}
-use Rattle.qto.specs.Refusals.{unitFits}
+use Rattle.refusals.specs.Refusals.{unitFits}
 use Rattle.qto.specs.Full.{distance}
 use Rattle.place.specs.Moved.{Moved, unitEnough}
 use Rattle.place.proofs.Shifted.{Shifted}

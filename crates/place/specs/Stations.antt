@@ -9,7 +9,7 @@ use lib.Ieee.{Float}
 use Rattle.ids.specs.Lent.{cleared}
 use Rattle.sums.specs.Box.{box, boxVolume}
 use Rattle.weld.specs.Weld.{epsilonOf, welded}
-use Rattle.qto.specs.Refusals.{workWords, unitFits, checkOf}
+use Rattle.refusals.specs.Refusals.{workWords, unitFits, checkOf}
 use Rattle.qto.specs.Full.{cube, totals, surfaceRows, surfacesAfter, measures, distance, verdict}
 use Rattle.place.specs.Moved.{Moved, unitEnough}
 

@@ -14,9 +14,9 @@ use Rattle.rows.proofs.Flat.{rows-flat, length-flatten}
 use Rattle.record.specs.declared.MeshQto.{MeshQto}
 use Rattle.record.specs.declared.Profile.{Profile}
 use Rattle.record.specs.Flags.{flagged}
+use Rattle.refusals.specs.declared.Check.{Check}
+use Rattle.refusals.specs.Refusals.{checkOf}
 use Rattle.qto.specs.declared.Answer.{Answer}
-use Rattle.qto.specs.declared.Check.{Check}
-use Rattle.qto.specs.Refusals.{checkOf}
 use Rattle.qto.specs.Full.{measuresFrom, measures, recordFrom, recordBy, recordOf, surfaceRows, surfacesAfter}
 use Rattle.qto.specs.Compute.{answerAt, areaAt, Computes}
 use Rattle.listing.specs.Listing.{listingOf, refusedLine}

@@ -24,8 +24,8 @@ use Rattle.verdict.specs.Verdict.{byChain, byFaces, nearZero, quality, tooLarge
 use Rattle.volume.specs.Best.{bestOf}
 use Rattle.record.specs.Flags.{ifClip, ifInvalid}
 use Rattle.record.specs.Numbers.{profileAt}
-use Rattle.qto.specs.declared.Check.{Check}
-use Rattle.qto.specs.Refusals.{checkOf, unitFits, workWords}
+use Rattle.refusals.specs.declared.Check.{Check}
+use Rattle.refusals.specs.Refusals.{checkOf, unitFits, workWords}
 use Rattle.qto.specs.Full.{best, buckets, measures, measuresFrom, recordBy, recordFrom, recordOf, surfaceOf, surfaceRows, totals, verdict, volumeOf}
 use Rattle.meshfile.specs.Format.{File, ended, endingOf, fileOf, frontOf, half, idsIn, lengthFits, unitIn, verticesIn, word, words}
 use Rattle.meshfile.specs.Reading.{floatsOf}

@@ -14,10 +14,10 @@ use Rattle.record.specs.declared.MeshQto.{MeshQto}
 use Rattle.record.specs.declared.Profile.{Profile}
 use Rattle.record.specs.Flags.{flagged}
 use Rattle.record.specs.Numbers.{profileAt}
-use Rattle.qto.specs.declared.Check.{Check}
-use Rattle.qto.specs.Refusals.{checkOf}
+use Rattle.refusals.specs.declared.Check.{Check}
+use Rattle.refusals.specs.Refusals.{checkOf}
 use Rattle.qto.specs.Full.{recordOf, surfaceRows}
-use Rattle.qto.proofs.Checks.{admitted}
+use Rattle.refusals.proofs.Checks.{admitted}
 use Rattle.place.specs.Moved.{Moved, unitEnough}
 use Rattle.place.specs.Agree.{AgreeBy}
 use Rattle.place.proofs.Record.{rows-stay, records-agree}

@@ -6,7 +6,7 @@ use native.Mathlib.Omega.{arith}
 use borrow.Author.Tests.{le-ltb}
 use lib.Dec.{ltb}
 use lib.ListN.{length}
-use Rattle.qto.specs.Refusals.{workWords, areasShort, checkOf}
+use Rattle.refusals.specs.Refusals.{workWords, areasShort, checkOf}
 use Rattle.program.specs.Promises.{checkFile, AreasSuffice}
 
 module _ (f i : ℕ) (hf : f ≤ 1536) (hi : i ≤ 1536) where

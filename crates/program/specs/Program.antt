@@ -13,8 +13,8 @@ use Rattle.record.specs.declared.Profile.{Profile}
 use Rattle.record.specs.Record.{zeroRecord}
 use Rattle.record.specs.Flags.{flagged}
 use Rattle.record.specs.Numbers.{profileAt}
-use Rattle.qto.specs.declared.Check.{Check}
-use Rattle.qto.specs.Refusals.{checkOf}
+use Rattle.refusals.specs.declared.Check.{Check}
+use Rattle.refusals.specs.Refusals.{checkOf}
 use Rattle.qto.specs.Full.{recordOf, surfaceRows}
 use Rattle.meshfile.specs.Format.{Contents, File, fileOf}
 use Rattle.meshfile.specs.Reading.{floatsOf}

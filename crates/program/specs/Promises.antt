@@ -8,8 +8,8 @@ use lib.Dec.{ltb}
 use lib.ListN.{length, take}
 use lib.Ieee.{Float, binary32, ofBits}
 use Rattle.sums.specs.Fine.{fine, allFine}
-use Rattle.qto.specs.declared.Check.{Check}
-use Rattle.qto.specs.Refusals.{first, unitFits, checkOf}
+use Rattle.refusals.specs.declared.Check.{Check}
+use Rattle.refusals.specs.Refusals.{first, unitFits, checkOf}
 use Rattle.listing.specs.Listing.{refusedLine}
 use Rattle.program.specs.Program.{textOf}
 

@@ -35,13 +35,13 @@ use Rattle.volume.specs.declared.PrismBound.{PrismBound}
 use Rattle.volume.specs.Best.{prism, upper, trusted, orElse, openBest, bestOf}
 use Rattle.record.specs.declared.MeshQto.{MeshQto}
 use Rattle.record.specs.Record.{zeroRecord}
+use Rattle.refusals.specs.declared.Check.{Check}
+use Rattle.refusals.specs.Refusals.{Passes, checkOf}
+use Rattle.refusals.proofs.Checks.{admitted}
 use Rattle.qto.specs.declared.Answer.{Answer}
-use Rattle.qto.specs.declared.Check.{Check}
 use Rattle.qto.specs.Compute.{Computes, answerAt}
 use Rattle.qto.specs.Domain.{FiniteBound, FiniteRecord, FiniteRows}
 use Rattle.qto.specs.Full.{square, cube, totals, volumeOf, surfaceOf, buckets, surfaceRows, measuresFrom, measures, verdict, best, recordFrom, recordBy, recordOf}
-use Rattle.qto.specs.Refusals.{Passes, checkOf}
-use Rattle.qto.proofs.Checks.{admitted}
 use Rattle.qto.proofs.FinitePrism.{prism-finite}
 use Rattle.qto.proofs.Measured.{unit-ends}
 

@@ -1,11 +1,9 @@
--- The checks, the record by its parts, what comes back, and that all its numbers are finite.
-pub mod Checks
+-- The record by its parts, what comes back, and that all its numbers are finite.
 pub mod Outcomes
 pub mod RowsAre
 mod FinitePrism
 pub mod Finite
 pub mod Starred
-mod Scan
 mod Arranged
 mod Measured
 mod Assembled

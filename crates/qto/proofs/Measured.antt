@@ -29,8 +29,8 @@ use Rattle.surfaces.proofs.Keys.{length-rows}
 use Rattle.walk.specs.declared.Sums.{Sums}
 use Rattle.walk.specs.Walk.{Walks}
 use Rattle.walk.proofs.Worth.{buckets-plain}
+use Rattle.refusals.specs.Refusals.{unitFits}
 use Rattle.qto.specs.declared.Measures.{Measures}
-use Rattle.qto.specs.Refusals.{unitFits}
 use Rattle.qto.specs.Full.{square, cube, totals, volumeOf, surfaceOf, buckets, surfaceRows, surfacesAfter, measuresFrom, measures}
 
 pub unit-ends : (u : Float) → T (unitFits u) → T (le leastUnit u) × T (le u mostUnit)

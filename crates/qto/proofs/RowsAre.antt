@@ -8,7 +8,7 @@ use Rattle.rows.specs.Rows.{scaled}
 use Rattle.rows.proofs.Order.{sorted-in-order, sorted-same}
 use Rattle.surfaces.specs.Surfaces.{rows}
 use Rattle.walk.proofs.Worth.{buckets-sums, buckets-keys, buckets-apart, buckets-plain}
-use Rattle.qto.specs.Refusals.{Passes}
+use Rattle.refusals.specs.Refusals.{Passes}
 use Rattle.qto.specs.Full.{square, buckets, surfaceRows}
 use Rattle.qto.specs.Surfaces.{RowsAre}
 use Rattle.qto.proofs.Measured.{unit-square}

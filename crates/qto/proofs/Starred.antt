@@ -1,6 +1,5 @@
 -- The starred examples hold: those on floats and ids by the crates that define these, those on flags by computing. Assumes nothing.
-use mathlib.Core.Path.{_≡_, refl, ap}
-use mathlib.Core.Bool.{true, false}
+use mathlib.Core.Path.{ap}
 use Rattle.ieee.proofs.Examples as on-floats
 use Rattle.ids.specs.Examples.{Holds, examples}
 use Rattle.ids.proofs.Examples as on-ids

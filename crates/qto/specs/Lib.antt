@@ -1,5 +1,4 @@
--- `compute` (01): the table of refusals, the record of a mesh, and what comes back.
-pub mod Refusals
+-- `compute` (01): the record of a mesh, and what comes back.
 pub mod Full
 pub mod Surfaces
 pub mod Starred

@@ -1,9 +1,9 @@
 -- The record as the C interface has it: 17 words, and refusals as numbers. Flag values that are none are refusal 5, tried first.
 use mathlib.Core.Path.{_≡_}
 use Prim.Native.Nat.{ℕ, _+_}
-use mathlib.Core.Bool.{Bool, not, _&&_}
+use mathlib.Core.Bool.{not}
 use mathlib.Core.List.{List, [], _∷_}
-use lib.Dec.{eqb, leb}
+use lib.Dec.{eqb}
 use lib.ListN.{length}
 use lib.Ieee.{Float, binary32, toBits}
 use Rattle.ids.specs.Lent.{cleared}
@@ -12,8 +12,8 @@ use Rattle.record.specs.declared.MeshQto.{MeshQto}
 use Rattle.record.specs.Record.{zeroRecord}
 use Rattle.record.specs.Flags.{flagged}
 use Rattle.record.specs.Numbers.{qualityNumber, methodNumber, profileNumber, profileAt, prismNumber, prismBits, flagsFit}
-use Rattle.qto.specs.declared.Check.{Check}
-use Rattle.qto.specs.Refusals.{checkOf, first, workWords, rasterBytes}
+use Rattle.refusals.specs.declared.Check.{Check}
+use Rattle.refusals.specs.Refusals.{checkOf, first, workWords, rasterBytes}
 use Rattle.qto.specs.Full.{recordOf, surfacesAfter}
 use Rattle.qto.specs.Compute.{areaAt}
 

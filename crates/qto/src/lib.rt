@@ -8,7 +8,7 @@ ghost use Rattle.ids.specs.Triangles.{triangleCount};
 ghost use Rattle.sums.specs.Box.{box};
 ghost use Rattle.sums.specs.Fine.{allFine};
 ghost use Rattle.rows.specs.Rows.{flatten, rowsOf, scaled, sorted, largest, smallest, allPlain};
-ghost use Rattle.qto.specs.Refusals.{unitFits, workWords, areasShort, checkOf, Passes};
+ghost use Rattle.refusals.specs.Refusals.{unitFits, workWords, Passes};
 ghost use Rattle.qto.specs.Full.{surfacesAfter, measures as measuresOf, verdict as verdictOf, recordBy, recordOf};
 ghost use Rattle.qto.specs.Compute.{Computes};
 use record::MeshQto;
@@ -16,80 +16,8 @@ use record::Profile;
 pub use record::apply_product_flags;
 pub use record::mark_clip_unapplied;
 pub use record::mark_profile_invalid;
+use refusals::Check;
 use sums::Bounds;
-
-// ---- the table of refusals
-
-pub enum Check {
-    Refuse(u8),
-    Zero,
-    Full,
-}
-
-// From 2^-20 to 16.
-fn unit_fits(unit: f32) -> bool
-    ensures { λ r. ⌜ r ≡ unitFits unit ⌝ }
-{
-    (unit >= 0.00000095367431640625) & (unit <= 16.0)
-}
-
-// Is every float finite, and at most 2^33 in magnitude?
-fn all_fine(vertices: &[f32]) -> bool
-    ensures { λ r. ⌜ r ≡ allFine (now (vertices .entry)) ⌝ }
-{
-    let mut i = 0;
-    while i < vertices.len() {
-        let size = floats::magnitude32(vertices[i]);
-        if size <= 8589934592.0 {
-            i += 1;
-        } else {
-            return false;
-        }
-    }
-    true
-}
-
-// Is one of the lent areas too short for f floats and i ids?
-fn areas_short(f: usize, i: usize, work: usize, raster: usize, surfaces: usize) -> bool
-    requires { ⌜ (f ≤ 98304) × (i ≤ 98304) ⌝ }
-    ensures { λ b. ⌜ b ≡ areasShort f i work raster surfaces ⌝ }
-{
-    let words = 5 * i + 4 * (i / 3) + 8 * (f / 3);
-    (work < words) | ((raster < 65536) | (surfaces < 4 * (i / 3)))
-}
-
-// What the table says.
-fn checked(
-    vertices: &[f32],
-    indices: &[u32],
-    unit_scale: f32,
-    work: usize,
-    raster: usize,
-    surfaces: usize,
-) -> Check
-    ensures { λ r. ⌜ r ≡ checkOf (now (vertices .entry)) (now (indices .entry)) «unit_scale» work raster surfaces ⌝ }
-{
-    let f = vertices.len();
-    let i = indices.len();
-    if (98304 < f) | (98304 < i) {
-        return Check::Refuse(1);
-    }
-    if (i < 3) | (f < 9) {
-        return Check::Zero;
-    }
-    if !unit_fits(unit_scale) {
-        return Check::Refuse(2);
-    }
-    let short = areas_short(f, i, work, raster, surfaces);
-    let fine = all_fine(vertices);
-    if short {
-        return Check::Refuse(3);
-    }
-    if !fine {
-        return Check::Refuse(4);
-    }
-    Check::Full
-}
 
 // ---- what is measured
 
@@ -245,14 +173,14 @@ fn full(
         × (now (raster .exit) ≡ cleared 65536 (now (raster .entry)))
         × (now (surfaces .exit) ≡ surfacesAfter (now (vertices .entry)) (now (indices .entry)) «unit_scale» (now (surfaces .entry))) ⌝ }
 {
-    let i = indices.len();
-    let n = 5 * i + 4 * (i / 3) + 8 * (vertices.len() / 3);
+    let words = refusals::work_words(vertices.len(), indices.len());
+    let bytes = refusals::raster_bytes();
     record_in(
         vertices,
         indices,
         unit_scale,
-        &mut work[0..n],
-        &mut raster[0..65536],
+        &mut work[0..words],
+        &mut raster[0..bytes],
         surfaces,
     )
 }
@@ -274,7 +202,7 @@ pub fn compute(
     ensures { λ r. ⌜ Computes (now (vertices .entry)) (now (indices .entry)) «unit_scale» (now (work .entry)) (now (raster .entry)) (now (surfaces .entry))
         r (now (work .exit)) (now (raster .exit)) (now (surfaces .exit)) ⌝ }
 {
-    let c = checked(
+    let c = refusals::checked(
         vertices,
         indices,
         unit_scale,

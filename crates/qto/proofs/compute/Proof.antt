@@ -1,7 +1,6 @@
 -- `qto::compute` meets its contract: by what the table of refusals says. Assumes nothing.
+use Rattle.refusals.proofs.Checks.{admitted}
 use Rattle.qto.proofs.Outcomes.{refused, zero, full}
-use Rattle.qto.proofs.Checks.{admitted}
-use mathlib.Core.Path.{sym, _∙_}
 use lib.ListN.{length}
 use borrow.Author.Needs.{needs}
 use Rattle.qto.proofs.compute.Statement.{statement}

@@ -1,6 +1,6 @@
 -- `qto::record_by` meets its contract: by its parts. Assumes nothing.
+use Rattle.refusals.specs.Refusals.{workWords}
 use Rattle.qto.proofs.Assembled.{assembled}
-use Rattle.qto.specs.Refusals.{workWords}
 use Rattle.qto.specs.Full.{recordFrom}
 use borrow.Author.Needs.{needs}
 use Rattle.qto.proofs.record_by.Statement.{statement}

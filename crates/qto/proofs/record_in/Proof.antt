@@ -1,11 +1,10 @@
 -- `qto::record_in` meets its contract: the measures are those of the mesh. Assumes nothing.
+use Rattle.ids.specs.Triangles.{triangleCount}
 use Rattle.qto.proofs.Assembled.{of-mesh}
-use Rattle.qto.specs.Refusals.{workWords}
-use Rattle.qto.proofs.Fronts.{front-kept}
-use mathlib.Core.Path.{_∙_}
+use Rattle.qto.proofs.Fronts.{index-fits, front-exact, front-kept}
+use mathlib.Core.Path.{refl, _∙_}
 use Prim.Native.Nat.{_*_, _/_}
 use lib.ListN.{length}
-use native.Mathlib.Omega.{arith}
 use borrow.Author.Needs.{needs}
 use Rattle.qto.proofs.record_in.Statement.{statement}
 use Rattle.qto.proofs.record_in.Tie as tie
@@ -23,11 +22,14 @@ part-measure-start : tie.Need-part-measure-start
 part-measure-start c = search needs
 
 part-measure-end : tie.Need-part-measure-end
-unfolding workWords
-part-measure-end c = omega (arith, c .before .before .before .before .before .before .pre .1)
+part-measure-end c = let start = c .before .before .before .before .before .before in index-fits _ (length (start .args .indices .now)) _ (start .pre .1)
 
 measure-requires : tie.Need-measure-requires
-measure-requires c κs = search needs
+measure-requires c κs =
+    let start = c .before .before .before .before .before .before .before .before in
+    let args = start .args in
+    let mesh = start .pre .0 in
+    (mesh .ids-most, mesh .ids-least, c .before .before .box-of .ensures, mesh .unit, mesh .fine, front-exact (5 * triangleCount (args .indices .now)) _ (args .work .now) refl (index-fits _ (length (args .indices .now)) _ (start .pre .1)), start .pre .3)
 
 record-by-requires : tie.Need-record-by-requires
 record-by-requires c κs =

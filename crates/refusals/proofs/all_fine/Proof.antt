@@ -1,5 +1,5 @@
--- `qto::all_fine` meets its contract: the floats before i are fine, so the answer is that for the rest. Assumes nothing.
-use Rattle.qto.proofs.Scan.{fine-next, fine-not, fine-end}
+-- `refusals::all_fine` meets its contract: the floats before i are fine, so the answer is that for the rest. Assumes nothing.
+use Rattle.refusals.proofs.Scan.{fine-next, fine-not, fine-end}
 use mathlib.Core.Path.{_≡_, refl, sym, _∙_, ap}
 use Prim.Native.Nat.{_-_, _≤_}
 use lib.ListN.{length, drop}
@@ -7,8 +7,8 @@ use lib.Ieee.{Float, binary32, le, ofBits}
 use Rattle.sums.specs.Fine.{allFine}
 use borrow.Author.Needs.{needs}
 use native.Mathlib.Omega.{arith}
-use Rattle.qto.proofs.all_fine.Statement.{statement}
-use Rattle.qto.proofs.all_fine.Tie as tie
+use Rattle.refusals.proofs.all_fine.Statement.{statement}
+use Rattle.refusals.proofs.all_fine.Tie as tie
 
 abbrev Inv-loop : tie.InvT-loop
 Inv-loop vertices i₀ i = (i ≤ length vertices) × (allFine (drop i vertices) ≡ allFine vertices)

@@ -9,8 +9,8 @@ use lib.ListN.{length}
 use lib.Ieee.{Float}
 use borrow.Author.Tests.{ltb-false}
 use Rattle.sums.specs.Fine.{allFine}
-use Rattle.qto.specs.declared.Check.{Check}
-use Rattle.qto.specs.Refusals.{workWords, surfaceFloats, rasterBytes, areasShort, unitFits, first, checkOf, Passes}
+use Rattle.refusals.specs.declared.Check.{Check}
+use Rattle.refusals.specs.Refusals.{workWords, surfaceFloats, rasterBytes, areasShort, unitFits, first, checkOf, Passes}
 
 neither : (p q : Bool) → (p || q) ≡ false → (p ≡ false) × (q ≡ false)
 neither false false e = (refl, refl)

@@ -6,7 +6,7 @@ use lib.Dec.{T, ltb}
 use lib.ListN.{length}
 use lib.Ieee.{Float, binary32, le, ofBits}
 use Rattle.sums.specs.Fine.{allFine}
-use Rattle.qto.specs.declared.Check.{Check}
+use Rattle.refusals.specs.declared.Check.{Check}
 
 -- how many work words a mesh of f floats and i ids needs: for edges 4i, for faces 4⌊i/3⌋, for the weld 8⌊f/3⌋, and for ids i
 unfoldable pub workWords : ℕ → ℕ → ℕ

@@ -1,11 +1,11 @@
--- `qto::checked` meets its contract: the first row of the table that applies. A row stands here behind those that are tried after it where an edit could pass it over. Assumes nothing.
+-- `refusals::checked` meets its contract: the first row of the table that applies. A row stands here behind those that are tried after it where an edit could pass it over. Assumes nothing.
 use lib.ListN.{length}
 use mathlib.Core.Path.{sym, _∙_}
-use Rattle.qto.proofs.Checks.{both-small, row-1, row-zero, row-2, row-3, row-4, no-row}
+use Rattle.refusals.proofs.Checks.{both-small, row-1, row-zero, row-2, row-3, row-4, no-row}
 use borrow.Author.Tests.{not-true, not-false}
 use borrow.Author.Needs.{needs}
-use Rattle.qto.proofs.checked.Statement.{statement}
-use Rattle.qto.proofs.checked.Tie as tie
+use Rattle.refusals.proofs.checked.Statement.{statement}
+use Rattle.refusals.proofs.checked.Tie as tie
 
 returns : tie.Need-returns
 returns c =

@@ -1,0 +1,2 @@
+-- The table of refusals (01): its rows, and what it says of a mesh and of the lent areas.
+pub mod Refusals

@@ -1,0 +1,91 @@
+// The table of refusals: document 01, 'Order of checks and what comes back'. Internal: `qto` asks it.
+ghost use mathlib.Core.Path.{_≡_};
+ghost use Prim.Native.Nat.{_≤_};
+ghost use Rattle.sums.specs.Fine.{allFine};
+ghost use Rattle.refusals.specs.Refusals.{workWords, rasterBytes, unitFits, areasShort, checkOf};
+
+pub enum Check {
+    Refuse(u8),
+    Zero,
+    Full,
+}
+
+// From 2^-20 to 16.
+fn unit_fits(unit: f32) -> bool
+    ensures { λ r. ⌜ r ≡ unitFits unit ⌝ }
+{
+    (unit >= 0.00000095367431640625) & (unit <= 16.0)
+}
+
+// Is every float finite, and at most 2^33 in magnitude?
+fn all_fine(vertices: &[f32]) -> bool
+    ensures { λ r. ⌜ r ≡ allFine (now (vertices .entry)) ⌝ }
+{
+    let mut i = 0;
+    while i < vertices.len() {
+        let size = floats::magnitude32(vertices[i]);
+        if size <= 8589934592.0 {
+            i += 1;
+        } else {
+            return false;
+        }
+    }
+    true
+}
+
+// How many work words f floats and i ids need.
+pub fn work_words(f: usize, i: usize) -> usize
+    requires { ⌜ (f ≤ 98304) × (i ≤ 98304) ⌝ }
+    ensures { λ n. ⌜ n ≡ workWords f i ⌝ }
+{
+    5 * i + 4 * (i / 3) + 8 * (f / 3)
+}
+
+// How many bytes of raster every mesh needs.
+pub fn raster_bytes() -> usize
+    ensures { λ n. ⌜ n ≡ rasterBytes ⌝ }
+{
+    65536
+}
+
+// Is one of the lent areas too short for f floats and i ids?
+fn areas_short(f: usize, i: usize, work: usize, raster: usize, surfaces: usize) -> bool
+    requires { ⌜ (f ≤ 98304) × (i ≤ 98304) ⌝ }
+    ensures { λ b. ⌜ b ≡ areasShort f i work raster surfaces ⌝ }
+{
+    let words = work_words(f, i);
+    (work < words) | ((raster < raster_bytes()) | (surfaces < 4 * (i / 3)))
+}
+
+// What the table says.
+pub fn checked(
+    vertices: &[f32],
+    indices: &[u32],
+    unit_scale: f32,
+    work: usize,
+    raster: usize,
+    surfaces: usize,
+) -> Check
+    ensures { λ r. ⌜ r ≡ checkOf (now (vertices .entry)) (now (indices .entry)) «unit_scale» work raster surfaces ⌝ }
+{
+    let f = vertices.len();
+    let i = indices.len();
+    if (98304 < f) | (98304 < i) {
+        return Check::Refuse(1);
+    }
+    if (i < 3) | (f < 9) {
+        return Check::Zero;
+    }
+    if !unit_fits(unit_scale) {
+        return Check::Refuse(2);
+    }
+    let short = areas_short(f, i, work, raster, surfaces);
+    let fine = all_fine(vertices);
+    if short {
+        return Check::Refuse(3);
+    }
+    if !fine {
+        return Check::Refuse(4);
+    }
+    Check::Full
+}

@@ -12,8 +12,7 @@ ghost use Rattle.ids.specs.Lent.{cleared};
 ghost use Rattle.vertices.specs.Vertices.{vertexCount};
 ghost use Rattle.weld.specs.Weld.{epsilonOf, welded};
 ghost use Rattle.grid.specs.Point.{pointIn};
-ghost use Rattle.raster.specs.Footprint.{footprint};
-ghost use Rattle.raster.specs.Painted.{axisNumber};
+ghost use Rattle.raster.specs.Footprint.{axisNumber, footprint};
 use grid::Flat;
 use raster::Axis;
 

@@ -7,7 +7,7 @@ ghost use mathlib.Core.List.{[]};
 ghost use Rattle.ids.specs.Triangles.{triangleCount};
 ghost use Rattle.ids.specs.EdgeChain.{chain, boundaryFree, overIncident, closedManifold, windingCoherent};
 ghost use Rattle.ids.specs.FaceNet.{maxAbs, allCancel};
-ghost use Rattle.edges.specs.Rows.{EdgeTable};
+ghost use Rattle.steps.specs.Rows.{EdgeTable};
 ghost use Rattle.chain.specs.Answers.{EdgeChainGiven, FaceNetGiven, ClosedManifoldGiven, WindingCoherentGiven};
 
 // What the edge chain answers.

@@ -10,7 +10,7 @@ use Rattle.ids.specs.Triangles.{overTriangles}
 use Rattle.ids.specs.Uses.{Use}
 use Rattle.ids.specs.EdgeChain.{Edge, around}
 use Rattle.ids.proofs.Triangles.{triangleAt}
-use Rattle.edges.specs.Rows.{EdgeTable, Room}
+use Rattle.steps.specs.Rows.{EdgeTable, Room}
 use Rattle.edges.specs.Tests.{edgesOf}
 use Rattle.edges.proofs.Gathering.{Gathering, gathering-none, gathering-room, gathering-next, gathering-last}
 

@@ -9,10 +9,10 @@ use Rattle.ids.specs.Triangles.{overTriangles}
 use Rattle.ids.specs.Uses.{Use}
 use Rattle.ids.specs.EdgeChain.{Edge}
 use Rattle.ids.proofs.Triangles.{triangleAt, turn, turned}
-use Rattle.edges.specs.Rows.{EdgeTable, Within, Room}
+use Rattle.steps.specs.Rows.{EdgeTable, Within, Room}
 use Rattle.edges.specs.Tests.{edgesOf}
 use Rattle.edges.proofs.Triangles.{triangle-within, triangle-length}
-use Rattle.edges.proofs.Within.{within-length, within-le, within-append}
+use Rattle.steps.proofs.Within.{within-length, within-le, within-append}
 
 -- the table t of n rows after the triangles of the first i ids
 pub record Gathering (whole : Bool) (ids : List ℕ) (n : ℕ) (t : List ℕ) (i : ℕ) : Type 0 where

@@ -1,6 +1,4 @@
--- From a written row to the table of all edges, and from its rows to their count.
-pub mod Within
-pub mod Added
+-- From one step to the table of all edges, and from its rows to their count.
 pub mod Triangles
 pub mod Tally
 mod Gathering

@@ -11,8 +11,8 @@ use Rattle.table.specs.Rows.{sumTo}
 use Rattle.table.proofs.Counts.{none-used, none-up}
 use Rattle.table.proofs.Probe.{empty}
 use Rattle.table.proofs.Tally.{rows-that}
-use Rattle.edges.specs.Rows.{EdgeTable, rowBit, homeOf, edgeAt, wordAt, usesAt, upsAt}
-use Rattle.edges.specs.Tests.{testOf}
+use Rattle.steps.specs.Rows.{EdgeTable, homeOf, edgeAt, wordAt, usesAt, upsAt}
+use Rattle.edges.specs.Tests.{testOf, rowBit}
 
 -- rows whose words are 0 mean no uses
 pub empty-table : (n : ℕ) (t : List ℕ) → ((i : ℕ) → i < n → wordAt t i ≡ 0) → EdgeTable n t []

@@ -14,10 +14,10 @@ use Rattle.ids.specs.Uses.{Use, uses, bit}
 use Rattle.ids.specs.EdgeChain.{Edge, sameEdge, step, around, properStep, aroundProper}
 use Rattle.table.specs.Table.{ups}
 use Rattle.ids.proofs.Triangles.{repeats-ab, repeats-bc, repeats-ca, repeats-none}
-use Rattle.edges.specs.Rows.{Within}
+use Rattle.steps.specs.Rows.{Within}
 use Rattle.edges.specs.Tests.{edgesOf}
 use Rattle.ids.proofs.Same.{edge-eq}
-use Rattle.edges.proofs.Within.{uses-append, ups-append, within-length}
+use Rattle.steps.proofs.Within.{uses-append, ups-append, within-length}
 
 -- ---- one step
 

@@ -1,3 +1,2 @@
--- What the table of edges means, and how the code numbers the tests on an edge. Document 01's definitions stand in `ids`.
-pub mod Rows
+-- How the code numbers the tests on an edge, and which edges of a triangle count. Document 01's definitions stand in `ids`.
 pub mod Tests

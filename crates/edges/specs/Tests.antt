@@ -1,10 +1,13 @@
--- The tests on an edge by their numbers in the code, and which edges of a triangle count.
+-- The tests on an edge by their numbers in the code, what a row adds to their count, and which edges of a triangle count.
 use Prim.Native.Nat.{ℕ, zero, suc}
 use mathlib.Core.Bool.{Bool, true, false}
 use mathlib.Core.List.{List}
 use Rattle.ids.specs.Triangles.{Triangle}
-use Rattle.ids.specs.Uses.{Use}
+use Rattle.ids.specs.Uses.{Use, bit}
 use Rattle.ids.specs.EdgeChain.{Edge, around, aroundProper, present, unbalanced, crowded, unpaired, incoherent}
+use Rattle.table.specs.Counts.{magnitude}
+use Rattle.table.specs.Table.{gate}
+use Rattle.steps.specs.Rows.{usesAt, upsAt}
 
 unfoldable pub testOf : ℕ → ℕ → ℕ → Bool
 testOf zero = present
@@ -12,6 +15,10 @@ testOf (suc zero) = unbalanced
 testOf (suc (suc zero)) = crowded
 testOf (suc (suc (suc zero))) = unpaired
 testOf (suc (suc (suc (suc t)))) = incoherent
+
+-- what a row adds to a count: 1 if it is used and passes the test
+unfoldable pub rowBit : (ℕ → ℕ → Bool) → List ℕ → ℕ → ℕ
+rowBit test t i = gate (usesAt t i) (bit (test (usesAt t i) (magnitude (usesAt t i) (upsAt t i))))
 
 -- `whole`: a triangle that repeats an id is dropped whole; else only its edges between equal ids are
 unfoldable pub edgesOf : Bool → Triangle → List (Use Edge)

@@ -1,76 +1,17 @@
 // The edges of the triangles of a list of ids, counted in a table in lent words. Internal: `chain` asks it.
 ghost use mathlib.Core.Path.{_≡_};
-ghost use mathlib.Core.Bool.{true, cond};
-ghost use mathlib.Core.List.{List, [], _∷_, _++_};
-ghost use Prim.Native.Nat.{_+_, _-_, _*_, _/_, _≤_, _<_};
-ghost use lib.Dec.{ltb};
+ghost use mathlib.Core.Bool.{true};
+ghost use mathlib.Core.List.{List, [], _++_};
+ghost use Prim.Native.Nat.{_+_, _-_, _*_, _/_, _≤_};
 ghost use lib.ListN.{length, take, drop};
 ghost use Rattle.ids.specs.Triangles.{overTriangles};
 ghost use Rattle.ids.specs.Uses.{Use, bit};
-ghost use Rattle.ids.specs.EdgeChain.{Edge, step as stepUse, properStep, around, aroundProper, present, unbalanced, crowded, unpaired, incoherent};
-ghost use Rattle.table.specs.Rows.{Found, Free, sumTo};
+ghost use Rattle.ids.specs.EdgeChain.{Edge, properStep, around, aroundProper, present, unbalanced, crowded, unpaired, incoherent};
+ghost use Rattle.table.specs.Rows.{sumTo};
 ghost use Rattle.table.specs.Counts.{usesIn, upsIn, magnitude};
 ghost use Rattle.table.specs.Table.{gate};
-ghost use Rattle.edges.specs.Rows.{edgeAt, wordAt, usesAt, put, hashOf, EdgeTable, Room, rowBit};
-ghost use Rattle.edges.specs.Tests.{testOf, edgesOf};
-
-// ---- one edge
-
-// What a step from u to v adds to the word that counts its edge: 65536 upwards, 1 downwards.
-fn weight(u: u32, v: u32) -> u32
-    ensures { λ r. ⌜ r ≡ cond (ltb u v) 65536 1 ⌝ }
-{
-    if u < v { 65536 } else { 1 }
-}
-
-// The hash of an edge. The two factors were chosen so that the edges of grids, strips and mirrored rims spread.
-fn hash(low: u32, high: u32) -> u32
-    ensures { λ r. ⌜ r ≡ hashOf (record { low = low; high = high }) ⌝ }
-{
-    ((low as u64 * 2447445413 + high as u64 * 1052792407) % 0x1_0000_0000) as u32
-}
-
-// The first row, from `start` on and round, that holds the edge or is free.
-fn find(work: &[u32], n: usize, low: u32, high: u32, start: usize) -> usize
-    requires { ⌜ (start < n) × (n ≤ 131072) × (3 * n ≤ length (now work)) × Free n (usesAt (now work)) ⌝ }
-    ensures { λ r. ⌜ Found n start (edgeAt (now (work .entry))) (usesAt (now (work .entry))) (record { low = low; high = high }) r ⌝ }
-{
-    let mut r = start;
-    loop {
-        let at = 3 * r;
-        if work[at + 2] == 0 {
-            break r;
-        }
-        if (work[at] == low) & (work[at + 1] == high) {
-            break r;
-        }
-        r = table::next(r, n);
-    }
-}
-
-// Counts one more use in row r, which is then the edge's.
-fn bump(work: &mut [u32], r: usize, low: u32, high: u32, by: u32)
-    requires { ⌜ (r < 131072) × (3 * r + 2 < length (now work)) × (wordAt (now work) r + by < 4294967296) ⌝ }
-    ensures { λ _. ⌜ now (work .exit) ≡ put (now (work .entry)) r low high (wordAt (now (work .entry)) r + by) ⌝ }
-{
-    let at = 3 * r;
-    let word = work[at + 2] + by;
-    work[at] = low;
-    work[at + 1] = high;
-    work[at + 2] = word;
-}
-
-// Adds the use that a step from id u to id v makes.
-fn walk(work: &mut [u32], n: usize, u: u32, v: u32)
-    requires { ⌜ (n ≤ 131072) × (3 * n ≤ length (now work)) × Room n (now work) 1 ⌝ }
-    ensures { λ _. ⌜ ((es : List (Use Edge)) → EdgeTable n (now (work .entry)) es → EdgeTable n (now (work .exit)) (es ++ stepUse u v ∷ [])) ⌝ }
-{
-    let low = table::lesser(u, v);
-    let high = table::greater(u, v);
-    let start = table::home(hash(low, high), n);
-    let r = find(work, n, low, high, start);
-    bump(work, r, low, high, weight(u, v));
-}
+ghost use Rattle.steps.specs.Rows.{EdgeTable, Room};
+ghost use Rattle.edges.specs.Tests.{testOf, edgesOf, rowBit};
 
 // ---- one triangle
 
@@ -82,9 +23,9 @@ fn triangle(work: &mut [u32], n: usize, a: u32, b: u32, c: u32)
     if !table::distinct(a, b, c) {
         return;
     }
-    walk(work, n, a, b);
-    walk(work, n, b, c);
-    walk(work, n, c, a);
+    steps::walk(work, n, a, b);
+    steps::walk(work, n, b, c);
+    steps::walk(work, n, c, a);
 }
 
 // Adds the use that a step makes: none between equal ids.
@@ -95,7 +36,7 @@ fn proper_step(work: &mut [u32], n: usize, u: u32, v: u32)
     if u == v {
         return;
     }
-    walk(work, n, u, v);
+    steps::walk(work, n, u, v);
 }
 
 // Adds the uses of one triangle, but those between equal ids.

@@ -1,4 +1,4 @@
-// The point test, and the arithmetic of a grid of cells over a box. Internal: `raster` counts cells with it.
+// The point test, and the arithmetic of a grid of cells over a box. Internal: `paint` and `raster` use it.
 ghost use mathlib.Core.Path.{_≡_};
 ghost use Prim.Native.Nat.{_≤_, _<_};
 ghost use Rattle.grid.specs.Point.{pointIn, counts as isCounted};

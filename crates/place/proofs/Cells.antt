@@ -24,8 +24,9 @@ use Rattle.ieee.proofs.Order.Monotone.{integral-mono, rises}
 use Rattle.ieee.proofs.Order.Ranks.{same-test}
 use Rattle.ieee.proofs.Order.Signed.{AtMost}
 use Rattle.ieee.proofs.Values.Unchanged.{integral-own}
-use Rattle.weld.specs.Weld.{cellOf, epsilonOf, inverse, sameInteger}
-use Rattle.weld.proofs.Codes.{integer-eq, integer-refl}
+use Rattle.cells.specs.Cells.{cellOf, sameInteger}
+use Rattle.cells.proofs.Codes.{integer-eq, integer-refl}
+use Rattle.weld.specs.Weld.{epsilonOf, inverse}
 use Rattle.refusals.specs.Refusals.{unitFits}
 use Rattle.qto.specs.Full.{distance}
 use Rattle.place.specs.Moved.{unitEnough}

@@ -23,7 +23,8 @@ use Rattle.vertices.specs.Vertices.{cornersInRange, inRange as inRangeOf}
 use Rattle.sums.specs.Box.{box, boxTo, boxVolume, highest, lowest}
 use Rattle.sums.specs.Facet.{facetOf, normal, part, partOf, rebased, size, tetra}
 use Rattle.sums.specs.Totals.{onSlope, slopeOf, totalsTo, withFacet, withPart}
-use Rattle.weld.specs.Weld.{cellOf, epsilonOf, inverse}
+use Rattle.cells.specs.Cells.{cellOf}
+use Rattle.weld.specs.Weld.{epsilonOf, inverse}
 use Rattle.verdict.specs.declared.Quality.{Quality}
 use Rattle.verdict.specs.Verdict.{byChain, byFaces, nearZero, quality, tooLarge}
 use Rattle.qto.specs.Full.{distance, measures, measuresFrom, recordBy, recordFrom, recordOf, totals, verdict, volumeOf}

@@ -8,7 +8,8 @@ use lib.IntN.{ℤ, pos, negsuc, natAbs, _+ℤ_}
 use lib.Ieee.{Float, binary32, ofInt}
 use Rattle.ids.specs.Examples.{tetrahedron}
 use Rattle.sums.specs.Box.{box}
-use Rattle.weld.specs.Weld.{epsilonOf, inverse, cellOf}
+use Rattle.cells.specs.Cells.{cellOf}
+use Rattle.weld.specs.Weld.{epsilonOf, inverse}
 use Rattle.verdict.specs.declared.Quality.{Quality}
 use Rattle.qto.specs.Full.{distance, recordOf}
 use Rattle.place.specs.Moved.{Moved, millimetre, unitEnough}

@@ -16,7 +16,7 @@ use Rattle.sums.specs.Box.{boxTo, boxVolume, highest, lowest}
 use Rattle.sums.specs.Facet.{facetOf, normal, part, partOf, rebased, size, tetra}
 use Rattle.sums.specs.Fine.{allFine}
 use Rattle.sums.specs.Totals.{onSlope, slopeOf, totalsTo, withFacet, withPart}
-use Rattle.weld.specs.Weld.{sameInteger}
+use Rattle.cells.specs.Cells.{sameInteger}
 use Rattle.rows.specs.Rows.{inserted, largest, leastAbove, precedes, scaled, smallest, sorted}
 use Rattle.surfaces.specs.Surfaces.{keyOf, put, rows, sameKey, tenths}
 use Rattle.walk.specs.Walk.{bucketsTo, withSurface}

@@ -19,7 +19,8 @@ use Rattle.ieee.proofs.Numbers.Basic.{size-gt}
 use Rattle.ieee.proofs.Order.Extremes.{least-from}
 use Rattle.ids.specs.Uses.{bit}
 use Rattle.grid.specs.Grid.{extent, cellsIn, gridOf}
-use Rattle.raster.specs.Footprint.{count, covered, coveredCells, areaOn, footprintOver, cellSize, footprint}
+use Rattle.paint.specs.Covered.{covered}
+use Rattle.raster.specs.Footprint.{count, coveredCells, areaOn, footprintOver, cellSize, footprint}
 use Rattle.sums.specs.declared.Bounds.{Bounds}
 use Rattle.sums.specs.Fine.{FineBox, fine}
 use Rattle.sums.proofs.FineBoxes.{extent-within}

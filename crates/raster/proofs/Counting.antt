@@ -2,22 +2,29 @@
 use mathlib.Core.Path.{_≡_, sym, _∙_}
 use mathlib.Core.Bool.{Bool, true, false, _||_, cond}
 use mathlib.Core.List.{List}
-use Prim.Native.Nat.{ℕ, _+_, _*_, _/_, _%_}
+use Prim.Native.Nat.{ℕ, _+_, _*_, _/_, _%_, _≤_}
 use native.Mathlib.Numerals.{add-one}
 use native.Mathlib.Omega.{arith}
+use native.Mathlib.Nat.{mul-le-mul, le-trans}
+use lib.Dec.{lit≤}
 use lib.Ieee.{Float, binary32, le, ofBits}
 use lib.ListN.{length, replicate, length-replicate, getD-replicate}
 use Rattle.ieee.specs.Order.{greatest}
 use Rattle.ieee.specs.Single.{_⊖_, _⊗_, _⊘_, nought, number}
 use Rattle.ids.specs.Uses.{bit}
 use Rattle.grid.specs.declared.Grid.{Grid}
-use Rattle.grid.specs.Grid.{extent, gridOf}
-use Rattle.raster.specs.Footprint.{count, covered, coveredCells, areaOn, footprintOver, footprint}
-use Rattle.raster.specs.Painted.{Shows, Adds}
+use Rattle.grid.specs.Grid.{extent, gridOf, Sized}
+use Rattle.paint.specs.Covered.{covered}
+use Rattle.paint.specs.Painted.{Shows, Adds}
+use Rattle.raster.specs.Footprint.{count, coveredCells, areaOn, footprintOver, footprint}
 
 pub count-next : (f : ℕ → Bool) (n : ℕ) → count f (n + 1) ≡ count f n + bit (f n)
 unfolding count
 count-next f n = rw (add-one n)
+
+-- a grid has 65,536 cells at most
+pub few-cells : (g : Grid) → Sized g → g .nx * g .ny ≤ 65536
+few-cells g s = le-trans (mul-le-mul (s .wide-most) (s .high-most)) (lit≤ tt)
 
 -- a zeroed raster says nothing
 shows-none : (n : ℕ) → Shows (replicate n 0) (λ k. false)

@@ -1,7 +1,3 @@
--- What painting adds to a raster: a byte, a row, a box, a triangle, all triangles; and how its bytes give the footprint.
-mod Painting
-mod Boxes
-mod Covering
+-- How the bytes of a painted raster give the footprint, and how it is cleared.
 mod Counting
 mod Clearing
-pub mod Meaning

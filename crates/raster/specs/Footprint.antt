@@ -1,79 +1,30 @@
 -- Raster (01; 000, `footprint_raw`): how much ground a mesh covers, seen along the axis that is neither u nor v. f32, not rebased, each step rounded once.
-use mathlib.Core.Path.{_≡_}
-use Prim.Native.Nat.{ℕ, zero, suc, _+_, _*_, _/_, _%_, _<_}
-use mathlib.Core.Bool.{Bool, true, false, _&&_, _||_, cond}
+use Prim.Native.Nat.{ℕ, zero, suc, _+_, _*_, _/_, _%_}
+use mathlib.Core.Bool.{Bool, _||_, cond}
 use mathlib.Core.List.{List}
-use lib.Dec.{leb}
 use lib.Ieee.{Float, binary32, le, ofBits}
 use Rattle.ieee.specs.Order.{greatest}
 use Rattle.ieee.specs.Single.{_⊗_, _⊘_, nought, number}
 use Rattle.ids.specs.Uses.{bit}
-use Rattle.ids.specs.Triangles.{Triangle, triangle, triangleCount}
-use Rattle.vertices.specs.Vertices.{coordinate, cornersInRange}
-use Rattle.grid.specs.declared.Flat.{Flat}
 use Rattle.grid.specs.declared.Grid.{Grid}
-use Rattle.grid.specs.Point.{pointIn, counts}
-use Rattle.grid.specs.Grid.{extent, firstCell, lastCell, centreOf, gridOf}
+use Rattle.grid.specs.Grid.{extent, gridOf}
+use Rattle.paint.specs.Covered.{covered}
+use Rattle.raster.specs.declared.Axis.{Axis}
 
--- ---- one triangle, on the axes u and v
+-- 0 for x, 1 for y, 2 for z
+unfoldable pub axisNumber : Axis → ℕ
+axisNumber Axis.X = 0
+axisNumber Axis.Y = 1
+axisNumber Axis.Z = 2
 
-abbrev pub flat : List Float → ℕ → ℕ → Triangle → Flat
-flat vs u v t =
-    record {
-      ax = coordinate vs u (t .a);
-      ay = coordinate vs v (t .a);
-      bx = coordinate vs u (t .b);
-      by = coordinate vs v (t .b);
-      cx = coordinate vs u (t .c);
-      cy = coordinate vs v (t .c);
-    }
+-- ---- covered cells
 
--- is i from lo to hi?
-unfoldable pub between : ℕ → ℕ → ℕ → Bool
-between lo hi i = leb lo i && leb i hi
-
--- is column i, is row j in the triangle's box of cells, clamped into the grid?
-unfoldable pub inColumns : Grid → Flat → ℕ → Bool
-inColumns g t i = between (firstCell (g .x) (g .w) (g .nx) (t .ax) (t .bx) (t .cx)) (lastCell (g .x) (g .w) (g .nx) (t .ax) (t .bx) (t .cx)) i
-
-unfoldable pub inRows : Grid → Flat → ℕ → Bool
-inRows g t j = between (firstCell (g .y) (g .h) (g .ny) (t .ay) (t .by) (t .cy)) (lastCell (g .y) (g .h) (g .ny) (t .ay) (t .by) (t .cy)) j
-
--- is the centre of the cell in column i and row j not outside the triangle?
-unfoldable pub hits : Grid → Flat → ℕ → ℕ → Bool
-hits g t i j = pointIn (centreOf (g .x) (g .w) i) (centreOf (g .y) (g .h) j) t
-
--- does a triangle in the plane cover the cell? It counts, the cell is in its box, and the centre is not outside
-unfoldable pub fills : Grid → Flat → ℕ → ℕ → Bool
-fills g t i j = counts t && (inRows g t j && (inColumns g t i && hits g t i j))
-
--- a triangle with an id out of range covers nothing
-unfoldable pub covers : List Float → ℕ → ℕ → Grid → Triangle → ℕ → ℕ → Bool
-covers vs u v g t i j = cornersInRange vs t && fills g (flat vs u v t) i j
-
--- ---- all triangles
-
--- does f hold of some number below n?
-unfoldable pub some : (ℕ → Bool) → ℕ → Bool
-some f zero = false
-some f (suc n) = some f n || f n
-
--- of how many?
+-- of how many numbers below n does f hold?
 unfoldable pub count : (ℕ → Bool) → ℕ → ℕ
 count f zero = 0
 count f (suc n) = count f n + bit (f n)
 
--- is the cell in column i and row j covered?
-unfoldable pub covered : List Float → ℕ → ℕ → Grid → List ℕ → ℕ → ℕ → Bool
-covered vs u v g ids i j = some (λ t. covers vs u v g (triangle ids t) i j) (triangleCount ids)
-
--- that is to say: some triangle of the list covers it (`covered-tells`, `covered-told`)
-pub record Covered (vs : List Float) (u v : ℕ) (g : Grid) (ids : List ℕ) (i j : ℕ) : Type 0 where
-  pub number : ℕ
-  pub within : number < triangleCount ids
-  pub by : covers vs u v g (triangle ids number) i j ≡ true
-
--- how many cells are: cell k is in column k % nx and row k / nx
+-- how many cells are covered: cell k is in column k % nx and row k / nx
 unfoldable pub coveredCells : List Float → ℕ → ℕ → Grid → List ℕ → ℕ
 coveredCells vs u v g ids = count (λ k. covered vs u v g ids (k % g .nx) (k / g .nx)) (g .nx * g .ny)
 

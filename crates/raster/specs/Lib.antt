@@ -1,3 +1,2 @@
--- Raster (01): the definition of the footprint, and what the bytes of a raster say.
+-- Raster (01): the definition of the footprint.
 pub mod Footprint
-pub mod Painted

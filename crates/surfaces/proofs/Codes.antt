@@ -11,8 +11,8 @@ use mir.Val.{Fits, SFits}
 use Rattle.ids.proofs.Same.{three-eq, three-refl, eqb-refl}
 use Rattle.table.specs.Rows.{homeRow, Found}
 use Rattle.table.proofs.Search.{home-below}
-use Rattle.weld.specs.Table.{coded}
-use Rattle.weld.proofs.Codes.{coded-one}
+use Rattle.cells.specs.Table.{coded}
+use Rattle.cells.proofs.Codes.{coded-one}
 use Rattle.surfaces.specs.declared.Code.{Code}
 use Rattle.surfaces.specs.declared.Key.{Key}
 use Rattle.surfaces.specs.Index.{codeOf, sameCode, hashOf, homeOf}

@@ -9,8 +9,8 @@ use lib.Ieee.{Float}
 use lib.ListN.{length}
 use Rattle.ids.proofs.Same.{three-eq, three-refl}
 use Rattle.ieee.specs.Single.{_⊕_, nought}
-use Rattle.weld.specs.Weld.{sameInteger}
-use Rattle.weld.proofs.Codes.{integer-eq, integer-refl}
+use Rattle.cells.specs.Cells.{sameInteger}
+use Rattle.cells.proofs.Codes.{integer-eq, integer-refl}
 use Rattle.surfaces.specs.declared.Key.{Key}
 use Rattle.surfaces.specs.Surfaces.{sameKey, Bucket, put, areaFor, hasKey, Apart, AllAreas, rows}
 

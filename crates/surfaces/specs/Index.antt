@@ -11,7 +11,7 @@ use lib.Ieee.{Float}
 use Rattle.ids.specs.Uses.{bit}
 use Rattle.ieee.specs.Single.{_⊕_, nought}
 use Rattle.table.specs.Rows.{homeRow, sumTo, Free, Spread}
-use Rattle.weld.specs.Table.{coded}
+use Rattle.cells.specs.Table.{coded}
 use Rattle.rows.specs.Rows.{flatten}
 use Rattle.surfaces.specs.declared.Code.{Code}
 use Rattle.surfaces.specs.declared.Key.{Key}

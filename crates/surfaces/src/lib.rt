@@ -5,7 +5,7 @@ ghost use lib.Ieee.{nan};
 ghost use lib.ListN.{length, getD, set};
 ghost use Rattle.ieee.specs.Single.{_⊕_, nought};
 ghost use Rattle.table.specs.Rows.{Found};
-ghost use Rattle.weld.specs.Table.{coded as codedOf};
+ghost use Rattle.cells.specs.Table.{coded as codedOf};
 ghost use Rattle.surfaces.specs.Surfaces.{tenths as tenthsOf, tenth as tenthOf, keyOf};
 ghost use Rattle.surfaces.specs.Index.{codeOf, sameCode, stored, slotIn, keyIn, hashOf, Searchable, Claimed, withRow, Ready, Puts};
 
@@ -51,7 +51,7 @@ fn tenth(k: i32) -> f32
 fn coded(k: i32) -> u32
     ensures { λ r. ⌜ r ≡ codedOf k ⌝ }
 {
-    weld::coded(k as i64) as u32
+    cells::coded(k as i64) as u32
 }
 
 fn code_of(k: Key) -> Code

@@ -7,7 +7,7 @@ use lib.ListN.{length, take, drop, length-drop}
 use Rattle.ids.specs.Lent.{cleared}
 use Rattle.ids.specs.Triangles.{triangleCount}
 use Rattle.table.proofs.Cleared.{front-zero}
-use Rattle.edges.specs.Rows.{EdgeTable}
+use Rattle.steps.specs.Rows.{EdgeTable}
 use Rattle.faces.specs.Rows.{FaceTable}
 use Rattle.edges.proofs.Tally as edge-tables
 use Rattle.faces.proofs.Rows as face-tables

@@ -5,7 +5,7 @@ use Prim.Native.Nat.{ℕ}
 use lib.Ieee.{Float, binary32, ofBits}
 use Rattle.grid.specs.Grid.{extent}
 use Rattle.raster.specs.declared.Axis.{Axis}
-use Rattle.raster.specs.Painted.{axisNumber}
+use Rattle.raster.specs.Footprint.{axisNumber}
 use Rattle.sums.specs.declared.Bounds.{Bounds}
 use Rattle.volume.specs.Best.{prismOn, orLess, orNone, prism}
 

@@ -1,7 +1,7 @@
 // The best volume of a mesh, by its quality: the mesh's own where that is to be trusted, else the prism. Internal: `qto` asks it.
 ghost use mathlib.Core.Path.{_≡_};
 ghost use lib.ListN.{length, replicate};
-ghost use Rattle.raster.specs.Painted.{axisNumber};
+ghost use Rattle.raster.specs.Footprint.{axisNumber};
 ghost use Rattle.volume.specs.Best.{prismOn, orLess, orNone, prism as prismOf, upper as upperOf, collapsed as collapsedOf, trusted as trustedOf, openBest, bestOf};
 use raster::Axis;
 use sums::Bounds;

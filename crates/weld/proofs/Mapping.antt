@@ -13,8 +13,10 @@ use lib.Seq.{drop-at, getD-set-same, getD-set-other, getD-take, getD-append-add,
 use Rattle.ids.specs.Lent.{cleared}
 use Rattle.table.proofs.Cleared.{front-zero}
 use Rattle.vertices.specs.Vertices.{vertexCount}
-use Rattle.weld.specs.Weld.{named, weldId, weldAll, inverse, unwelded, welded}
-use Rattle.weld.specs.Table.{slotIn, nameIn, Welds, idBy, mapped}
+use Rattle.cells.specs.Cells.{named}
+use Rattle.cells.specs.Table.{slotIn, nameIn, Welds}
+use Rattle.weld.specs.Weld.{weldId, weldAll, inverse, unwelded, welded}
+use Rattle.weld.specs.Mapped.{idBy, mapped}
 
 -- ---- one id after the other
 

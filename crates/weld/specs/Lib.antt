@@ -1,3 +1,3 @@
--- Weld (01): which vertices are one, and what the table of cells means.
+-- Weld (01): which vertices are one, and ids by the table of cells.
 pub mod Weld
-pub mod Table
+pub mod Mapped

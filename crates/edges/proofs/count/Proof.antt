@@ -5,8 +5,7 @@ use native.Mathlib.Omega.{arith}
 use borrow.Author.Needs.{needs}
 use Rattle.table.specs.Rows.{sumTo}
 use Rattle.table.proofs.Sums.{sumTo-next}
-use Rattle.edges.specs.Rows.{rowBit}
-use Rattle.edges.specs.Tests.{testOf}
+use Rattle.edges.specs.Tests.{testOf, rowBit}
 use Rattle.edges.proofs.count.Statement.{statement}
 use Rattle.edges.proofs.count.Tie as tie
 

@@ -3,9 +3,9 @@ use mathlib.Core.List.{append-assoc}
 use native.Mathlib.Omega.{arith}
 use borrow.Author.Needs.{needs}
 use Rattle.ids.specs.EdgeChain.{properStep, aroundProper}
-use Rattle.edges.specs.Rows.{Room}
+use Rattle.steps.specs.Rows.{Room}
 use Rattle.edges.proofs.Triangles.{step-length}
-use Rattle.edges.proofs.Within.{room-less, room-after}
+use Rattle.steps.proofs.Within.{room-less, room-after}
 use Rattle.edges.proofs.proper_triangle.Statement.{statement}
 use Rattle.edges.proofs.proper_triangle.Tie as tie
 

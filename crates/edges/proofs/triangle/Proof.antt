@@ -4,9 +4,9 @@ use mathlib.Core.List.{[], _∷_, append-assoc}
 use borrow.Author.Tests.{not-true, not-false}
 use Rattle.ids.specs.EdgeChain.{step}
 use Rattle.ids.proofs.Triangles.{append-none}
-use Rattle.edges.specs.Rows.{Room}
+use Rattle.steps.specs.Rows.{Room}
 use Rattle.edges.proofs.Triangles.{around-none, around-all}
-use Rattle.edges.proofs.Within.{room-less, room-after}
+use Rattle.steps.proofs.Within.{room-less, room-after}
 use native.Mathlib.Omega.{arith}
 use borrow.Author.Needs.{needs}
 use Rattle.edges.proofs.triangle.Statement.{statement}

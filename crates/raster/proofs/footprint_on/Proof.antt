@@ -2,8 +2,7 @@
 use mathlib.Core.Path.{_≡_}
 use lib.ListN.{length}
 use Prim.Native.Nat.{_*_}
-use Rattle.raster.proofs.Boxes.{few-cells}
-use Rattle.raster.proofs.Counting.{counted, area-of}
+use Rattle.raster.proofs.Counting.{few-cells, counted, area-of}
 use Rattle.raster.proofs.Clearing.{zeroed}
 use native.Mathlib.Omega.{arith}
 use borrow.Author.Needs.{needs}

@@ -1,10 +1,17 @@
--- `raster::footprint_over` meets its contract: nothing for a box with no length, else the footprint on its grid, over the front of the part. Assumes nothing.
-use Rattle.raster.proofs.Boxes.{few-cells}
-use Rattle.raster.proofs.Counting.{foot-none, foot-some}
+-- `raster::footprint_over` meets its contract: nothing for a box with no length, else the footprint on its grid, over the front of the raster. Assumes nothing.
+use mathlib.Core.Path.{refl}
+use Prim.Native.Nat.{_*_}
 use native.Mathlib.Omega.{arith}
+use Rattle.raster.proofs.Counting.{few-cells, foot-none, foot-some}
+use Rattle.raster.proofs.Clearing.{cleared-back}
 use borrow.Author.Needs.{needs}
 use Rattle.raster.proofs.footprint_over.Statement.{statement}
 use Rattle.raster.proofs.footprint_over.Tie as tie
+use Rattle.raster.proofs.footprint_over.Reads as reads
+use Rattle.raster.proofs.footprint_over.Lts as lts
+use Rattle.grid.proofs.grid_over.Reads as grid-over-reads
+use Rattle.floats.proofs.greatest32.Reads as greatest32-reads
+use Rattle.raster.proofs.footprint_on.Reads as footprint-on-reads
 
 greatest32-requires : tie.Need-greatest32-requires
 greatest32-requires c κs = search needs
@@ -21,7 +28,7 @@ returns c =
     let w = c .before .before .before .greatest32 in
     let h = c .before .before .greatest322 in
     let m = c .before .greatest323 in
-    foot-none (a .vertices .now) (a .u) (a .v) (a .ids .now) (a .xmin) (a .xmax) (a .ymin) (a .ymax) (w .result) (h .result) (m .result) (w .ensures) (h .ensures) (m .ensures) (c .if1 .taken)
+    (foot-none (a .vertices .now) (a .u) (a .v) (a .ids .now) (a .xmin) (a .xmax) (a .ymin) (a .ymax) (w .result) (h .result) (m .result) (w .ensures) (h .ensures) (m .ensures) (c .if1 .taken), refl)
 
 grid-over-requires : tie.Need-grid-over-requires
 grid-over-requires c κs = search needs
@@ -46,13 +53,15 @@ same-length c = search needs
 
 returns-2 : tie.Need-returns-2
 returns-2 c =
-    let a = c .before .before .before .before .before .before .before .before .before .before .before .before .before .args in
+    let start = c .before .before .before .before .before .before .before .before .before .before .before .before .before in
+    let a = start .args in
     let w = c .before .before .before .before .before .before .before .before .before .greatest32 in
     let h = c .before .before .before .before .before .before .before .before .greatest322 in
     let m = c .before .before .before .before .before .before .before .greatest323 in
     let z = c .before .before .before .before .before .grid-over in
     let p = c .before .before .footprint-on in
-    foot-some (a .vertices .now) (a .u) (a .v) (a .ids .now) (a .xmin) (a .xmax) (a .ymin) (a .ymax) (w .result) (h .result) (m .result) (w .ensures) (h .ensures) (m .ensures) (z .result) (p .result) (c .before .before .before .before .before .before .if1 .left) (z .ensures .0) (p .ensures)
+    let few = few-cells (z .result) (z .ensures .1) in
+    (foot-some (a .vertices .now) (a .u) (a .v) (a .ids .now) (a .xmin) (a .xmax) (a .ymin) (a .ymax) (w .result) (h .result) (m .result) (w .ensures) (h .ensures) (m .ensures) (z .result) (p .result) (c .before .before .before .before .before .before .if1 .left) (z .ensures .0) (p .ensures), cleared-back 65536 (z .result .nx * z .result .ny) (a .raster .now) (p .last .1 .1 .1 .1 .1 .0) few (omega (arith, few, start .pre .2)) (p .kept .1 .1 .1 .1 .1 .0))
 
 pub footprint-over-spec : {M : Type 1} → statement M
 footprint-over-spec =

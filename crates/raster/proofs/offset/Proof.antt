@@ -1,7 +1,7 @@
 -- `raster::offset` meets its contract: each arm gives its axis's number. Assumes nothing.
 use native.Mathlib.Omega.{arith}
 use borrow.Author.Needs.{needs}
-use Rattle.raster.specs.Painted.{axisNumber}
+use Rattle.raster.specs.Footprint.{axisNumber}
 use Rattle.raster.proofs.offset.Statement.{statement}
 use Rattle.raster.proofs.offset.Tie as tie
 

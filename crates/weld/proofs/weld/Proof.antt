@@ -8,7 +8,7 @@ use borrow.Author.Needs.{needs}
 use lib.ListN.{length, drop, length-drop}
 use lib.Seq.{length-take-le}
 use Rattle.vertices.specs.Vertices.{vertexCount}
-use Rattle.weld.proofs.Welding.{welds-none}
+use Rattle.cells.proofs.Welding.{welds-none}
 use Rattle.weld.proofs.Mapping.{slots-cleared, weld-last}
 use Rattle.weld.proofs.weld.Statement.{statement}
 use Rattle.weld.proofs.weld.Tie as tie

@@ -1,5 +1,5 @@
 -- `capi::probe::axis` meets its contract: a number below 3 is an axis. Assumes nothing.
-use Rattle.raster.specs.Painted.{axisNumber}
+use Rattle.raster.specs.Footprint.{axisNumber}
 use native.Mathlib.Omega.{arith}
 use Rattle.capi.proofs.probe.axis.Statement.{statement}
 use Rattle.capi.proofs.probe.axis.Tie as tie

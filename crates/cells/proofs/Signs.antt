@@ -1,0 +1,77 @@
+-- What `coded` is, by the steps in which the code makes it: of an i64 by the test of the sign and the casts, of a float's pattern by its size and sign. Assumes nothing.
+use mathlib.Core.Path.{_≡_, refl, sym, ap, _∙_}
+use mathlib.Core.Bool.{Bool, true, false, true≢false, false≢true}
+use Prim.Native.Nat.{ℕ, zero, suc, _+_, _-_, _*_, _/_, _^_, _<_, min}
+use native.Mathlib.Omega.{arith}
+use native.Mathlib.Decide.{decLt}
+use borrow.Author.Tests.{le-ltb, le-leb, lt-leb}
+use lib.Dec.{T, leb}
+use lib.Ieee.{Float, binary64, ofBits, toSigned}
+use lib.IntN.{ℤ, pos, negsuc, natAbs, _-ℤ_}
+use lib.Signed.{leZ, nonNeg}
+use mir.Syntax.{w64}
+use mir.Val.{Fits, SFits}
+use Rattle.ieee.specs.Integral.{half, halfAway, toWhole}
+use Rattle.ieee.specs.WholeNumber.{signed}
+use Rattle.ieee.proofs.Patterns.Integral.{field, size-of}
+use Rattle.ieee.proofs.Patterns.Rounding.{few, nearest-signed}
+use Rattle.ids.specs.Uses.{bit}
+use Rattle.cells.specs.Table.{coded}
+
+-- what is left of it above -1
+abbrev pub rest : ℤ → ℤ
+rest z = negsuc 0 -ℤ z
+
+rest-is : (n : ℕ) → rest (negsuc n) ≡ pos n
+rest-is n = rw (le-ltb (suc n) 1 (omega arith)) (ap pos (omega arith))
+
+-- from zero up: what each step of the code needs, and that the last is `coded`
+pub record Up (z : ℤ) : Type 0 where
+  pub unsigned : T (nonNeg z) × Fits w64 (natAbs z)
+  pub twice : Fits w64 (2 * natAbs z)
+  pub is : 2 * natAbs z ≡ coded z
+
+pub from-zero : (z : ℤ) → SFits w64 z → leZ (pos 0) z ≡ true → Up z
+unfolding coded
+from-zero (pos n) f up = record { unsigned = (tt, record { fits = omega (arith, f .sfits) }); twice = record { fits = omega (arith, f .sfits) }; is = refl }
+from-zero (negsuc n) f up = absurd (false≢true up)
+
+-- below zero
+pub record Down (z : ℤ) : Type 0 where
+  pub left : SFits w64 (rest z)
+  pub unsigned : T (nonNeg (rest z)) × Fits w64 (natAbs (rest z))
+  pub twice : Fits w64 (2 * natAbs (rest z))
+  pub one-more : Fits w64 (2 * natAbs (rest z) + 1)
+  pub is : 2 * natAbs (rest z) + 1 ≡ coded z
+
+pub below : (z : ℤ) → SFits w64 z → leZ (pos 0) z ≡ false → Down z
+unfolding coded
+below (pos n) f down = absurd (true≢false (sym (le-leb 0 n (omega arith)) ∙ down))
+below (negsuc n) f down = record {
+  left = rw (rest-is n) (record { sfits = f .sfits });
+  unsigned = rw (rest-is n) (tt, record { fits = omega (arith, f .sfits) });
+  twice = rw (rest-is n) (record { fits = omega (arith, f .sfits) });
+  one-more = rw (rest-is n) (record { fits = omega (arith, f .sfits) });
+  is = rw (rest-is n);
+}
+
+-- ---- by a size and a sign, as the code makes it of a pattern
+
+coded-signed : (s : Bool) (n : ℕ) → 2 * n - min (bit s) n ≡ coded (signed s n)
+unfolding coded bit
+coded-signed false n = omega arith
+coded-signed true zero = refl
+coded-signed true (suc n) = omega arith
+
+sign-bit : (b : ℕ) → b < 2 ^ 64 → b / 2 ^ 63 ≡ bit (leb (2 ^ 63) b)
+unfolding bit
+sign-bit b l =
+    elim (decLt b (2 ^ 63)) [
+      | yes h ↦ rw (lt-leb (2 ^ 63) b h) (omega arith)
+      | no h ↦ rw (le-leb (2 ^ 63) b (omega arith)) (omega arith)
+    ]
+
+pub by-pattern : (y : Float) (b n : ℕ) → ofBits binary64 b ≡ y → b < 2 ^ 64 → (h : field b < 1075) → n ≡ toWhole half (size-of b) (2 ^ 1074)
+    → (2 * n - min (b / 2 ^ 63) n ≡ coded (toSigned 63 (halfAway binary64 y))) × (n < 2 ^ 63)
+by-pattern y b n is l h r =
+    (ap (λ (z : ℕ). 2 * n - min z n) (sign-bit b l) ∙ coded-signed (leb (2 ^ 63) b) n ∙ ap coded (nearest-signed y b is n h r (leb (2 ^ 63) b) refl), few y b is n h r)

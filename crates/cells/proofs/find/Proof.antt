@@ -1,0 +1,115 @@
+-- `cells::find` meets its contract. The invariant: every slot that was passed is used by another cell. It ends, since some slot is free. Assumes nothing.
+use mathlib.Core.Path.{_≡_, sym, _∙_}
+use mathlib.Core.Logic.{_≢_}
+use mathlib.Core.Bool.{true, false}
+use Prim.Native.Nat.{ℕ, _+_, _-_, _*_, _<_}
+use native.Mathlib.Omega.{arith}
+use borrow.Author.Needs.{needs}
+use Rattle.ids.proofs.Same.{same-ne}
+use Rattle.table.specs.Rows.{dist, nextRow, Passed}
+use Rattle.table.proofs.Search.{dist-here, dist-below, next-below, goes-on}
+use Rattle.cells.specs.declared.Code.{Code}
+use Rattle.cells.specs.Table.{sameCode, slotIn, keyIn}
+use Rattle.cells.proofs.Codes.{code-eq, code-refl}
+use Rattle.cells.proofs.find.Statement.{statement}
+use Rattle.cells.proofs.find.Tie as tie
+
+abbrev Inv-loop : tie.InvT-loop
+Inv-loop part n k start m r₀ r = (r < 2 * n) × Passed (2 * n) start (keyIn n part) (slotIn part) k r
+
+abbrev μ-loop : tie.MeasureT-loop
+μ-loop part n k start m r₀ r = 2 * n - dist (2 * n) start r
+
+mul-m : tie.Need-mul-m Inv-loop μ-loop
+mul-m c = search needs
+
+loop-holds : tie.Need-loop-holds Inv-loop μ-loop
+loop-holds c = let s = c .before in (s .pre .1, λ j l d. absurd (omega (arith, dist-here (2 * s .args .n) (s .args .start) (s .pre .1))))
+
+mul-s : tie.Need-mul-s Inv-loop μ-loop
+mul-s c = search needs
+
+shared-slice-read-s : tie.Need-shared-slice-read-s Inv-loop μ-loop
+shared-slice-read-s c = search needs
+
+cast-s : tie.Need-cast-s Inv-loop μ-loop
+cast-s c = search needs
+
+sub-same : tie.Need-sub-same Inv-loop μ-loop
+sub-same c = omega (arith, c .if1 .left)
+
+same-requires : tie.Need-same-requires Inv-loop μ-loop
+unfolding slotIn
+same-requires c κs =
+    let s = c .before .before .before .before in
+    (s .pre .0, omega (arith, c .if1 .left, s .pre .3 .within (c .before .before .loop .r) (c .before .before .loop .inv .0)), s .pre .2)
+
+next-requires : tie.Need-next-requires Inv-loop μ-loop
+next-requires c κs = search needs
+
+-- what the test of slot r says: it holds the cell, or the search goes on
+module _ (c : tie.After-same Inv-loop μ-loop) where
+  abbrev at : tie.At-loop Inv-loop μ-loop
+  at = c .before .before .before
+
+  abbrev st : tie.Start Inv-loop μ-loop
+  st = c .before .before .before .before .before
+
+  abbrev m : ℕ
+  m = 2 * st .args .n
+
+  abbrev key : ℕ → Code
+  key = keyIn (st .args .n) (st .args .part .now)
+
+  abbrev mark : ℕ → ℕ
+  mark = slotIn (st .args .part .now)
+
+  here : c .same .result ≡ true → key (at .loop .r) ≡ st .args .k
+  unfolding slotIn
+  here told = code-eq (key (at .loop .r)) (st .args .k) (sym (c .same .ensures) ∙ told)
+
+  busy : 0 < mark (at .loop .r)
+  unfolding slotIn
+  busy = omega (arith, c .before .if1 .left)
+
+  on : c .same .result ≡ false
+      → (dist m (st .args .start) (nextRow m (at .loop .r)) ≡ dist m (st .args .start) (at .loop .r) + 1) × Passed m (st .args .start) key mark (st .args .k) (nextRow m (at .loop .r))
+  unfolding slotIn
+  on differs =
+      let other : key (at .loop .r) ≢ st .args .k = same-ne sameCode code-refl (key (at .loop .r)) (st .args .k) (sym (c .same .ensures) ∙ differs) in
+      goes-on m (st .args .start) (st .pre .1) key mark (st .args .k) (at .loop .r) (at .loop .inv .0) (at .loop .inv .1) busy other (st .pre .3 .free)
+
+  below : dist m (st .args .start) (at .loop .r) < m
+  below = dist-below m (st .args .start) (st .pre .1) (at .loop .r) (at .loop .inv .0)
+
+loop-less : tie.Need-loop-less Inv-loop μ-loop
+loop-less c = let s = c .before .before in rw (c .next .ensures) (omega (arith, on s (c .before .if2 .left) .0, below s))
+
+loop-again : tie.Need-loop-again Inv-loop μ-loop
+loop-again c = let s = c .before .before in rw (c .next .ensures) (next-below (2 * st s .args .n) (st s .args .start) (st s .pre .1) (at s .loop .r) (at s .loop .inv .0), on s (c .before .if2 .left) .1)
+
+returns : tie.Need-returns Inv-loop μ-loop
+unfolding slotIn
+returns c = let l = c .before .before .loop in record { within = l .inv .0; holds = λ u. absurd (omega (arith, c .if1 .taken)); passed = l .inv .1 }
+
+returns-2 : tie.Need-returns-2 Inv-loop μ-loop
+returns-2 c = let l = c .before .before .before .before .loop in record { within = l .inv .0; holds = λ u. here (c .before) (c .if2 .taken); passed = l .inv .1 }
+
+pub find-spec : {M : Type 1} → statement M
+find-spec =
+    tie.close
+    (tie.spec
+    Inv-loop
+    μ-loop
+    mul-m
+    loop-holds
+    mul-s
+    shared-slice-read-s
+    cast-s
+    sub-same
+    same-requires
+    next-requires
+    loop-less
+    loop-again
+    returns
+    returns-2)

@@ -1,0 +1,55 @@
+-- `cells::gather` meets its contract. The invariant: the first v vertices are entered. Assumes nothing.
+use mathlib.Core.Path.{_≡_, refl, subst}
+use Prim.Native.Nat.{_-_, _≤_}
+use native.Mathlib.Omega.{arith}
+use borrow.Author.Needs.{needs}
+use lib.ListN.{length}
+use Rattle.vertices.specs.Vertices.{vertexCount}
+use Rattle.cells.specs.Table.{Welds}
+use Rattle.cells.proofs.gather.Statement.{statement}
+use Rattle.cells.proofs.gather.Tie as tie
+
+abbrev Inv-loop : tie.InvT-loop
+Inv-loop vertices inv part₀ n v₀ part v = (v ≤ n) × (length part ≡ length part₀) × Welds n vertices inv part v
+
+abbrev μ-loop : tie.MeasureT-loop
+μ-loop vertices inv part₀ n v₀ part v = n - v
+
+loop-holds : tie.Need-loop-holds Inv-loop μ-loop
+loop-holds c = (omega arith, refl, c .before .before .pre .2)
+
+enter-requires : tie.Need-enter-requires Inv-loop μ-loop
+enter-requires c κs = search needs
+
+add-v : tie.Need-add-v Inv-loop μ-loop
+add-v c = search needs
+
+loop-less : tie.Need-loop-less Inv-loop μ-loop
+loop-less c = search needs
+
+loop-again : tie.Need-loop-again Inv-loop μ-loop
+loop-again c = search needs
+
+same-length : tie.Need-same-length Inv-loop μ-loop
+same-length c = search needs
+
+returns : tie.Need-returns Inv-loop μ-loop
+returns c =
+    let a = c .before .before .before .before .args in
+    let l = c .before .loop in
+    let all : l .v ≡ vertexCount (a .vertices .now) = omega arith in
+    subst (Welds (vertexCount (a .vertices .now)) (a .vertices .now) (a .inv) (l .part)) all (l .inv .2)
+
+pub gather-spec : {M : Type 1} → statement M
+gather-spec =
+    tie.close
+    (tie.spec
+    Inv-loop
+    μ-loop
+    loop-holds
+    enter-requires
+    add-v
+    loop-less
+    loop-again
+    same-length
+    returns)

@@ -1,0 +1,49 @@
+-- Weld (01; 000, `welded_indices`): the cell of a vertex, and the first vertex in it.
+use mathlib.Core.Path.{_≡_}
+use mathlib.Core.Logic.{_≢_}
+use Prim.Native.Nat.{ℕ, zero, suc, _≤_, _<_}
+use mathlib.Core.Bool.{Bool, false, _&&_, cond}
+use mathlib.Core.List.{List}
+use lib.Dec.{eqb}
+use lib.IntN.{ℤ, pos, negsuc}
+use lib.Ieee.{Float, binary64, mul, toSigned}
+use Rattle.ieee.specs.Integral.{halfAway}
+use Rattle.vertices.specs.Vertices.{coordinate}
+
+-- the cell of a coordinate: times 1/ε in f64, half away from zero, as an i64
+unfoldable pub cellOf : Float → Float → ℤ
+cellOf inv x = toSigned 63 (halfAway binary64 (mul binary64 x inv))
+
+-- the cell of a vertex
+pub record Cell : Type 0 where
+  pub x : ℤ
+  pub y : ℤ
+  pub z : ℤ
+
+unfoldable pub cellAt : List Float → Float → ℕ → Cell
+cellAt vs inv v = record { x = cellOf inv (coordinate vs 0 v); y = cellOf inv (coordinate vs 1 v); z = cellOf inv (coordinate vs 2 v) }
+
+unfoldable pub sameInteger : ℤ → ℤ → Bool
+sameInteger (pos m) (pos n) = eqb m n
+sameInteger (pos m) (negsuc n) = false
+sameInteger (negsuc m) (pos n) = false
+sameInteger (negsuc m) (negsuc n) = eqb m n
+
+unfoldable pub sameCell : Cell → Cell → Bool
+sameCell a b = sameInteger (a .x) (b .x) && (sameInteger (a .y) (b .y) && sameInteger (a .z) (b .z))
+
+-- the first of the n numbers from j on that passes the test, and j + n where none does
+unfoldable pub first : (ℕ → Bool) → ℕ → ℕ → ℕ
+first test zero j = j
+first test (suc n) j = cond (test j) j (first test n (suc j))
+
+-- the vertex that names v's cell: the first that has the same
+unfoldable pub named : List Float → Float → ℕ → ℕ
+named vs inv v = first (λ j. sameCell (cellAt vs inv j) (cellAt vs inv v)) v 0
+
+-- that is to say: f has v's cell, is not behind v, and no vertex before f has it (`named-names`). No other vertex is that (`named-is`), so two
+-- vertices have one name just where they have one cell (`named-one`, `named-tells`)
+pub record NamesCell (vs : List Float) (inv : Float) (v f : ℕ) : Type 0 where
+  pub not-behind : f ≤ v
+  pub alike : cellAt vs inv f ≡ cellAt vs inv v
+  pub first-of : (j : ℕ) → j < f → cellAt vs inv j ≢ cellAt vs inv v

@@ -1,0 +1,5 @@
+-- What painting adds to a raster: a byte, a row, a box, a triangle, all triangles; and what it says of a cell that it is covered.
+mod Painting
+mod Boxes
+mod Covering
+pub mod Meaning

@@ -1,0 +1,55 @@
+-- `paint::paint` meets its contract: the cells of the triangle's box, or none where it does not count. Assumes nothing.
+use mathlib.Core.Path.{sym, _∙_}
+use borrow.Author.Needs.{needs}
+use Rattle.paint.proofs.Covering.{fills-in, fills-out}
+use Rattle.paint.proofs.paint.Statement.{statement}
+use Rattle.paint.proofs.paint.Tie as tie
+
+counts-requires : tie.Need-counts-requires
+counts-requires c κs = search needs
+
+first-cell-requires : tie.Need-first-cell-requires
+first-cell-requires c κs = search needs
+
+last-cell-requires : tie.Need-last-cell-requires
+last-cell-requires c κs = search needs
+
+first-cell-requires-2 : tie.Need-first-cell-requires-2
+first-cell-requires-2 c κs = search needs
+
+last-cell-requires-2 : tie.Need-last-cell-requires-2
+last-cell-requires-2 c κs = search needs
+
+paint-box-requires : tie.Need-paint-box-requires
+paint-box-requires c κs = search needs
+
+same-length : tie.Need-same-length
+same-length c = search needs
+
+returns : tie.Need-returns
+returns c =
+    let a = c .before .before .before .before .before .before .before .before .before .before .before .args in
+    let lo = c .before .before .before .before .before .before .before .first-cell in
+    let hi = c .before .before .before .before .before .before .last-cell in
+    let first = c .before .before .before .before .before .first-cell2 in
+    let last = c .before .before .before .before .last-cell2 in
+    fills-in (a .g) (a .t) (lo .result) (hi .result) (first .result) (last .result) (sym (c .before .before .before .before .before .before .before .before .before .counts .ensures) ∙ c .before .before .before .before .before .before .before .before .if1 .taken) (lo .ensures .0) (hi .ensures .0) (first .ensures .0) (last .ensures .0) (c .before .before .paint-box .ensures)
+
+returns-2 : tie.Need-returns-2
+returns-2 c =
+    let a = c .before .before .before .args in
+    fills-out (a .g) (a .t) (a .part .now) (sym (c .before .counts .ensures) ∙ c .if1 .left)
+
+pub paint-spec : {M : Type 1} → statement M
+paint-spec =
+    tie.close
+    (tie.spec
+    counts-requires
+    first-cell-requires
+    last-cell-requires
+    first-cell-requires-2
+    last-cell-requires-2
+    paint-box-requires
+    same-length
+    returns
+    returns-2)

@@ -1,0 +1,81 @@
+-- `paint::paint_row` meets its contract: the columns from lo on, below i, are painted. Assumes nothing.
+use mathlib.Core.Path.{_≡_, refl}
+use Prim.Native.Nat.{_+_, _-_, _≤_, max}
+use native.Mathlib.Omega.{arith}
+use lib.ListN.{length}
+use borrow.Author.Needs.{needs}
+use Rattle.paint.specs.Painted.{Adds}
+use Rattle.paint.proofs.Boxes.{in-grid, rowSofar, row-first, row-next, row-last}
+use Rattle.paint.proofs.paint_row.Statement.{statement}
+use Rattle.paint.proofs.paint_row.Tie as tie
+
+abbrev Inv-loop : tie.InvT-loop
+Inv-loop part₀ g t j lo hi row py i₀ part i = (lo ≤ i) × (i ≤ max lo (hi + 1)) × (length part ≡ length part₀) × Adds part₀ part (rowSofar g t j lo i)
+
+abbrev μ-loop : tie.MeasureT-loop
+μ-loop part₀ g t j lo hi row py i₀ part i = hi + 1 - i
+
+mul-row : tie.Need-mul-row Inv-loop μ-loop
+mul-row c = let a = c .before .before .args in omega (arith, in-grid (a .g .nx) (a .g .ny) 0 (a .j) (omega arith) (omega arith))
+
+centre-requires : tie.Need-centre-requires Inv-loop μ-loop
+centre-requires c κs = search needs
+
+loop-holds : tie.Need-loop-holds Inv-loop μ-loop
+loop-holds c =
+    let a = c .before .before .before .args in
+    (omega arith, omega arith, refl, row-first (a .g) (a .t) (a .j) (a .lo) (a .part .now))
+
+add-mark : tie.Need-add-mark Inv-loop μ-loop
+add-mark c = let a = c .before .before .before .before .before .before .args in omega (arith, in-grid (a .g .nx) (a .g .ny) (c .before .before .loop .i) (a .j) (omega arith) (omega arith))
+
+centre-requires-2 : tie.Need-centre-requires-2 Inv-loop μ-loop
+centre-requires-2 c κs = search needs
+
+mark-requires : tie.Need-mark-requires Inv-loop μ-loop
+mark-requires c κs =
+    let a = c .before .before .before .before .before .before .before .args in
+    let l = c .before .before .before .loop in
+    omega (arith, in-grid (a .g .nx) (a .g .ny) (l .i) (a .j) (omega arith) (omega arith), l .inv .2)
+
+add-i : tie.Need-add-i Inv-loop μ-loop
+add-i c = search needs
+
+loop-less : tie.Need-loop-less Inv-loop μ-loop
+loop-less c = search needs
+
+loop-again : tie.Need-loop-again Inv-loop μ-loop
+loop-again c =
+    let a = c .before .before .before .before .before .before .before .before .before .before .args in
+    let l = c .before .before .before .before .before .before .loop in
+    let m = c .before .before .mark in
+    let x = c .before .before .before .centre2 in
+    let y = c .before .before .before .before .before .before .before .centre in
+    (omega arith, omega arith, omega (arith, m .kept, l .inv .2), row-next (a .g) (a .t) (a .j) (a .lo) (l .i) (x .result) (y .result) (omega arith) (omega arith) (x .ensures) (y .ensures) (l .inv .3) (m .ensures))
+
+same-length : tie.Need-same-length Inv-loop μ-loop
+same-length c = search needs
+
+returns : tie.Need-returns Inv-loop μ-loop
+returns c =
+    let a = c .before .before .before .before .before .args in
+    let l = c .before .loop in
+    row-last (a .g) (a .t) (a .j) (a .lo) (a .hi) (l .i) (omega arith) (l .inv .1) (l .inv .3)
+
+pub paint-row-spec : {M : Type 1} → statement M
+paint-row-spec =
+    tie.close
+    (tie.spec
+    Inv-loop
+    μ-loop
+    mul-row
+    centre-requires
+    loop-holds
+    add-mark
+    centre-requires-2
+    mark-requires
+    add-i
+    loop-less
+    loop-again
+    same-length
+    returns)

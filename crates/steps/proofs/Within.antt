@@ -1,0 +1,69 @@
+-- How often an edge is used each way, at most: the bound of lists put together. With it a table that has room still has room after a step. Assumes nothing.
+use mathlib.Core.Path.{_≡_}
+use mathlib.Core.List.{List, [], _∷_, _++_}
+use Prim.Native.Nat.{ℕ, _+_, _-_, _≤_, _<_}
+use native.Mathlib.Omega.{arith}
+use native.Mathlib.Decide.{decLt}
+use lib.ListN.{length, length-append}
+use Rattle.ids.specs.Uses.{Use, uses}
+use Rattle.ids.specs.EdgeChain.{Edge, sameEdge}
+use Rattle.table.specs.Rows.{Free}
+use Rattle.table.specs.Table.{ups}
+use Rattle.table.proofs.Search.{has-free}
+use Rattle.table.proofs.Sums.{ups-le, uses-le}
+use Rattle.steps.specs.Rows.{edgeAt, wordAt, usesAt, EdgeTable, Within, Room}
+use Rattle.table.proofs.Counts.{Roomy}
+
+pub uses-append : (k : Edge) (es fs : List (Use Edge)) → uses sameEdge k (es ++ fs) ≡ uses sameEdge k es + uses sameEdge k fs
+unfolding uses
+uses-append k [] fs = omega arith
+uses-append k (e ∷ es) fs = omega (arith, uses-append k es fs)
+
+pub ups-append : (k : Edge) (es fs : List (Use Edge)) → ups sameEdge k (es ++ fs) ≡ ups sameEdge k es + ups sameEdge k fs
+unfolding ups
+ups-append k [] fs = omega arith
+ups-append k (e ∷ es) fs = omega (arith, ups-append k es fs)
+
+-- no list uses an edge more often than it is long
+pub within-length : (m : ℕ) (es : List (Use Edge)) → length es ≤ m → Within m es
+within-length m es l k = (omega (arith, ups-le sameEdge k es, uses-le sameEdge k es), omega (arith, uses-le sameEdge k es))
+
+pub within-le : (m o : ℕ) (es : List (Use Edge)) → m ≤ o → Within m es → Within o es
+within-le m o es l w k = (omega (arith, w k .0), omega (arith, w k .1))
+
+pub within-append : (m o : ℕ) (es fs : List (Use Edge)) → Within m es → Within o fs → Within (m + o) (es ++ fs)
+within-append m o es fs v w k =
+    (omega (arith, ups-append k es fs, v k .0, w k .0), omega (arith, ups-append k es fs, uses-append k es fs, v k .1, w k .1))
+
+-- ---- room
+
+pub room-free : (n : ℕ) (t : List ℕ) → Room n t 1 → Free n (usesAt t)
+room-free n t w = has-free (usesAt t) n (omega (arith, w .rows-left, w .means .rows .total))
+
+pub room-word : (n : ℕ) (t : List ℕ) → Room n t 1 → (i : ℕ) → i < n → Roomy (wordAt t i)
+room-word n t w i l =
+    elim (decLt 0 (usesAt t i)) [
+      | yes p ↦ (let b = w .counts-left (edgeAt t i) in
+          record { ups-left = omega (arith, w .means .rows .upped i l p, b .0); downs-left = omega (arith, w .means .rows .upped i l p, w .means .rows .counted i l p, b .1) })
+      | no p ↦ record { ups-left = omega (arith, w .means .rows .blank i l (omega arith)); downs-left = omega arith }
+    ]
+
+-- room for more is room for less
+pub room-less : (n : ℕ) (t : List ℕ) (k m : ℕ) → m ≤ k → Room n t k → Room n t m
+room-less n t k m l w = record {
+  so-far = w .so-far;
+  rows-left = omega (arith, w .rows-left);
+  counts-left = within-le (65535 - k) (65535 - m) (w .so-far) (omega arith) (w .counts-left);
+  means = w .means;
+}
+
+-- after the uses fs there is room for so many fewer
+pub room-after : (n : ℕ) (t u : List ℕ) (k m : ℕ) (fs : List (Use Edge)) → length fs + m ≤ k → k ≤ 65535
+    → (w : Room n t k) → EdgeTable n u (w .so-far ++ fs) → Room n u m
+room-after n t u k m fs l small w means = record {
+  so-far = w .so-far ++ fs;
+  rows-left = omega (arith, length-append (w .so-far) fs, w .rows-left);
+  counts-left = within-le (65535 - k + length fs) (65535 - m) (w .so-far ++ fs) (omega arith)
+      (within-append (65535 - k) (length fs) (w .so-far) fs (w .counts-left) (within-length (length fs) fs (omega arith)));
+  means = means;
+}

@@ -1,0 +1,2 @@
+-- What the table of edges means.
+pub mod Rows

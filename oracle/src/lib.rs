@@ -17,6 +17,7 @@ pub mod frames;
 pub mod ids;
 pub mod kinds;
 pub mod listing;
+pub mod moves;
 pub mod pieces;
 pub mod program;
 pub mod random;

@@ -1,6 +1,6 @@
 //! The listing (01, 'The program `takeoff`'): what the program prints for a file.
 
-use crate::file;
+use crate::file::{self, MeshFile};
 use crate::mesh::qto::probe;
 use crate::pieces::pieces;
 use crate::record::{compute, Answer, Exception, Lent, Record};
@@ -19,13 +19,22 @@ pub fn listing(bytes: &[u8]) -> (String, Exception) {
 }
 
 /// The text that `replay` has to print for a file: its listing, and where the file could be read, also with a refusal of
-/// the mesh, a line with what the routines on ids answer.
+/// the mesh, a line with what the routines on ids answer, and the refusal of the same mesh with one work word less.
 pub fn replayed(bytes: &[u8]) -> (String, Exception) {
     let (mut text, exception) = listing(bytes);
     if let Ok(mesh) = file::read(bytes) {
-        text += &routines(&mesh.ids);
+        text += &format!("{} short {}\n", routines(&mesh.ids), one_word_short(&mesh));
     }
     (text, exception)
+}
+
+/// 0 for a record: the zero record asks for no words.
+fn one_word_short(mesh: &MeshFile) -> u32 {
+    let exact = Lent::exactly(mesh.vertices.len(), mesh.ids.len());
+    match compute(mesh, Lent { work: exact.work.saturating_sub(1), ..exact }) {
+        Answer::Refused(refusal) => refusal,
+        Answer::Record(..) => 0,
+    }
 }
 
 /// Yes is 1 and no is 0; the largest face sum is decimal.
@@ -34,7 +43,7 @@ fn routines(ids: &[u32]) -> String {
     let (largest, all_cancel) = probe::face_net(ids);
     let (manifold, winding) = (probe::is_closed_manifold(ids), probe::winding_coherent(ids));
     let [b, o, z, m, w] = [boundary_free, over_incident, all_cancel, manifold, winding].map(u32::from);
-    format!("chain {b} {o} net {largest} {z} manifold {m} winding {w}\n")
+    format!("chain {b} {o} net {largest} {z} manifold {m} winding {w}")
 }
 
 fn refused(refusal: u32) -> String {

@@ -27,8 +27,9 @@ oracle: the unchanged Rust original, asked in document 01's words
                                of 'meshes'
   oracle stored names          names them, a line each
   oracle replayed              standard input as for 'listing'; prints what 'replay' has to print (crates/replay/stdout):
-                               each listing and, where the file could be read, 'chain B O net L Z manifold M winding W':
-                               boundary-free, over-incident, largest face sum, all sums 0, and the two answers
+                               each listing and, where the file could be read, 'chain B O net L Z manifold M winding W short R':
+                               boundary-free, over-incident, largest face sum, all sums 0, the two answers, and the refusal
+                               of the mesh with one work word less (0 for a record)
 
 Against the program:
 
@@ -59,6 +60,10 @@ a folder with a libcapi.a of its kind when this is built):
                                turn, over areas that are exact, one short, longer and far too short: refusals, all words
                                of the record, every row and every place of the areas; meshes near the one exception are
                                counted and compared by document 01's exact form; last line 'A agree, D differ'
+  oracle moves N               demand 3 on N pairs of every kind in turn, a whole-number mesh and the same moved by whole
+                               numbers, over areas as for 'compute' that hold the same before both calls: the two answers,
+                               all words of the record, every place of the areas; of two open shells best volume, method,
+                               trust and bound may differ, and how often they do is counted; last line 'A agree, D differ'
   oracle speed compute         milliseconds a record, at an eighth of the most triangles up to all; nanoseconds for small
 ";
 
@@ -86,12 +91,13 @@ fn main() -> ExitCode {
             _ => return usage("SEED and COUNT are whole numbers from 0 up"),
         },
         ["floats", "all"] => port::run(Run::FloatsAll),
-        [command @ ("floats" | "ids" | "weld" | "raster" | "compute"), n] => match (*command, n.parse()) {
+        [command @ ("floats" | "ids" | "weld" | "raster" | "compute" | "moves"), n] => match (*command, n.parse()) {
             ("floats", Ok(n)) => port::run(Run::Floats(n)),
             ("ids", Ok(n)) => port::run(Run::Ids(n)),
             ("weld", Ok(n)) => port::run(Run::Weld(n)),
             ("raster", Ok(n)) => port::run(Run::Raster(n)),
-            (_, Ok(n)) => port::run(Run::Compute(n)),
+            ("compute", Ok(n)) => port::run(Run::Compute(n)),
+            (_, Ok(n)) => port::run(Run::Moves(n)),
             _ => return usage("N is a whole number from 0 up, or 'all' of floats"),
         },
         ["speed", "floats"] => port::run(Run::SpeedFloats),

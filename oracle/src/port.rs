@@ -11,6 +11,7 @@ pub enum Run {
     Weld(u64),
     Raster(u64),
     Compute(u64),
+    Moves(u64),
     SpeedFloats,
     SpeedIds,
     SpeedWeld,
@@ -36,6 +37,7 @@ pub fn run(run: Run) -> io::Result<ExitCode> {
         Run::Weld(n) => linked::weld(n),
         Run::Raster(n) => linked::raster(n),
         Run::Compute(n) => linked::compute(n),
+        Run::Moves(n) => linked::moves(n),
         Run::SpeedFloats => linked::speed_floats(),
         Run::SpeedIds => linked::speed_ids(),
         Run::SpeedWeld => linked::speed_weld(),
@@ -48,8 +50,8 @@ pub fn run(run: Run) -> io::Result<ExitCode> {
 mod linked {
     use mowfrost_oracle::floats::compare::{on_all_32, on_chance, on_edges, Count};
     use mowfrost_oracle::floats::helpers::{Width, HELPERS};
-    use mowfrost_oracle::{compute, floats, ids, raster, weld};
-    use std::io::{self, Write};
+    use mowfrost_oracle::{compute, floats, ids, moves, raster, weld};
+    use std::io::{self, StdoutLock, Write};
     use std::process::ExitCode;
 
     /// A line, how many agree and differ, and the first that differ.
@@ -119,9 +121,26 @@ mod linked {
     pub fn compute(n: u64) -> io::Result<ExitCode> {
         use compute::compare::{all, PORT};
         sum(all(PORT, n).map(|(on, count)| -> Line {
-            let line = format!("{on:<18} {:>8} agree, {} differ ({})", count.agree, count.differ, count.reached());
+            let line = reached(on, count.agree, count.differ, &count.reached());
             (line, count.agree, count.differ, [count.shown, count.noted].concat())
         }))
+    }
+
+    /// A line a kind, one for all kinds, then the sums.
+    pub fn moves(n: u64) -> io::Result<ExitCode> {
+        use moves::compare::{on_chance, Count};
+        let line = |on: &str, count: &Count| reached(on, count.agree, count.differ, &count.reached());
+        let (mut out, mut all) = (io::stdout().lock(), Count::default());
+        for (on, count) in on_chance(compute::compare::PORT, n) {
+            show(&mut out, &line(on, &count), &count.shown)?;
+            all.join(&count);
+        }
+        show(&mut out, &line("all kinds", &all), &[])?;
+        end(&mut out, all.agree, all.differ)
+    }
+
+    fn reached(on: &str, agree: u64, differ: u64, reached: &str) -> String {
+        format!("{on:<18} {agree:>8} agree, {differ} differ ({reached})")
     }
 
     /// Prints each line with what it shows, then the sums.
@@ -129,12 +148,18 @@ mod linked {
         let mut out = io::stdout().lock();
         let (mut agree, mut differ) = (0, 0);
         for (line, a, d, shown) in lines {
-            writeln!(out, "{line}")?;
-            for line in shown {
-                writeln!(out, "  {line}")?;
-            }
+            show(&mut out, &line, &shown)?;
             (agree, differ) = (agree + a, differ + d);
         }
+        end(&mut out, agree, differ)
+    }
+
+    fn show(out: &mut StdoutLock, line: &str, shown: &[String]) -> io::Result<()> {
+        writeln!(out, "{line}")?;
+        shown.iter().try_for_each(|line| writeln!(out, "  {line}"))
+    }
+
+    fn end(out: &mut StdoutLock, agree: u64, differ: u64) -> io::Result<ExitCode> {
         writeln!(out, "{agree} agree, {differ} differ")?;
         Ok(if differ == 0 { ExitCode::SUCCESS } else { ExitCode::FAILURE })
     }

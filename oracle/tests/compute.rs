@@ -1,21 +1,21 @@
 //! The port's record beside document 01's: large meshes and some thousand by chance here, more by `oracle compute N`. That
-//! the comparison finds mistakes is tried with ports written here, so all but the first test run without the library.
+//! the comparison finds mistakes is tried with ports written for it (`ways`), so all but the first test run without the library.
 
 use mowfrost_oracle::compute::areas::{Areas, WORDS};
-use mowfrost_oracle::compute::compare::{
-    is_zero_record, on_chance, on_large, on_limits, words, Call, Count, Port, REFUSED,
-};
+use mowfrost_oracle::compute::compare::{is_zero_record, on_chance, on_large, on_limits, Call, Count, Port};
 use mowfrost_oracle::compute::meshes::{by_chance, kinds, large, limits};
 use mowfrost_oracle::file::{Flags, MeshFile};
-use mowfrost_oracle::record::{compute, original, Answer, Lent, Record, FARTHEST, MOST, RASTER_BYTES};
+use mowfrost_oracle::record::{original, Lent, Record, FARTHEST, MOST, RASTER_BYTES};
+
+mod ways;
+
+use ways::{Way, RIGHT};
 
 fn sum(counts: impl Iterator<Item = (&'static str, Count)>) -> Count {
     counts.fold(Count::default(), |mut sum, (_, count)| {
         (sum.agree, sum.differ) = (sum.agree + count.agree, sum.differ + count.differ);
         (sum.near, sum.otherwise) = (sum.near + count.near, sum.otherwise + count.otherwise);
-        sum.zero += count.zero;
-        (0..5).for_each(|i| sum.refused[i] += count.refused[i]);
-        (0..3).for_each(|i| sum.verdicts[i] += count.verdicts[i]);
+        sum.tally.join(&count.tally);
         sum.shown.extend(count.shown);
         sum
     })
@@ -29,70 +29,11 @@ fn every_record_agrees() {
     assert_eq!(count.differ, 0, "{:?}", count.shown);
 }
 
-/// A port in document 01's words over the original, with one thing of it open.
-struct Way {
-    flags: fn(u32, u32) -> Option<Flags>,
-    /// The mesh that is taken for the one given.
-    mesh: fn(&mut MeshFile),
-    /// Before the table of refusals.
-    first: fn(&MeshFile, Lent) -> Option<u32>,
-    /// The lengths that the table sees.
-    asked: fn(&MeshFile, Lent) -> Lent,
-    record: fn(&MeshFile, &mut Record),
-    words: fn(&mut [u32; WORDS]),
-    /// So many work words and raster bytes are zeroed more than promised.
-    more: (i64, i64),
-    /// After all else.
-    last: fn(u32, &MeshFile, &mut Areas, &mut [u32; WORDS]),
-}
-
-const RIGHT: Way = Way {
-    flags: |clip, defect| (clip < 2 && defect < 5).then_some(Flags { clip: clip == 1, defect: defect as u8 }),
-    mesh: |_| {},
-    first: |_, _| None,
-    asked: |_, lent| lent,
-    record: |_, _| {},
-    words: |_| {},
-    more: (0, 0),
-    last: |_, _, _, _| {},
-};
-
 fn found(port: Port) -> bool {
     on_chance(port, 8_000).any(|(_, count)| count.differ > 0)
 }
 
 impl Way {
-    fn call(&self, call: &Call, mut areas: Areas, record: &mut [u32; WORDS]) -> u32 {
-        let answer = self.answer(call, &mut areas, record);
-        (self.last)(answer, call.mesh, &mut areas, record);
-        answer
-    }
-
-    fn answer(&self, call: &Call, areas: &mut Areas, record: &mut [u32; WORDS]) -> u32 {
-        let Some(flags) = (self.flags)(call.clip, call.defect) else { return REFUSED | 5 };
-        let mut mesh = MeshFile { flags, ..call.mesh.clone() };
-        (self.mesh)(&mut mesh);
-        let lent = Lent { work: areas.work.len(), raster: areas.raster.len(), surfaces: areas.surfaces.len() };
-        if let Some(refusal) = (self.first)(&mesh, lent) {
-            return REFUSED | refusal;
-        }
-        let mut right = match compute(&mesh, (self.asked)(&mesh, lent)) {
-            Answer::Refused(refusal) => return REFUSED | refusal,
-            Answer::Record(right, _) => right,
-        };
-        (self.record)(&mesh, &mut right);
-        *record = words(&right);
-        (self.words)(record);
-        if !is_zero_record(&mesh) {
-            let exact = Lent::exactly(mesh.vertices.len(), mesh.ids.len());
-            let zeroed = |exact: usize, more: i64, lent: usize| exact.saturating_add_signed(more as isize).min(lent);
-            areas.work[..zeroed(exact.work, self.more.0, lent.work)].fill(0);
-            areas.raster[..zeroed(exact.raster, self.more.1, lent.raster)].fill(0);
-            right.rows.iter().flatten().zip(areas.surfaces.iter_mut()).for_each(|(x, to)| *to = x.to_bits());
-        }
-        0
-    }
-
     fn found(&self) -> bool {
         let port = |call: &Call, areas: Areas, record: &mut [u32; WORDS]| self.call(call, areas, record);
         found(&port)
@@ -105,14 +46,18 @@ fn the_right_way_agrees_and_reaches_everything() {
     let (chance, limits, large) = (sum(on_chance(port, 20_000)), on_limits(port), on_large(port));
     for count in [&chance, &limits, &large] {
         assert_eq!(count.differ, 0, "{:?}", count.shown);
-        assert!(count.refused[2] > 20 && count.refused[4] > 50);
+        assert!(count.tally.refused[2] > 20 && count.tally.refused[4] > 50);
     }
-    let [one, two, three, four, five] = chance.refused;
-    assert!(one == 0 && two > 3_000 && three > 20_000 && four > 2_000 && five > 2_000, "{:?}", chance.refused);
-    assert!(chance.zero > 5_000 && chance.verdicts.iter().all(|&times| times > 2_000), "{}", chance.reached());
+    let [one, two, three, four, five] = chance.tally.refused;
+    assert!(one == 0 && two > 3_000 && three > 20_000 && four > 2_000 && five > 2_000, "{:?}", chance.tally.refused);
+    assert!(
+        chance.tally.zero > 5_000 && chance.tally.verdicts.iter().all(|&times| times > 2_000),
+        "{}",
+        chance.reached()
+    );
     assert!(chance.near > 100 && chance.otherwise > 0, "{}", chance.reached());
-    assert!(limits.refused.iter().all(|&times| times > 5) && limits.zero > 30, "{}", limits.reached());
-    assert!(large.verdicts.iter().all(|&times| times > 3), "{}", large.reached());
+    assert!(limits.tally.refused.iter().all(|&times| times > 5) && limits.tally.zero > 30, "{}", limits.reached());
+    assert!(large.tally.verdicts.iter().all(|&times| times > 3), "{}", large.reached());
 }
 
 #[test]

@@ -38,7 +38,7 @@ fn everything_is_reached() {
 
 #[test]
 fn they_are_few_short_and_all_different() {
-    assert!((200..=400).contains(&STORED.len()), "{}", STORED.len());
+    assert!((200..=450).contains(&STORED.len()), "{}", STORED.len());
     let (bytes, text) = (framed().len(), answers().len());
     assert!(bytes <= 400 << 10 && text <= 400 << 10, "{bytes} and {text} bytes");
     let different: HashSet<_> = STORED.iter().map(|stored| &stored.bytes).collect();
@@ -148,24 +148,24 @@ fn lengths_go_to_the_limit() {
     assert!(rows(64) > 4 && rows(200) > 1, "{} and {}", rows(64), rows(200));
 }
 
-/// What the routines on ids say of document 01's examples.
+/// What the routines on ids say of document 01's examples, and what a work area one word short is told.
 #[test]
-fn the_line_of_ids_has_the_answers() {
+fn the_last_line_has_the_answers() {
     let line = |name: &str| {
         let stored = STORED.iter().find(|stored| stored.name.starts_with(name)).expect("there is one");
         let text = replayed(&stored.bytes).0;
         assert!(text.starts_with(&listing(&stored.bytes).0));
         text.lines().last().unwrap_or("").to_string()
     };
-    assert_eq!(line("the cube"), "chain 1 0 net 1 0 manifold 1 winding 1");
-    assert_eq!(line("faces that cancel: 012 210 333"), "chain 1 0 net 0 1 manifold 1 winding 1");
-    assert_eq!(line("nine zeros"), "chain 0 0 net 0 1 manifold 1 winding 0");
-    assert_eq!(line("each face twice"), "chain 1 1 net 2 0 manifold 0 winding 0");
-    assert_eq!(line("one bad edge of 50"), "chain 0 0 net 1 0 manifold 0 winding 1");
-    assert_eq!(line("one bad edge of 49"), "chain 0 0 net 1 0 manifold 0 winding 0");
-    assert_eq!(line("1,536 ids, one triangle over and over"), "chain 0 1 net 512 0 manifold 0 winding 0");
-    assert_eq!(line("a closed shell, unit and float bad"), "chain 1 0 net 1 0 manifold 1 winding 1");
-    assert_eq!(line("a closed shell, float bad"), "chain 1 0 net 1 0 manifold 1 winding 1");
+    assert_eq!(line("the cube"), "chain 1 0 net 1 0 manifold 1 winding 1 short 3");
+    assert_eq!(line("faces that cancel: 012 210 333"), "chain 1 0 net 0 1 manifold 1 winding 1 short 3");
+    assert_eq!(line("nine zeros"), "chain 0 0 net 0 1 manifold 1 winding 0 short 3");
+    assert_eq!(line("each face twice"), "chain 1 1 net 2 0 manifold 0 winding 0 short 3");
+    assert_eq!(line("one bad edge of 50"), "chain 0 0 net 1 0 manifold 0 winding 1 short 3");
+    assert_eq!(line("one bad edge of 49"), "chain 0 0 net 1 0 manifold 0 winding 0 short 3");
+    assert_eq!(line("1,536 ids, one triangle over and over"), "chain 0 1 net 512 0 manifold 0 winding 0 short 3");
+    assert_eq!(line("a closed shell, unit and float bad"), "chain 1 0 net 1 0 manifold 1 winding 1 short 2");
+    assert_eq!(line("a closed shell, float bad"), "chain 1 0 net 1 0 manifold 1 winding 1 short 3");
     // a file that could not be read has no ids
     assert_eq!((line("1,537 ids").as_str(), line("cut to 0 bytes").as_str()), ("refused 6", "refused 5"));
 }

@@ -91,6 +91,14 @@ impl<T: Copy + PartialEq> Area<T> {
         now[start..end].copy_from_slice(&noise[start..end]);
         wrong
     }
+
+    /// All that it holds, rims included. Then all is noise again.
+    fn take(&mut self, length: usize) -> Vec<T> {
+        let places = self.from - RIM..self.from + length + RIM;
+        let left = self.now[places.clone()].to_vec();
+        self.now[places.clone()].copy_from_slice(&self.noise[places]);
+        left
+    }
 }
 
 /// All that calls are lent, one call after the other.
@@ -134,8 +142,86 @@ impl Lending {
         let raster = self.raster.settle(lent.raster, &ZERO_BYTES[..fronts.raster]).map(|wrong| told("raster", wrong));
         [record, surfaces, work, raster].into_iter().flatten().collect()
     }
+
+    /// All that a call left. The next call finds what this one found.
+    pub fn take(&mut self, lent: Lent) -> Left {
+        Left {
+            work: self.work.take(lent.work),
+            raster: self.raster.take(lent.raster),
+            surfaces: self.surfaces.take(lent.surfaces),
+            record: self.record.take(WORDS),
+        }
+    }
+}
+
+/// What a call left in each area and in its rims.
+pub struct Left {
+    work: Vec<u32>,
+    raster: Vec<u8>,
+    surfaces: Vec<u32>,
+    record: Vec<u32>,
+}
+
+impl Left {
+    pub fn record(&self) -> [u32; WORDS] {
+        self.record[RIM..RIM + WORDS].try_into().expect("so many words")
+    }
+
+    /// The first place of each area where two calls that were lent alike left something else. The free words of the record
+    /// are not looked at.
+    pub fn differences(&self, other: &Left, free: &[usize]) -> Vec<String> {
+        let mut record = other.record.clone();
+        free.iter().for_each(|word| record[RIM + word] = self.record[RIM + word]);
+        let differences = [
+            first_difference("record", &self.record, &record),
+            first_difference("surface", &self.surfaces, &other.surfaces),
+            first_difference("work", &self.work, &other.work),
+            first_difference("raster", &self.raster, &other.raster),
+        ];
+        differences.into_iter().flatten().collect()
+    }
+}
+
+fn first_difference<T: PartialEq + std::fmt::LowerHex>(area: &str, one: &[T], other: &[T]) -> Option<String> {
+    if one == other {
+        return None;
+    }
+    let at = one.iter().zip(other).position(|(one, other)| one != other)?;
+    Some(format!("{area} {} is {:x} and {:x}", at as i64 - RIM as i64, one[at], other[at]))
 }
 
 fn told<T: std::fmt::LowerHex>(area: &str, (place, is, right): (i64, T, T)) -> String {
     format!("{area} {place} is {is:x}, should be {right:x}")
+}
+
+#[cfg(test)]
+mod tests {
+    use super::*;
+
+    /// No routine that keeps to its slices can write there.
+    #[test]
+    fn rims_are_compared() {
+        let lent = Lent { work: 5, raster: 7, surfaces: 3 };
+        let mut lending = Lending::new(1);
+        let mut left = |spoil: fn(&mut Lending)| {
+            lending.lend(lent);
+            spoil(&mut lending);
+            lending.take(lent)
+        };
+        let right = left(|_| {});
+        assert!(right.differences(&left(|_| {}), &[]).is_empty());
+        let mut found = |place: &str, spoil: fn(&mut Lending)| {
+            let found = right.differences(&left(spoil), &[]);
+            assert!(found.len() == 1 && found[0].starts_with(&format!("{place} is ")), "{place}: {found:?}");
+        };
+        found("work -1", |all| all.work.now[RIM - 1] = 0);
+        found("work 5", |all| all.work.now[RIM + 5] = 0);
+        found("raster -32", |all| all.raster.now[0] = 0);
+        found("raster 38", |all| all.raster.now[RIM + 38] = 0);
+        found("surface -1", |all| all.surfaces.now[RIM - 1] = 0);
+        found("surface 3", |all| all.surfaces.now[RIM + 3] = 0);
+        found("record -1", |all| all.record.now[RIM - 1] = 0);
+        found("record 17", |all| all.record.now[RIM + WORDS] = 0);
+        assert!(right.differences(&left(|_| {}), &[]).is_empty(), "all is noise again");
+    }
 }

@@ -20,14 +20,49 @@ pub type Port<'a> = &'a dyn Fn(&Call, Areas, &mut [u32; WORDS]) -> u32;
 #[cfg(port)]
 pub const PORT: Port<'static> = &capi::compute;
 
+/// What calls came to: refusals 1 to 5, zero records, and full records that are closed, open and degenerate.
+#[derive(Default)]
+pub struct Tally {
+    pub refused: [u64; 5],
+    pub zero: u64,
+    pub verdicts: [u64; 3],
+}
+
+impl Tally {
+    /// What came back, and of a record whether it is the zero record, and its quality.
+    pub fn add(&mut self, answer: u32, zero_record: bool, quality: u32) {
+        match answer {
+            0 if zero_record => self.zero += 1,
+            0 => self.verdicts[quality as usize] += 1,
+            _ => self.refused[(answer & !REFUSED) as usize - 1] += 1,
+        }
+    }
+
+    pub fn join(&mut self, other: &Tally) {
+        (0..5).for_each(|i| self.refused[i] += other.refused[i]);
+        (0..3).for_each(|i| self.verdicts[i] += other.verdicts[i]);
+        self.zero += other.zero;
+    }
+
+    /// In words, and what else there is to count behind it; what never came is left out.
+    pub fn told(&self, also: &[(&str, u64)]) -> String {
+        let refused = self.refused.iter().enumerate().map(|(i, times)| (format!("refused {}", i + 1), *times));
+        let verdicts = QUALITIES.iter().zip(self.verdicts).map(|(name, times)| (name.to_string(), times));
+        let also = also.iter().map(|(name, times)| (name.to_string(), *times));
+        let all = refused.chain([("zero record".to_string(), self.zero)]).chain(verdicts).chain(also);
+        all.filter(|(_, times)| *times > 0)
+            .map(|(name, times)| format!("{times} {name}"))
+            .collect::<Vec<_>>()
+            .join(", ")
+    }
+}
+
 #[derive(Default)]
 pub struct Count {
     pub agree: u64,
     pub differ: u64,
-    /// Of the calls that agree: refusals 1 to 5, zero records, and full records that are closed, open and degenerate.
-    pub refused: [u64; 5],
-    pub zero: u64,
-    pub verdicts: [u64; 3],
+    /// What the calls that agree came to.
+    pub tally: Tally,
     /// Meshes near the one exception, and those of them where `powf` answers otherwise.
     pub near: u64,
     pub otherwise: u64,
@@ -115,7 +150,7 @@ impl Promise {
 }
 
 /// Flag values, at least one of them unknown; some would be known if only their low bits were read.
-const UNKNOWN_FLAGS: [(u32, u32); 10] = [
+pub const UNKNOWN_FLAGS: [(u32, u32); 10] = [
     (2, 0),
     (0, 5),
     (2, 5),
@@ -130,7 +165,7 @@ const UNKNOWN_FLAGS: [(u32, u32); 10] = [
 
 /// The areas to lend: exact, each one short by one, all longer; then, always or now and then, several too short or longer,
 /// and none at all.
-fn choices(exact: Lent, all: bool, random: &mut Random) -> Vec<Lent> {
+pub fn choices(exact: Lent, all: bool, random: &mut Random) -> Vec<Lent> {
     let longer = |lent: Lent, random: &mut Random| Lent {
         work: lent.work + random.within(1, 17) as usize,
         raster: lent.raster + random.within(1, 300) as usize,
@@ -202,11 +237,7 @@ impl Count {
             return self.show(&wrong.join("; "), call, lent);
         }
         self.agree += 1;
-        match right.record.first() {
-            None => self.refused[(right.answer & !REFUSED) as usize - 1] += 1,
-            Some(_) if right.zero_record => self.zero += 1,
-            Some(&quality) => self.verdicts[quality as usize] += 1,
-        }
+        self.tally.add(right.answer, right.zero_record, right.record.first().copied().unwrap_or(0));
     }
 
     /// How the mesh stands to the one exception.
@@ -247,19 +278,9 @@ impl Count {
         }
     }
 
-    /// What the calls that agree came to; what never came is left out.
+    /// What the calls that agree came to, and how the meshes stand to the one exception.
     pub fn reached(&self) -> String {
-        let refused = self.refused.iter().enumerate().map(|(i, times)| (format!("refused {}", i + 1), *times));
-        let verdicts = QUALITIES.iter().zip(self.verdicts).map(|(name, times)| (name.to_string(), times));
-        let exception = [
-            ("near the exception".to_string(), self.near),
-            ("where powf answers otherwise".to_string(), self.otherwise),
-        ];
-        let all = refused.chain([("zero record".to_string(), self.zero)]).chain(verdicts).chain(exception);
-        all.filter(|(_, times)| *times > 0)
-            .map(|(name, times)| format!("{times} {name}"))
-            .collect::<Vec<_>>()
-            .join(", ")
+        self.tally.told(&[("near the exception", self.near), ("where powf answers otherwise", self.otherwise)])
     }
 }
 

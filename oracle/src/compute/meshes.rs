@@ -37,16 +37,24 @@ pub fn by_chance(kind: usize, turn: u64) -> MeshFile {
     };
     // gaps are as wide as the weld reaches, and some must stay so
     let gaps = KINDS.get(kind).is_some_and(|kind| kind.name == "gaps") && random.once_in(4);
-    if gaps || random.once_in(1 + (raster_work(&mesh) / MUCH) as usize) {
+    if gaps {
+        mesh
+    } else {
+        affordable(mesh, random)
+    }
+}
+
+/// So many point tests take about as long as all the rest of a small mesh's record.
+const MUCH: f64 = 60_000.0;
+
+/// The mesh as it is, all the more seldom the more point tests it takes; else drawn out.
+pub fn affordable(mesh: MeshFile, random: &mut Random) -> MeshFile {
+    if random.once_in(1 + (raster_work(&mesh) / MUCH) as usize) {
         mesh
     } else {
         drawn_out(mesh)
     }
 }
-
-/// So many point tests take about as long as all the rest of a small mesh's record. Where there are more, the mesh is
-/// asked about as it is all the more seldom.
-const MUCH: f64 = 60_000.0;
 
 /// About how many point tests the footprints of an open shell take; of a closed one, none.
 fn raster_work(mesh: &MeshFile) -> f64 {

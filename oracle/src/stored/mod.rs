@@ -4,6 +4,7 @@
 pub mod examples;
 mod faults;
 mod limits;
+mod places;
 pub mod readings;
 mod thresholds;
 
@@ -51,6 +52,7 @@ pub fn by_hand() -> Vec<Stored> {
     thresholds::thresholds(&mut list);
     readings::mistakes(&mut list);
     faults::faults(&mut list);
+    places::places(&mut list);
     list.0
 }
 

@@ -1,0 +1,373 @@
+//! Demand 3 as a property: the port and the original have it, a port that shows the place anywhere is found, and one that
+//! differs in nothing but the four exceptions is not. The faults are planted in the port where its library is linked, else in
+//! the original.
+
+use mowfrost_oracle::compute::areas::{Areas, WORDS};
+use mowfrost_oracle::compute::compare::{is_zero_record, Call, Port, REFUSED};
+use mowfrost_oracle::file::{read, Flags, MeshFile};
+use mowfrost_oracle::moves::compare::{on_chance, on_kind, Count};
+use mowfrost_oracle::moves::meshes::{kinds, pair, Pair, LEAST_UNIT, LIMIT};
+use mowfrost_oracle::record::{Lent, MOST};
+use mowfrost_oracle::stored::by_hand;
+
+mod ways;
+
+use ways::{Way, RIGHT};
+
+const ORIGINAL: Port<'static> = &|call, areas, record| RIGHT.call(call, areas, record);
+
+#[cfg(port)]
+const BASE: Port<'static> = mowfrost_oracle::compute::compare::PORT;
+#[cfg(not(port))]
+const BASE: Port<'static> = ORIGINAL;
+
+/// The words of the record that may differ between two open shells, in the order in which they are counted.
+const EXCEPTIONS: [usize; 4] = [BEST, METHOD, RELIABLE, BOUND];
+const RELIABLE: usize = 1;
+const METHOD: usize = 2;
+const BEST: usize = 13;
+const BOUND: usize = 15;
+
+fn sum(counts: impl Iterator<Item = (&'static str, Count)>) -> Count {
+    counts.fold(Count::default(), |mut sum, (_, count)| {
+        sum.join(&count);
+        sum.shown.extend(count.shown);
+        sum
+    })
+}
+
+#[cfg(port)]
+#[test]
+fn the_place_does_not_show_in_the_port() {
+    let count = sum(on_chance(BASE, 20_000));
+    assert_eq!((count.agree, count.differ), (20_000, 0), "{:?}", count.shown);
+}
+
+#[test]
+fn nor_in_the_original_and_everything_is_reached() {
+    let count = sum(on_chance(ORIGINAL, 8_000));
+    assert_eq!((count.agree, count.differ), (8_000, 0), "{:?}", count.shown);
+    let [one, two, three, four, five] = count.tally.refused;
+    assert!(one > 0 && two > 200 && three > 800 && four == 0 && five > 200, "{}", count.reached());
+    assert!(count.tally.zero > 200 && count.tally.verdicts.iter().all(|&times| times > 300), "{}", count.reached());
+    assert!(count.free.iter().all(|&times| times > 3), "{}", count.reached());
+}
+
+// ---- planted faults
+
+/// What a call has given, to be spoilt.
+struct Given<'a> {
+    answer: u32,
+    areas: Areas<'a>,
+    record: &'a mut [u32; WORDS],
+}
+
+impl Given<'_> {
+    fn came_to(&self, mesh: &MeshFile) -> &'static str {
+        match self.answer {
+            0 if is_zero_record(mesh) => "zero record",
+            0 => ["closed", "open", "degenerate"][self.record[0] as usize],
+            _ => {
+                ["refused 1", "refused 2", "refused 3", "refused 4", "refused 5"][(self.answer & !REFUSED) as usize - 1]
+            }
+        }
+    }
+
+    fn is_full(&self, mesh: &MeshFile) -> bool {
+        self.answer == 0 && !is_zero_record(mesh)
+    }
+}
+
+type Fault<'a> = &'a dyn Fn(&MeshFile, &mut Given);
+
+/// The port, and a fault behind it.
+fn with(fault: Fault<'_>) -> impl Fn(&Call, Areas, &mut [u32; WORDS]) -> u32 + '_ {
+    move |call, Areas { work, raster, surfaces }, record| {
+        let lent = Areas { work: &mut *work, raster: &mut *raster, surfaces: &mut *surfaces };
+        let answer = BASE(call, lent, record);
+        let mut given = Given { answer, areas: Areas { work, raster, surfaces }, record };
+        fault(call.mesh, &mut given);
+        given.answer
+    }
+}
+
+fn found(port: Port) -> bool {
+    on_chance(port, 8_000).any(|(_, count)| count.differ > 0)
+}
+
+fn first_x(mesh: &MeshFile) -> f32 {
+    mesh.vertices.first().copied().unwrap_or(0.0)
+}
+
+fn is_far(mesh: &MeshFile) -> bool {
+    mesh.vertices.iter().any(|x| x.abs() > (LIMIT / 2) as f32)
+}
+
+#[test]
+fn planted_faults_are_found() {
+    let faults: [(&str, Fault); 11] = [
+        ("a box corner for the box", &|mesh, given| {
+            if given.is_full(mesh) {
+                given.record[5] = mesh.vertices.iter().step_by(3).copied().fold(f32::INFINITY, f32::min).to_bits();
+            }
+        }),
+        ("weld cells left in the work area", &|mesh, given| {
+            if given.is_full(mesh) {
+                let cells = mesh.vertices.iter().map(|x| (x / (1e-4 / mesh.unit)) as i64 as u32);
+                let part = &mut given.areas.work[5 * mesh.ids.len()..];
+                part.iter_mut().zip(cells).take(8).for_each(|(word, cell)| *word = cell);
+            }
+        }),
+        ("a raster byte left where no quarter is a digit any more", &|mesh, given| {
+            if given.came_to(mesh) == "open" {
+                given.areas.raster[65_535] = (first_x(mesh) + 0.25 == first_x(mesh)) as u8;
+            }
+        }),
+        ("rows of equal area in another order below zero", &|mesh, given| {
+            let rows = &mut given.areas.surfaces;
+            if given.answer == 0 && given.record[16] > 1 && rows[0] == rows[4] && first_x(mesh) < 0.0 {
+                rows[..8].rotate_left(4);
+            }
+        }),
+        ("another verdict far out", &|mesh, given| {
+            if given.came_to(mesh) == "closed" && is_far(mesh) {
+                given.record[0] = 1;
+            }
+        }),
+        ("another best volume of a closed shell far out", &|mesh, given| {
+            if given.came_to(mesh) == "closed" && is_far(mesh) {
+                given.record[BEST] += 1;
+            }
+        }),
+        ("a bound of a degenerate mesh", &|mesh, given| {
+            if given.came_to(mesh) == "degenerate" {
+                given.record[BOUND] = first_x(mesh).abs().to_bits();
+            }
+        }),
+        ("no bound of an open shell far out", &|mesh, given| {
+            if given.came_to(mesh) == "open" && is_far(mesh) {
+                given.record[14] = 0;
+            }
+        }),
+        ("a work word of a refused call", &|mesh, given| {
+            if given.answer != 0 {
+                given.areas.work.iter_mut().take(1).for_each(|word| *word = first_x(mesh).to_bits());
+            }
+        }),
+        ("a surface word beside a zero record", &|mesh, given| {
+            if given.came_to(mesh) == "zero record" {
+                given.areas.surfaces.iter_mut().take(1).for_each(|word| *word = first_x(mesh).to_bits());
+            }
+        }),
+        ("another refusal far out", &|mesh, given| {
+            if given.came_to(mesh) == "refused 2" && is_far(mesh) {
+                given.answer = REFUSED | 4;
+            }
+        }),
+    ];
+    assert!(!found(&with(&|_, _| {})), "nothing was planted");
+    for (what, fault) in faults {
+        assert!(found(&with(fault)), "{what}");
+    }
+    let beyond: Port = &|call, areas, record| if is_far(call.mesh) { REFUSED | 4 } else { BASE(call, areas, record) };
+    assert!(found(beyond), "a refusal beyond 2^23");
+    let metres = |mesh: &mut MeshFile| mesh.vertices.iter_mut().for_each(|x| *x = *x * mesh.unit / mesh.unit);
+    let way = Way { mesh: metres, ..RIGHT };
+    assert!(found(&|call, areas, record| way.call(call, areas, record)), "coordinates that were rounded in metres");
+}
+
+/// What a call can come to, and a kind in which many do.
+const CLASSES: [(&str, &str); 8] = [
+    ("closed", "boxes"),
+    ("open", "open boxes"),
+    ("degenerate", "flat"),
+    ("zero record", "zero_record"),
+    ("refused 1", "large"),
+    ("refused 2", "closed"),
+    ("refused 3", "closed"),
+    ("refused 5", "closed"),
+];
+
+/// 0 or 1, and the other one where the mesh is moved by an odd number in all.
+fn parity(mesh: &MeshFile) -> u32 {
+    (mesh.vertices.iter().take(3).map(|x| *x as i64).sum::<i64>() & 1) as u32
+}
+
+/// One place that a call can show something in.
+#[derive(Clone, Copy, Debug)]
+enum Shows {
+    Answer,
+    Record(usize),
+    Work { last: bool },
+    Raster { last: bool },
+    Surfaces { last: bool },
+}
+
+fn end<T>(area: &mut [T], last: bool) -> Option<&mut T> {
+    if last {
+        area.last_mut()
+    } else {
+        area.first_mut()
+    }
+}
+
+impl Shows {
+    fn all() -> impl Iterator<Item = Shows> {
+        let ends = [false, true].into_iter();
+        let areas = ends.flat_map(|last| [Shows::Work { last }, Shows::Raster { last }, Shows::Surfaces { last }]);
+        [Shows::Answer].into_iter().chain((0..WORDS).map(Shows::Record)).chain(areas)
+    }
+
+    /// A bit of the place: an answer becomes refusal 4, which no call of a pair comes to, and a quality another one.
+    fn show(self, bit: u32, given: &mut Given) {
+        let Given { answer, areas: Areas { work, raster, surfaces }, record } = given;
+        match self {
+            Shows::Answer => *answer = if bit == 1 { REFUSED | 4 } else { *answer },
+            Shows::Record(0) => record[0] = (record[0] + bit) % 3,
+            Shows::Record(word) => record[word] ^= bit,
+            Shows::Work { last } => end(work, last).into_iter().for_each(|word| *word ^= bit),
+            Shows::Raster { last } => end(raster, last).into_iter().for_each(|byte| *byte ^= bit as u8),
+            Shows::Surfaces { last } => end(surfaces, last).into_iter().for_each(|word| *word ^= bit),
+        }
+    }
+}
+
+/// In the answer, in a word of the record or at an end of an area, whatever a call comes to: the place is found, but for the
+/// four words of an open shell.
+#[test]
+fn the_place_is_found_wherever_it_shows() {
+    for (of, kind) in CLASSES {
+        let kind = kinds().iter().position(|name| *name == kind).expect("a kind of that name");
+        let n = if of == "refused 1" { 40_000 } else { 4_000 };
+        for shows in Shows::all() {
+            let fault: Fault = &|mesh, given| {
+                if given.came_to(mesh) == of {
+                    shows.show(parity(mesh), given);
+                }
+            };
+            let free = of == "open" && matches!(shows, Shows::Record(word) if EXCEPTIONS.contains(&word));
+            assert_eq!(on_kind(&with(fault), kind, n).differ == 0, free, "{shows:?} of {of}");
+        }
+    }
+}
+
+/// Each of the four alone, and all at once: every pair agrees, and those in which they differ are counted.
+#[test]
+fn the_four_exceptions_of_open_shells_agree() {
+    for differ in EXCEPTIONS.map(|word| vec![word]).into_iter().chain([EXCEPTIONS.to_vec()]) {
+        let fault: Fault = &|mesh, given| {
+            if given.came_to(mesh) == "open" {
+                differ.iter().for_each(|&word| given.record[word] ^= parity(mesh));
+            }
+        };
+        let count = sum(on_chance(&with(fault), 4_000));
+        assert_eq!(count.differ, 0, "{:?}", count.shown);
+        for (word, times) in EXCEPTIONS.iter().zip(count.free) {
+            let many = times > count.tally.verdicts[1] * 3 / 8;
+            assert_eq!(many, differ.contains(word), "{word} of {differ:?}: {}", count.reached());
+        }
+    }
+}
+
+// ---- the pairs
+
+/// How far the mesh is moved along each axis; nothing where demand 3 does not speak of the two.
+fn moved(here: &MeshFile, there: &MeshFile) -> Option<[i64; 3]> {
+    let whole = |x: &f32| x.fract() == 0.0 && x.abs() <= LIMIT as f32 && x.to_bits() != (-0.0f32).to_bits();
+    let alike = here.ids == there.ids && here.flags == there.flags && here.unit.to_bits() == there.unit.to_bits();
+    let mut by = [None; 3];
+    let even = here.vertices.iter().zip(&there.vertices).enumerate().all(|(i, (x, y))| {
+        let step = *y as i64 - *x as i64;
+        *by[i % 3].get_or_insert(step) == step
+    });
+    let same_length = here.vertices.len() == there.vertices.len();
+    let all_whole = here.vertices.iter().chain(&there.vertices).all(whole);
+    (alike && even && same_length && all_whole && here.unit >= LEAST_UNIT).then(|| by.map(|step| step.unwrap_or(0)))
+}
+
+#[test]
+fn the_pairs_have_what_they_are_for() {
+    let pairs: Vec<Pair> = (0..kinds().len()).flat_map(|kind| (0..300).map(move |turn| pair(kind, turn))).collect();
+    let moves: Vec<[i64; 3]> =
+        pairs.iter().map(|pair| moved(&pair.here, &pair.there).expect("demand 3 speaks of it")).collect();
+    let some = |test: &dyn Fn(&Pair, [i64; 3]) -> bool| {
+        pairs.iter().zip(&moves).filter(|(pair, by)| test(pair, **by)).count() > 20
+    };
+    let far = LIMIT as f32;
+    for end in [-far, far] {
+        assert!(
+            some(&|pair, _| pair.here.vertices.contains(&end)) && some(&|pair, _| pair.there.vertices.contains(&end))
+        );
+    }
+    let ends = |mesh: &MeshFile| {
+        let all = || mesh.vertices.iter().step_by(3).copied();
+        [all().fold(f32::INFINITY, f32::min), all().fold(f32::NEG_INFINITY, f32::max)]
+    };
+    let side = |mesh: &MeshFile| ends(mesh)[1] as i64 - ends(mesh)[0] as i64;
+    assert!(some(&|pair, [x, ..]| side(&pair.here) > 0 && x.abs() == 2 * LIMIT - side(&pair.here)), "end to end");
+    assert!(some(&|pair, _| side(&pair.here) > LIMIT && side(&pair.here) % 2 == 1), "a side of 25 digits");
+    assert!(some(&|pair, _| side(&pair.here) == 1) && some(&|pair, _| ends(&pair.here)[1] < 0.0));
+    assert!(
+        some(&|_, by| by.contains(&0) && by != [0; 3]) && some(&|_, by| by.iter().all(|step| step.abs() > 1 << 20))
+    );
+    assert!(some(&|_, by| by.contains(&1)) && some(&|_, by| by.contains(&-1)));
+    for unit in [LEAST_UNIT, LEAST_UNIT.next_up(), 0.01, 0.1, 1.0, 16.0, 16f32.next_up(), f32::INFINITY] {
+        assert!(some(&|pair, _| pair.here.unit == unit), "{unit}");
+    }
+    for (clip, defect) in (0..10).map(|i| (i / 5, i % 5)) {
+        assert!(some(&|pair, _| (pair.clip, pair.defect) == (clip, defect)), "{clip} {defect}");
+    }
+    assert!(some(&|pair, _| pair.clip > 1 || pair.defect > 4));
+    for rest in 0..3 {
+        assert!(
+            some(&|pair, _| pair.here.vertices.len() % 3 == rest) && some(&|pair, _| pair.here.ids.len() % 3 == rest)
+        );
+    }
+    assert!(some(&|pair, _| pair.here.vertices.len() < 9) && some(&|pair, _| pair.here.ids.len() < 3));
+    let past = |pair: &Pair, id: u32| id as usize >= pair.here.vertices.len() / 3;
+    assert!(some(&|pair, _| pair.here.ids.iter().any(|&id| past(pair, id))));
+    let large = kinds().len() - 1;
+    let sizes: Vec<usize> = (0..1000).map(|turn| pair(large, turn).here.ids.len()).collect();
+    assert!(sizes.iter().any(|&ids| ids > MOST) && sizes.iter().any(|&ids| ids > MOST - 400 && ids <= MOST));
+}
+
+// ---- the stored pairs
+
+/// The record and the areas that a port leaves, over areas that held nothing.
+fn left(port: Port, mesh: &MeshFile) -> ([u32; WORDS], [Vec<u32>; 2], Vec<u8>) {
+    let exact = Lent::exactly(mesh.vertices.len(), mesh.ids.len());
+    let (mut work, mut raster, mut surfaces) = (vec![0; exact.work], vec![0; exact.raster], vec![0; exact.surfaces]);
+    let (mut record, Flags { clip, defect }) = ([0; WORDS], mesh.flags);
+    let areas = Areas { work: &mut work, raster: &mut raster, surfaces: &mut surfaces };
+    let answer = port(&Call { mesh, clip: clip as u32, defect: defect as u32 }, areas, &mut record);
+    assert_eq!(answer, 0);
+    (record, [work, surfaces], raster)
+}
+
+/// In each pair of `stored::places` so many of the four differ and nothing else, in the original and in the port.
+#[test]
+fn each_exception_is_needed() {
+    let stored = by_hand();
+    let mesh = |name: String| {
+        let stored = stored.iter().find(|stored| stored.name == name).expect("there is one of that name");
+        read(&stored.bytes).expect("it can be read")
+    };
+    let (half, most) = (257.0 / 512.0, 0.75);
+    for (name, differ, best) in [
+        ("bound", &[BOUND][..], [0.5, 0.5]),
+        ("best", &[BEST, BOUND], [half, most]),
+        ("trust", &[RELIABLE, METHOD, BEST, BOUND], [half, 2.0 / 3.0]),
+        ("clip", &[METHOD, BEST, BOUND], [half, 2.0 / 3.0]),
+    ] {
+        let [here, there] = ["here", "there"].map(|place| mesh(format!("place_{name}_{place}")));
+        assert_eq!(moved(&here, &there), Some([1 << 23, 1 << 23, 0]));
+        for port in [ORIGINAL, BASE] {
+            let (one, other) = (left(port, &here), left(port, &there));
+            let words: Vec<usize> = (0..WORDS).filter(|&word| one.0[word] != other.0[word]).collect();
+            assert_eq!(words, differ, "{name}");
+            assert!(one.1 == other.1 && one.2 == other.2, "{name}");
+            let number = |word: usize| [one.0[word], other.0[word]].map(f32::from_bits);
+            assert_eq!((number(BOUND), number(BEST)), ([half, most], best), "{name}");
+        }
+    }
+}

@@ -1,59 +1,13 @@
 // The record under the name of the C interface: `compute` with its flags, and the answer as a number and 17 words.
 ghost use mathlib.Core.Path.{_≡_};
-ghost use Rattle.record.specs.Numbers.{qualityNumber, methodNumber, defectNumber, profileNumber, prismNumber, prismBits};
+ghost use Rattle.record.specs.Numbers.{prismNumber, prismBits};
 ghost use Rattle.qto.specs.Numbers.{wordsOf, ComputesNumbered};
 use crate::ids_c::REFUSED;
 use qto::Answer;
 use record::MeshQto;
-use record::Profile;
-use record::ProfileDefect;
-use verdict::Quality;
-use volume::Method;
 use volume::PrismBound;
 
-// ---- enums as numbers
-
-fn quality_number(quality: Quality) -> u32
-    ensures { λ r. ⌜ r ≡ qualityNumber quality ⌝ }
-{
-    match quality {
-        Quality::Closed => 0,
-        Quality::OpenShell => 1,
-        Quality::Degenerate => 2,
-    }
-}
-
-fn method_number(method: Method) -> u32
-    ensures { λ r. ⌜ r ≡ methodNumber method ⌝ }
-{
-    match method {
-        Method::Mesh => 0,
-        Method::MeshOpen => 1,
-        Method::PrismFallback => 2,
-        Method::MeshUnclipped => 3,
-        Method::MeshProfileInvalid => 4,
-    }
-}
-
-fn defect_number(defect: ProfileDefect) -> u32
-    ensures { λ r. ⌜ r ≡ defectNumber defect ⌝ }
-{
-    match defect {
-        ProfileDefect::SelfIntersecting => 1,
-        ProfileDefect::Degenerate => 2,
-        ProfileDefect::HoleOutside => 3,
-        ProfileDefect::Overlapping => 4,
-    }
-}
-
-fn profile_number(profile: Profile) -> u32
-    ensures { λ r. ⌜ r ≡ profileNumber profile ⌝ }
-{
-    match profile {
-        Profile::Valid => 0,
-        Profile::Invalid(defect) => defect_number(defect),
-    }
-}
+// ---- the prism bound as numbers
 
 // Was the bound computed?
 fn prism_number(prism: PrismBound) -> u32
@@ -85,10 +39,10 @@ fn record_words(q: MeshQto) -> [u32; 17]
     let profile = q.profile_invalid;
     let prism = q.volume_prism_bound_m3;
     [
-        quality_number(quality),
+        record::quality_number(quality),
         q.volume_reliable as u32,
-        method_number(method),
-        profile_number(profile),
+        record::method_number(method),
+        record::profile_number(profile),
         floats::bits32(q.volume_m3),
         floats::bits32(q.aabb_volume_m3),
         floats::bits32(q.surface_area_m2),

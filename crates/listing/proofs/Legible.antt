@@ -13,9 +13,9 @@ use Rattle.volume.specs.declared.Method.{Method}
 use Rattle.record.specs.declared.Profile.{Profile}
 use Rattle.record.specs.declared.ProfileDefect.{ProfileDefect}
 use Rattle.record.specs.Names.{qualityName, methodName, defectName, profileName}
-use Rattle.listing.specs.Text.{codes, glyph, hex, bits, decimalIn}
+use Rattle.spelling.specs.Text.{codes, glyph, hex, bits, decimalIn}
 use Rattle.listing.specs.Legible.{Legible}
-use Rattle.listing.proofs.Apart.{hex-apart, decimal-apart, no-leading-zero}
+use Rattle.spelling.proofs.Apart.{hex-apart, decimal-apart, no-leading-zero}
 
 -- ---- numbers
 

@@ -1,8 +1,6 @@
--- Texts put one behind the other, digits, rows, what comes back, and that what is printed can be read back.
-mod Puts
-mod Digits
+-- The lines that the code picks and fills, rows, what comes back, and that what is printed can be read back.
+mod Lines
 mod Rows
 pub mod Outcomes
-mod Apart
 pub mod Legible
 pub mod Cube

@@ -12,7 +12,7 @@ use Rattle.record.specs.declared.MeshQto.{MeshQto}
 use Rattle.listing.specs.declared.Listed.{Listed}
 use Rattle.listing.specs.Listing.{refusedLine}
 use Rattle.listing.specs.Lists.{textBytes, areasShort, listedAs, areaWith, listingFor, Lists, ListsRefusal}
-use Rattle.listing.specs.Steps.{written, Puts}
+use Rattle.spelling.specs.Steps.{written, Puts}
 
 -- ---- too short, or not
 

@@ -1,16 +1,17 @@
--- Lines of rows in resume form: what is left from row i on is its line and what is left from row i + 1 on. Assumes nothing.
-use mathlib.Core.Path.{_≡_, _∙_, subst}
+-- Lines of rows: what is left from row i on is its line and what is left from row i + 1 on, and a line has 36 bytes. Assumes nothing.
+use mathlib.Core.Path.{_≡_, refl, _∙_}
 use mathlib.Core.List.{List, [], _∷_, _++_}
-use Prim.Native.Nat.{ℕ, suc, _+_, _*_, _≤_, _<_}
+use Prim.Native.Nat.{ℕ, suc, _+_, _-_, _*_, _≤_, _<_}
 use native.Mathlib.Omega.{arith}
-use lib.ListN.{length, getD, drop, drop-of-length-le}
+use lib.ListN.{length, getD, take, drop, drop-of-length-le}
 use lib.Seq.{drop-cons}
 use lib.Ieee.{Float, nan}
 use Rattle.rows.specs.declared.PlanarSurface.{PlanarSurface}
 use Rattle.rows.specs.Rows.{rowsOf}
+use Rattle.rows.proofs.Flat.{length-rows}
+use Rattle.spelling.specs.Text.{codes, hex, bits}
+use Rattle.spelling.specs.Steps.{filledAt, filled}
 use Rattle.listing.specs.Listing.{rowLine, rowLines}
-use Rattle.listing.specs.Steps.{Puts}
-use Rattle.listing.proofs.Puts.{puts-both, puts-none}
 
 drop-more : (s : List Float) (i j : ℕ) → j ≡ suc i → i < length s → drop i s ≡ getD s i nan ∷ drop j s
 drop-more s i j e l = rw e (drop-cons s i nan l)
@@ -20,27 +21,33 @@ drop-four s i j e l =
     drop-more s i (i + 1) (omega arith) (omega arith)
     ∙ rw (drop-more s (i + 1) (i + 2) (omega arith) (omega arith), drop-more s (i + 2) (i + 3) (omega arith) (omega arith), drop-more s (i + 3) j (omega arith) (omega arith))
 
--- the row whose floats stand from 4 * i on
-abbrev pub rowFrom : List Float → ℕ → PlanarSurface
-rowFrom s i = record { area = getD s (4 * i) nan; nx = getD s (4 * i + 1) nan; ny = getD s (4 * i + 2) nan; nz = getD s (4 * i + 3) nan }
-
 -- the lines from row i on
 abbrev pub linesFrom : List Float → ℕ → List ℕ
 linesFrom s i = rowLines (rowsOf (drop (4 * i) s))
 
-module _ (s : List Float) (i : ℕ) where
-  lines-next : 4 * i + 4 ≤ length s → rowLine (rowFrom s i) ++ linesFrom s (i + 1) ≡ linesFrom s i
-  unfolding rowLines rowsOf
-  lines-next l = rw (drop-four s (4 * i) (4 * (i + 1)) (omega arith) l)
+row-filled : (a x y z : Float) → rowLine (record { area = a; nx = x; ny = y; nz = z }) ≡ filled (codes "# # # #\n") (a ∷ x ∷ y ∷ z ∷ [])
+unfolding rowLine filledAt filled bits hex
+row-filled a x y z = refl
 
-  lines-end : length s ≤ 4 * i → [] ≡ linesFrom s i
+-- what the code puts for row i
+abbrev pub rowText : List Float → ℕ → List ℕ
+rowText s i = filled (codes "# # # #\n") (take (4 * i + 4 - 4 * i) (drop (4 * i) s))
+
+module _ (s : List Float) (i : ℕ) where
+  pub lines-next : 4 * i + 4 ≤ length s → linesFrom s i ≡ rowText s i ++ linesFrom s (i + 1)
+  unfolding rowLines rowsOf
+  lines-next l =
+      let e : 4 * i + 4 - 4 * i ≡ 4 = omega arith in
+      rw (e, drop-four s (4 * i) (4 * (i + 1)) (omega arith) l, row-filled)
+
+  pub lines-end : length s ≤ 4 * i → linesFrom s i ≡ []
   unfolding rowLines rowsOf
   lines-end l = rw (drop-of-length-le s l)
 
-  module _ (end : ℕ) (out : List ℕ) where
-    pub rows-next : 4 * i + 4 ≤ length s → (end′ : ℕ) (out′ : List ℕ) → end ≤ length out → Puts end (rowLine (rowFrom s i)) out end′ out′
-        → (r : ℕ) (area : List ℕ) → Puts end′ (linesFrom s (i + 1)) out′ r area → Puts end (linesFrom s i) out r area
-    rows-next l end′ out′ h p r area q = subst (λ (t : List ℕ). Puts end t out r area) (lines-next l) (puts-both p q h)
+lines-length : (rows : List PlanarSurface) → length (rowLines rows) ≡ 36 * length rows
+unfolding rowLines rowLine bits hex
+lines-length [] = refl
+lines-length (r ∷ rows) = omega (arith, lines-length rows)
 
-    pub rows-end : length s ≤ 4 * i → Puts end (linesFrom s i) out end out
-    rows-end l = subst (λ (t : List ℕ). Puts end t out end out) (lines-end l) (puts-none end out)
+pub lines-room : (s : List Float) (n : ℕ) → length s ≡ 4 * n → length (linesFrom s 0) ≤ 36 * n
+lines-room s n h = omega (arith, lines-length (rowsOf s), length-rows s)

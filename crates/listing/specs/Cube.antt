@@ -11,7 +11,7 @@ use Rattle.volume.specs.declared.Method.{Method}
 use Rattle.volume.specs.declared.PrismBound.{PrismBound}
 use Rattle.record.specs.declared.MeshQto.{MeshQto}
 use Rattle.record.specs.declared.Profile.{Profile}
-use Rattle.listing.specs.Text.{codes}
+use Rattle.spelling.specs.Text.{codes}
 use Rattle.listing.specs.Listing.{listingOf}
 
 abbrev pub single : ℕ → Float

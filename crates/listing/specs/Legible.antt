@@ -8,7 +8,7 @@ use Rattle.verdict.specs.declared.Quality.{Quality}
 use Rattle.volume.specs.declared.Method.{Method}
 use Rattle.record.specs.declared.Profile.{Profile}
 use Rattle.record.specs.Names.{qualityName, methodName, profileName}
-use Rattle.listing.specs.Text.{codes, hex, bits, decimal}
+use Rattle.spelling.specs.Text.{codes, hex, bits, decimal}
 
 pub record Legible : Type 0 where
   -- patterns of 32 bits, and with that the floats of binary32

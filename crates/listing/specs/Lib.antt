@@ -1,5 +1,4 @@
--- The listing: how numbers are spelt, its lines, what comes back, that it can be read back, and the steps of the code.
-pub mod Text
+-- The listing: its lines, what comes back, that it can be read back, the cube's, and a step of the code.
 pub mod Listing
 pub mod Lists
 pub mod Legible

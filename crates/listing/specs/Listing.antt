@@ -6,7 +6,7 @@ use Rattle.rows.specs.declared.PlanarSurface.{PlanarSurface}
 use Rattle.volume.specs.declared.PrismBound.{PrismBound}
 use Rattle.record.specs.declared.MeshQto.{MeshQto}
 use Rattle.record.specs.Names.{qualityName, methodName, profileName}
-use Rattle.listing.specs.Text.{codes, bits, decimal, line}
+use Rattle.spelling.specs.Text.{codes, bits, decimal, line}
 
 unfoldable pub trustLines : MeshQto → List ℕ
 trustLines q =
@@ -15,30 +15,23 @@ trustLines q =
     ++ (line "method " (codes (methodName (q .«volume_method»)))
     ++ line "profile " (codes (profileName (q .«profile_invalid»)))))
 
-unfoldable pub amountLines : MeshQto → List ℕ
-amountLines q =
+unfoldable pub numberLines : MeshQto → List ℕ
+numberLines q =
     line "volume " (bits (q .«volume_m3»))
     ++ (line "aabb " (bits (q .«aabb_volume_m3»))
-    ++ line "surface " (bits (q .«surface_area_m2»)))
-
-unfoldable pub slopeLines : MeshQto → List ℕ
-slopeLines q =
-    line "top " (bits (q .«area_top_m2»))
+    ++ (line "surface " (bits (q .«surface_area_m2»))
+    ++ (line "top " (bits (q .«area_top_m2»))
     ++ (line "bottom " (bits (q .«area_bottom_m2»))
     ++ (line "side " (bits (q .«area_side_m2»))
-    ++ line "inclined " (bits (q .«area_inclined_m2»))))
+    ++ (line "inclined " (bits (q .«area_inclined_m2»))
+    ++ (line "largest " (bits (q .«largest_surface_m2»))
+    ++ (line "smallest " (bits (q .«smallest_surface_m2»))
+    ++ line "best " (bits (q .«volume_best_m3»))))))))))
 
 -- none, or bits
 unfoldable pub prismText : PrismBound → List ℕ
 prismText PrismBound.NotComputed = codes "none"
 prismText (PrismBound.Bound p) = bits p
-
-unfoldable pub boundLines : MeshQto → List ℕ
-boundLines q =
-    line "largest " (bits (q .«largest_surface_m2»))
-    ++ (line "smallest " (bits (q .«smallest_surface_m2»))
-    ++ (line "best " (bits (q .«volume_best_m3»))
-    ++ line "prism " (prismText (q .«volume_prism_bound_m3»))))
 
 unfoldable pub countLines : ℕ → ℕ → List ℕ
 countLines pieces surfaces = line "pieces " (decimal pieces) ++ line "surfaces " (decimal surfaces)
@@ -53,7 +46,7 @@ rowLines (r ∷ rs) = rowLine r ++ rowLines rs
 
 -- the lines above the rows
 unfoldable pub headLines : MeshQto → ℕ → List ℕ
-headLines q pieces = trustLines q ++ (amountLines q ++ (slopeLines q ++ (boundLines q ++ countLines pieces (q .«surface_count»))))
+headLines q pieces = trustLines q ++ (numberLines q ++ (line "prism " (prismText (q .«volume_prism_bound_m3»)) ++ countLines pieces (q .«surface_count»)))
 
 -- of a record, its surface rows and the number of pieces
 unfoldable pub listingOf : MeshQto → List PlanarSurface → ℕ → List ℕ

@@ -1,7 +1,7 @@
 // The record, `MeshQto`, and its flags: each takes a record and hands one back. The names are 000's.
 ghost use mathlib.Core.Path.{_≡_};
 ghost use Rattle.record.specs.Record.{zeroRecord};
-ghost use Rattle.record.specs.Numbers.{flagsFit, profileAt};
+ghost use Rattle.record.specs.Numbers.{qualityNumber, methodNumber, defectNumber, profileNumber, flagsFit, profileAt};
 ghost use Rattle.record.specs.Flags.{relabelled as relabelledTo, marked as markedBy, clipUnapplied, profileInvalid, ifClip, ifInvalid, flagged};
 use verdict::Quality;
 use volume::Method;
@@ -146,6 +146,50 @@ pub fn apply_product_flags(q: MeshQto, clip: bool, profile: Profile) -> MeshQto
     ensures { λ r. ⌜ r ≡ flagged clip profile q ⌝ }
 {
     if_invalid(if_clip(q, clip), profile)
+}
+
+// ---- enums as numbers
+
+pub fn quality_number(quality: Quality) -> u32
+    ensures { λ r. ⌜ r ≡ qualityNumber quality ⌝ }
+{
+    match quality {
+        Quality::Closed => 0,
+        Quality::OpenShell => 1,
+        Quality::Degenerate => 2,
+    }
+}
+
+pub fn method_number(method: Method) -> u32
+    ensures { λ r. ⌜ r ≡ methodNumber method ⌝ }
+{
+    match method {
+        Method::Mesh => 0,
+        Method::MeshOpen => 1,
+        Method::PrismFallback => 2,
+        Method::MeshUnclipped => 3,
+        Method::MeshProfileInvalid => 4,
+    }
+}
+
+fn defect_number(defect: ProfileDefect) -> u32
+    ensures { λ r. ⌜ r ≡ defectNumber defect ⌝ }
+{
+    match defect {
+        ProfileDefect::SelfIntersecting => 1,
+        ProfileDefect::Degenerate => 2,
+        ProfileDefect::HoleOutside => 3,
+        ProfileDefect::Overlapping => 4,
+    }
+}
+
+pub fn profile_number(profile: Profile) -> u32
+    ensures { λ r. ⌜ r ≡ profileNumber profile ⌝ }
+{
+    match profile {
+        Profile::Valid => 0,
+        Profile::Invalid(defect) => defect_number(defect),
+    }
 }
 
 // ---- flags as numbers

@@ -1,8 +1,8 @@
 -- `listing::count_lines` meets its contract: its lines, one behind the other. Assumes nothing.
 use borrow.Author.Needs.{needs}
-use Rattle.listing.specs.Text.{line}
+use Rattle.spelling.specs.Text.{line}
 use Rattle.listing.specs.Listing.{countLines}
-use Rattle.listing.proofs.Puts.{puts-both}
+use Rattle.spelling.proofs.Puts.{puts-both}
 use Rattle.listing.proofs.count_lines.Statement.{statement}
 use Rattle.listing.proofs.count_lines.Tie as tie
 

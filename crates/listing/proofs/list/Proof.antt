@@ -6,7 +6,7 @@ use lib.Seq.{length-take-le}
 use Rattle.listing.specs.Listing.{listingOf}
 use Rattle.listing.specs.Lists.{listingFor}
 use Rattle.listing.proofs.Outcomes.{list-short, list-put}
-use Rattle.listing.proofs.Puts.{puts-both}
+use Rattle.spelling.proofs.Puts.{puts-both}
 use Rattle.listing.proofs.list.Statement.{statement}
 use Rattle.listing.proofs.list.Tie as tie
 

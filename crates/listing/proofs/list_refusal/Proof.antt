@@ -1,6 +1,6 @@
 -- `listing::list_refusal` meets its contract: refused by the definition's test, else one line. Assumes nothing.
 use borrow.Author.Needs.{needs}
-use Rattle.listing.specs.Text.{line}
+use Rattle.spelling.specs.Text.{line}
 use Rattle.listing.specs.Listing.{refusedLine}
 use Rattle.listing.proofs.Outcomes.{refusal-short, refusal-put}
 use Rattle.listing.proofs.list_refusal.Statement.{statement}

@@ -1,8 +1,8 @@
 -- `listing::prism_line` meets its contract: none, or a line of bits. Assumes nothing.
-use native.Mathlib.Omega.{arith}
 use borrow.Author.Needs.{needs}
-use Rattle.listing.specs.Text.{line}
-use Rattle.listing.specs.Listing.{prismText}
+use Rattle.spelling.specs.Text.{hex, bits}
+use Rattle.spelling.specs.Steps.{filledAt, filled}
+use Rattle.listing.proofs.Lines.{spells-puts, prism-none, prism-bits}
 use Rattle.listing.proofs.prism_line.Statement.{statement}
 use Rattle.listing.proofs.prism_line.Tie as tie
 
@@ -18,25 +18,27 @@ put-requires c κs = search needs
 enum-known-prism : tie.Need-enum-known-prism
 enum-known-prism c = search needs
 
-slice-aggregate-number-line : tie.Need-slice-aggregate-number-line
-slice-aggregate-number-line c = search needs
+slice-aggregate-fill : tie.Need-slice-aggregate-fill
+slice-aggregate-fill c = search needs
 
-number-line-requires : tie.Need-number-line-requires
-number-line-requires c κs = search needs
+slice-aggregate-fill-2 : tie.Need-slice-aggregate-fill-2
+slice-aggregate-fill-2 c = search needs
+
+fill-requires : tie.Need-fill-requires
+unfolding filledAt filled bits hex
+fill-requires c κs = search needs
 
 same-length : tie.Need-same-length
 same-length c = search needs
 
 returns : tie.Need-returns
-unfolding line prismText
-returns c = rw (c .before .before .before .before .before .enum-told .given .1) (c .before .before .put .ensures, omega (arith, c .before .before .put .ensures .place))
+returns c = rw (c .before .before .before .before .before .enum-told .given .1) (spells-puts prism-none (c .before .before .put .ensures))
 
 same-length-2 : tie.Need-same-length-2
 same-length-2 c = search needs
 
 returns-2 : tie.Need-returns-2
-unfolding line prismText
-returns-2 c = rw (c .before .before .before .before .before .before .prism .given .1) (c .before .before .number-line .ensures .0, omega (arith, c .before .before .number-line .ensures .1))
+returns-2 c = rw (c .before .before .before .before .before .before .before .prism .given .1) (spells-puts (prism-bits _) (c .before .before .fill .ensures))
 
 pub prism-line-spec : {M : Type 1} → statement M
 prism-line-spec =
@@ -46,8 +48,9 @@ prism-line-spec =
     slice-aggregate-put
     put-requires
     enum-known-prism
-    slice-aggregate-number-line
-    number-line-requires
+    slice-aggregate-fill
+    slice-aggregate-fill-2
+    fill-requires
     same-length
     returns
     same-length-2

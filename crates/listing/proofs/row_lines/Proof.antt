@@ -1,71 +1,53 @@
--- `listing::row_lines` meets its contract: what is left after i rows, put behind them, makes the whole. Assumes nothing.
-use mathlib.Core.Path.{_≡_}
-use mathlib.Core.List.{List}
-use Prim.Native.Nat.{ℕ, _+_, _*_, _-_, _≤_}
+-- `listing::row_lines` meets its contract: each turn puts the line of a row. Assumes nothing.
+use Prim.Native.Nat.{_+_, _-_, _≤_}
+use native.Mathlib.Omega.{arith}
 use borrow.Author.Needs.{needs}
-use lib.ListN.{length}
-use Rattle.listing.specs.Steps.{Puts}
-use Rattle.listing.proofs.Rows.{linesFrom, rows-next, rows-end}
+use Rattle.spelling.proofs.Left.{Left, left-all, left-room, left-less, left-none}
+use Rattle.listing.proofs.Rows.{linesFrom, rowText, lines-next, lines-end, lines-room}
 use Rattle.listing.proofs.row_lines.Statement.{statement}
 use Rattle.listing.proofs.row_lines.Tie as tie
 
 abbrev Inv-loop : tie.InvT-loop
-Inv-loop out₀ at surfaces n end₀ i₀ out end i = (i ≤ n) × (end ≡ at + 36 * i) × (length out ≡ length out₀)
-    × ((r : ℕ) (area : List ℕ) → Puts end (linesFrom surfaces i) out r area → Puts at (linesFrom surfaces 0) out₀ r area)
+Inv-loop out₀ at surfaces n end₀ i₀ t7 out end i = (i ≤ n) × Left at (linesFrom surfaces 0) out₀ end (linesFrom surfaces i) out
 
 abbrev μ-loop : tie.MeasureT-loop
-μ-loop out₀ at surfaces n end₀ i₀ out end i = n - i
+μ-loop out₀ at surfaces n end₀ i₀ t7 out end i = n - i
 
 loop-holds : tie.Need-loop-holds Inv-loop μ-loop
-loop-holds c = (search needs, search needs, search needs, λ r area p. p)
+loop-holds c =
+    let s = c .before .before in
+    let l = lines-room (s .args .surfaces .now) (s .args .n) (s .pre .0) in
+    (search needs, left-all (s .args .at) (linesFrom (s .args .surfaces .now) 0) (s .args .out .now) (omega (arith, s .pre .1)))
 
-mul-row-line : tie.Need-mul-row-line Inv-loop μ-loop
-mul-row-line c = search needs
+slice-aggregate-fill : tie.Need-slice-aggregate-fill Inv-loop μ-loop
+slice-aggregate-fill c = search needs
 
-mul-row-line-2 : tie.Need-mul-row-line-2 Inv-loop μ-loop
-mul-row-line-2 c = search needs
+mul-fill : tie.Need-mul-fill Inv-loop μ-loop
+mul-fill c = search needs
 
-shared-slice-read-row-line : tie.Need-shared-slice-read-row-line Inv-loop μ-loop
-shared-slice-read-row-line c = search needs
+mul-fill-2 : tie.Need-mul-fill-2 Inv-loop μ-loop
+mul-fill-2 c = search needs
 
-mul-row-line-3 : tie.Need-mul-row-line-3 Inv-loop μ-loop
-mul-row-line-3 c = search needs
+add-fill : tie.Need-add-fill Inv-loop μ-loop
+add-fill c = search needs
 
-add-row-line : tie.Need-add-row-line Inv-loop μ-loop
-add-row-line c = search needs
+mul-fill-3 : tie.Need-mul-fill-3 Inv-loop μ-loop
+mul-fill-3 c = search needs
 
-mul-row-line-4 : tie.Need-mul-row-line-4 Inv-loop μ-loop
-mul-row-line-4 c = search needs
+sub-fill : tie.Need-sub-fill Inv-loop μ-loop
+sub-fill c = search needs
 
-shared-slice-read-row-line-2 : tie.Need-shared-slice-read-row-line-2 Inv-loop μ-loop
-shared-slice-read-row-line-2 c = search needs
+part-fill-start : tie.Need-part-fill-start Inv-loop μ-loop
+part-fill-start c = search needs
 
-mul-row-line-5 : tie.Need-mul-row-line-5 Inv-loop μ-loop
-mul-row-line-5 c = search needs
+part-fill-end : tie.Need-part-fill-end Inv-loop μ-loop
+part-fill-end c = search needs
 
-add-row-line-2 : tie.Need-add-row-line-2 Inv-loop μ-loop
-add-row-line-2 c = search needs
-
-mul-row-line-6 : tie.Need-mul-row-line-6 Inv-loop μ-loop
-mul-row-line-6 c = search needs
-
-shared-slice-read-row-line-3 : tie.Need-shared-slice-read-row-line-3 Inv-loop μ-loop
-shared-slice-read-row-line-3 c = search needs
-
-mul-row-line-7 : tie.Need-mul-row-line-7 Inv-loop μ-loop
-mul-row-line-7 c = search needs
-
-add-row-line-3 : tie.Need-add-row-line-3 Inv-loop μ-loop
-add-row-line-3 c = search needs
-
-mul-row-line-8 : tie.Need-mul-row-line-8 Inv-loop μ-loop
-mul-row-line-8 c = search needs
-
-shared-slice-read-row-line-4 : tie.Need-shared-slice-read-row-line-4 Inv-loop μ-loop
-shared-slice-read-row-line-4 c = search needs
-
-row-line-requires : tie.Need-row-line-requires Inv-loop μ-loop
-row-line-requires c κs = search needs
+fill-requires : tie.Need-fill-requires Inv-loop μ-loop
+fill-requires c κs =
+    let l = c .before .before .before .before in
+    let s = l .before .before .before .args .surfaces .now in
+    left-room (l .loop .inv .1) (rowText s (l .loop .i)) (linesFrom s (l .loop .i + 1)) (lines-next s (l .loop .i) (search needs))
 
 add-i : tie.Need-add-i Inv-loop μ-loop
 add-i c = search needs
@@ -76,19 +58,14 @@ loop-less c = search needs
 loop-again : tie.Need-loop-again Inv-loop μ-loop
 loop-again c =
     let k = c .before .before in
-    let l = k .before .before .before .before .before .before .before in
-    let s = l .before .before .before .args .surfaces .now in (
-      search needs,
-      search needs,
-      search needs,
-      λ r area p. l .loop .inv .3 r area (rows-next s (l .loop .i) (l .loop .end) (l .loop .out) (search needs) (k .row-line .result) (k .row-line .last .0) (search needs) (k .row-line .ensures .0) r area p),
-    )
+    let l = k .before .before .before .before .before in
+    (search needs, left-less (l .loop .inv .1) _ _ (lines-next (l .before .before .before .args .surfaces .now) (l .loop .i) (search needs)) (k .fill .ensures))
 
 same-length : tie.Need-same-length Inv-loop μ-loop
 same-length c = search needs
 
 returns : tie.Need-returns Inv-loop μ-loop
-returns c = c .before .loop .inv .3 _ _ (rows-end (c .before .before .before .before .args .surfaces .now) (c .before .loop .i) (c .before .loop .end) (c .before .loop .out) (search needs))
+returns c = left-none (c .before .loop .inv .1) (lines-end (c .before .before .before .before .args .surfaces .now) (c .before .loop .i) (search needs))
 
 pub row-lines-spec : {M : Type 1} → statement M
 row-lines-spec =
@@ -97,22 +74,15 @@ row-lines-spec =
     Inv-loop
     μ-loop
     loop-holds
-    mul-row-line
-    mul-row-line-2
-    shared-slice-read-row-line
-    mul-row-line-3
-    add-row-line
-    mul-row-line-4
-    shared-slice-read-row-line-2
-    mul-row-line-5
-    add-row-line-2
-    mul-row-line-6
-    shared-slice-read-row-line-3
-    mul-row-line-7
-    add-row-line-3
-    mul-row-line-8
-    shared-slice-read-row-line-4
-    row-line-requires
+    slice-aggregate-fill
+    mul-fill
+    mul-fill-2
+    add-fill
+    mul-fill-3
+    sub-fill
+    part-fill-start
+    part-fill-end
+    fill-requires
     add-i
     loop-less
     loop-again

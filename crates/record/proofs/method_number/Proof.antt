@@ -1,0 +1,55 @@
+-- `record::method_number` meets its contract. The number of a method is the definition's, case by case. Assumes nothing.
+use Rattle.record.specs.Numbers.{methodNumber}
+use borrow.Author.Needs.{needs}
+use Rattle.record.proofs.method_number.Statement.{statement}
+use Rattle.record.proofs.method_number.Tie as tie
+
+enum-told : tie.Need-enum-told
+enum-told c = search needs
+
+enum-told-2 : tie.Need-enum-told-2
+enum-told-2 c = search needs
+
+enum-told-3 : tie.Need-enum-told-3
+enum-told-3 c = search needs
+
+enum-told-4 : tie.Need-enum-told-4
+enum-told-4 c = search needs
+
+enum-told-5 : tie.Need-enum-told-5
+enum-told-5 c = search needs
+
+returns : tie.Need-returns
+unfolding methodNumber
+returns c = rw (c .enum-told .given .1)
+
+returns-2 : tie.Need-returns-2
+unfolding methodNumber
+returns-2 c = rw (c .enum-told2 .given .1)
+
+returns-3 : tie.Need-returns-3
+unfolding methodNumber
+returns-3 c = rw (c .enum-told3 .given .1)
+
+returns-4 : tie.Need-returns-4
+unfolding methodNumber
+returns-4 c = rw (c .enum-told4 .given .1)
+
+returns-5 : tie.Need-returns-5
+unfolding methodNumber
+returns-5 c = rw (c .enum-told5 .given .1)
+
+pub method-number-spec : {M : Type 1} → statement M
+method-number-spec =
+    tie.close
+    (tie.spec
+    enum-told
+    enum-told-2
+    enum-told-3
+    enum-told-4
+    enum-told-5
+    returns
+    returns-2
+    returns-3
+    returns-4
+    returns-5)

@@ -1,0 +1,26 @@
+-- `record::profile_number` meets its contract. The number of a profile is the definition's: 0, or the defect's. Assumes nothing.
+use Rattle.record.specs.Numbers.{profileNumber}
+use borrow.Author.Needs.{needs}
+use Rattle.record.proofs.profile_number.Statement.{statement}
+use Rattle.record.proofs.profile_number.Tie as tie
+
+enum-told : tie.Need-enum-told
+enum-told c = search needs
+
+enum-known-profile : tie.Need-enum-known-profile
+enum-known-profile c = search needs
+
+defect-number-requires : tie.Need-defect-number-requires
+defect-number-requires c κs = search needs
+
+returns : tie.Need-returns
+unfolding profileNumber
+returns c = rw (c .enum-told .given .1)
+
+returns-2 : tie.Need-returns-2
+unfolding profileNumber
+returns-2 c = rw (c .before .before .profile .given .1) (c .defect-number .ensures)
+
+pub profile-number-spec : {M : Type 1} → statement M
+profile-number-spec =
+    tie.close (tie.spec enum-told enum-known-profile defect-number-requires returns returns-2)

@@ -1,0 +1,109 @@
+-- `spelling::fill` meets its contract: each turn puts a number or a byte of the form. Assumes nothing.
+use mathlib.Core.Logic.{⊎-elim}
+use Prim.Native.Nat.{_≤_, _-_}
+use borrow.Author.Needs.{needs}
+use lib.ListN.{length, drop}
+use Rattle.spelling.specs.Steps.{filled}
+use Rattle.spelling.proofs.Left.{Left, left-all, left-less, byte-room, left-byte, left-none}
+use Rattle.spelling.proofs.Turns.{number-left, number-room, form-number, form-byte, form-end}
+use Rattle.spelling.proofs.fill.Statement.{statement}
+use Rattle.spelling.proofs.fill.Tie as tie
+
+abbrev Inv-loop : tie.InvT-loop
+Inv-loop out₀ at form numbers end₀ used₀ i₀ out end used i = (i ≤ length form) × Left at (filled form numbers) out₀ end (filled (drop i form) (drop used numbers)) out
+
+abbrev μ-loop : tie.MeasureT-loop
+μ-loop out₀ at form numbers end₀ used₀ i₀ out end used i = length form - i
+
+loop-holds : tie.Need-loop-holds Inv-loop μ-loop
+loop-holds c =
+    let s = c .before .before .before in
+    (search needs, left-all (s .args .at) (filled (s .args .form .now) (s .args .numbers .now)) (s .args .out .now) (s .pre))
+
+shared-slice-read-if1 : tie.Need-shared-slice-read-if1 Inv-loop μ-loop
+shared-slice-read-if1 c = search needs
+
+mul-put-number : tie.Need-mul-put-number Inv-loop μ-loop
+mul-put-number c =
+    let l = c .before .before .before .before in
+    let a = l .before .before .before .before .args in
+    let h = number-left (a .form .now) (l .loop .i) (a .numbers .now) (l .loop .used) (c .before .if1 .taken) in
+    search needs
+
+shared-slice-read-put-number : tie.Need-shared-slice-read-put-number Inv-loop μ-loop
+shared-slice-read-put-number c =
+    let l = c .before .before .before .before .before in
+    let a = l .before .before .before .before .args in
+    number-left (a .form .now) (l .loop .i) (a .numbers .now) (l .loop .used) (c .before .before .if1 .taken)
+
+put-number-requires : tie.Need-put-number-requires Inv-loop μ-loop
+put-number-requires c κs =
+    let l = c .before .before .before .before .before in
+    let a = l .before .before .before .before .args in
+    number-room (l .loop .inv .1) _ _ (form-number (a .form .now) (l .loop .i) (a .numbers .now) (l .loop .used) (search needs) (c .before .before .if1 .taken))
+
+add-used : tie.Need-add-used Inv-loop μ-loop
+add-used c =
+    let l = c .before .before .before .before .before .before .before .before in
+    let a = l .before .before .before .before .args in
+    let h = number-left (a .form .now) (l .loop .i) (a .numbers .now) (l .loop .used) (c .before .before .before .before .before .if1 .taken) in
+    search needs
+
+shared-slice-read-out : tie.Need-shared-slice-read-out Inv-loop μ-loop
+shared-slice-read-out c = search needs
+
+slice-write-out : tie.Need-slice-write-out Inv-loop μ-loop
+slice-write-out c =
+    let l = c .before .before .before .before in
+    let a = l .before .before .before .before .args in
+    byte-room (l .loop .inv .1) _ _ (form-byte (a .form .now) (l .loop .i) (a .numbers .now) (l .loop .used) (search needs) (c .before .if1 .left))
+
+add-end : tie.Need-add-end Inv-loop μ-loop
+add-end c = search needs
+
+add-i : tie.Need-add-i Inv-loop μ-loop
+add-i c = search needs
+
+loop-less : tie.Need-loop-less Inv-loop μ-loop
+loop-less c = search needs
+
+loop-again : tie.Need-loop-again Inv-loop μ-loop
+loop-again c =
+    let l = c .before .before .before in
+    let a = l .before .before .before .before .args in (
+      search needs,
+      ⊎-elim
+          (λ w. rw (w .6, w .7, w .8) (left-less (l .loop .inv .1) _ _ (form-number (a .form .now) (l .loop .i) (a .numbers .now) (l .loop .used) (search needs) (w .0 .taken)) (w .3 .ensures)))
+          (λ w. rw (w .2, w .3, w .4) (left-byte (l .loop .inv .1) _ _ (form-byte (a .form .now) (l .loop .i) (a .numbers .now) (l .loop .used) (search needs) (w .0 .left))))
+          (c .if1 .came),
+    )
+
+same-length : tie.Need-same-length Inv-loop μ-loop
+same-length c = search needs
+
+returns : tie.Need-returns Inv-loop μ-loop
+returns c =
+    let l = c .before in
+    let a = l .before .before .before .before .args in
+    left-none (l .loop .inv .1) (form-end (a .form .now) (l .loop .i) (a .numbers .now) (l .loop .used) (search needs))
+
+pub fill-spec : {M : Type 1} → statement M
+fill-spec =
+    tie.close
+    (tie.spec
+    Inv-loop
+    μ-loop
+    loop-holds
+    shared-slice-read-if1
+    mul-put-number
+    shared-slice-read-put-number
+    put-number-requires
+    add-used
+    shared-slice-read-out
+    slice-write-out
+    add-end
+    add-i
+    loop-less
+    loop-again
+    same-length
+    returns)

@@ -7,19 +7,16 @@ use Rattle.meshfile.specs.Written.{plain}
 use Rattle.listing.specs.Cube.{text, cubeText}
 use Rattle.program.specs.Program.{textOf}
 
--- 0 and 2 as words
-abbrev pub o : ℕ
-o = 0
-
-abbrev pub t : ℕ
-t = 0x4000_0000
+-- 2 as a word; 0 is 0
+abbrev pub two : ℕ
+two = 0x4000_0000
 
 -- unit 1.0, side 2, vertex id = x/2 + 2(y/2) + 4(z/2), triangles 023 031 457 476 015 054 267 273 046 062 137 175, no kind 4
 unfoldable pub cube : Contents
 cube =
     record {
       unit = 0x3f80_0000;
-      vertices = o ∷ o ∷ o ∷ t ∷ o ∷ o ∷ o ∷ t ∷ o ∷ t ∷ t ∷ o ∷ o ∷ o ∷ t ∷ t ∷ o ∷ t ∷ o ∷ t ∷ t ∷ t ∷ t ∷ t ∷ [];
+      vertices = 0 ∷ 0 ∷ 0 ∷ two ∷ 0 ∷ 0 ∷ 0 ∷ two ∷ 0 ∷ two ∷ two ∷ 0 ∷ 0 ∷ 0 ∷ two ∷ two ∷ 0 ∷ two ∷ 0 ∷ two ∷ two ∷ two ∷ two ∷ two ∷ [];
       ids =
           0 ∷ 2 ∷ 3 ∷ 0 ∷ 3 ∷ 1 ∷ 4 ∷ 5 ∷ 7 ∷ 4 ∷ 7 ∷ 6 ∷ 0 ∷ 1 ∷ 5 ∷ 0 ∷ 5 ∷ 4
           ∷ 2 ∷ 6 ∷ 7 ∷ 2 ∷ 7 ∷ 3 ∷ 0 ∷ 4 ∷ 6 ∷ 0 ∷ 6 ∷ 2 ∷ 1 ∷ 3 ∷ 7 ∷ 1 ∷ 7 ∷ 5 ∷ [];

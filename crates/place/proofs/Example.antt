@@ -23,7 +23,7 @@ use Rattle.vertices.specs.Vertices.{cornersInRange, inRange as inRangeOf}
 use Rattle.sums.specs.Box.{box, boxTo, boxVolume, highest, lowest}
 use Rattle.sums.specs.Facet.{facetOf, normal, part, partOf, rebased, size, tetra}
 use Rattle.sums.specs.Totals.{onSlope, slopeOf, totalsTo, withFacet, withPart}
-use Rattle.cells.specs.Cells.{cellOf}
+use Rattle.cells.specs.Cells.{Cell, cellAt, cellOf}
 use Rattle.weld.specs.Weld.{epsilonOf, inverse}
 use Rattle.verdict.specs.declared.Quality.{Quality}
 use Rattle.verdict.specs.Verdict.{byChain, byFaces, nearZero, quality, tooLarge}
@@ -60,14 +60,14 @@ closed-here : recordOf (floats here) tetrahedron millimetre .«mesh_quality» �
 unfolding floats tetrahedron recordOf recordBy recordFrom verdict measures measuresFrom volumeOf totals totalsTo withPart withFacet onSlope slopeOf part partOf cornersInRange inRangeOf rebased normal size tetra facetOf triangle boxTo lowest highest boxVolume extent quality tooLarge nearZero byChain byFaces boundaryFree overIncident enough chain step around sameEdge present unbalanced crowded keysThat largest keys counting uses signed bit sumBy maxBy distinct overTriangles least greatest magnitude rounded rootRound closestRoot floorRoot digits root add sub mul div lt le eq neg sum round units odd numberSize climb span isNan ofBits ofFields ofInt
 closed-here = refl
 
--- the lowest x is 16,777,214 there and 0 here, and so are their cells' numbers apart
+-- the lowest x is 16,777,214 there and 0 here; it is that of vertex 0, whose cell has the numbers 167,772,150 and 0
 corner-shows : box (floats there) .xmin ≢ box (floats here) .xmin
 unfolding floats shift boxTo lowest least lt isNan ofInt round units odd numberSize climb span toSigned
 corner-shows e = let n : _≡_ {A = ℕ} 16777214 0 = ap (λ (x : Float). natAbs (wholeOf x)) e in absurd (omega arith)
 
-cell-shows : cellOf (inverse (epsilonOf distance millimetre)) (box (floats there) .xmin) ≢ cellOf (inverse (epsilonOf distance millimetre)) (box (floats here) .xmin)
-unfolding floats shift boxTo lowest least greatest lt isNan ofInt ofBits ofFields round units odd numberSize climb span toSigned cellOf epsilonOf div mul integral
-cell-shows e = let n : _≡_ {A = ℕ} 167772150 0 = ap natAbs e in absurd (omega arith)
+cell-shows : cellAt (floats there) (inverse (epsilonOf distance millimetre)) 0 ≢ cellAt (floats here) (inverse (epsilonOf distance millimetre)) 0
+unfolding floats shift greatest lt isNan ofInt ofBits ofFields round units odd numberSize climb span toSigned cellAt cellOf epsilonOf div mul integral
+cell-shows e = let n : _≡_ {A = ℕ} 167772150 0 = ap (λ (c : Cell). natAbs (c .x)) e in absurd (omega arith)
 
 pub real-move : RealMove
 unfolding le ofBits

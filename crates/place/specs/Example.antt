@@ -8,7 +8,7 @@ use lib.IntN.{ℤ, pos, negsuc, natAbs, _+ℤ_}
 use lib.Ieee.{Float, binary32, ofInt}
 use Rattle.ids.specs.Examples.{tetrahedron}
 use Rattle.sums.specs.Box.{box}
-use Rattle.cells.specs.Cells.{cellOf}
+use Rattle.cells.specs.Cells.{cellAt}
 use Rattle.weld.specs.Weld.{epsilonOf, inverse}
 use Rattle.verdict.specs.declared.Quality.{Quality}
 use Rattle.qto.specs.Full.{distance, recordOf}
@@ -45,6 +45,6 @@ pub record RealMove : Type 0 where
   pub moved : Moved (pos 16777214) (negsuc 16777215) (negsuc 6) (floats here) (floats there)
   pub unit : T (unitEnough millimetre)
   pub closed : recordOf (floats here) tetrahedron millimetre .«mesh_quality» ≡ Quality.Closed
-  -- what does show: the box's corners and the weld's cells. So neither may come into the record or stay in an area
+  -- what does show: a corner of the box, and the weld's cell of a vertex. So neither may come into the record or stay in an area
   pub corner-shows : box (floats there) .xmin ≢ box (floats here) .xmin
-  pub cell-shows : cellOf (inverse (epsilonOf distance millimetre)) (box (floats there) .xmin) ≢ cellOf (inverse (epsilonOf distance millimetre)) (box (floats here) .xmin)
+  pub cell-shows : cellAt (floats there) (inverse (epsilonOf distance millimetre)) 0 ≢ cellAt (floats here) (inverse (epsilonOf distance millimetre)) 0

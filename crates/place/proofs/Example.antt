@@ -2,7 +2,7 @@
 use mathlib.Core.Logic.{_≢_}
 use mathlib.Core.Path.{_≡_, refl, sym, _∙_, ap}
 use mathlib.Core.List.{[], _∷_}
-use Prim.Native.Nat.{ℕ, _^_, _≤_, _<_}
+use Prim.Native.Nat.{ℕ, _≤_}
 use native.Mathlib.Omega.{arith}
 use lib.Dec.{leb, leb→le}
 use lib.IntN.{ℤ, pos, negsuc, natAbs, _+ℤ_}
@@ -30,13 +30,10 @@ use Rattle.verdict.specs.Verdict.{byChain, byFaces, nearZero, quality, tooLarge
 use Rattle.qto.specs.Full.{distance, measures, measuresFrom, recordBy, recordFrom, recordOf, totals, verdict, volumeOf}
 use Rattle.place.specs.Moved.{wholeOf, Moved, millimetre}
 use Rattle.place.specs.Example.{floats, shift, inRange, IntegersMeet, here, there, RealMove}
-use Rattle.place.proofs.Shifted.{whole-told}
+use Rattle.place.proofs.Shifted.{in-i64, whole-told}
 
 of-integer : (z : ℤ) → natAbs z ≤ 16777216 → wholeOf (ofInt binary32 z) ≡ z
-of-integer z l = toSigned-whole 63 (ofInt binary32 z) z (below (natAbs z) l) (ofInt-whole binary32 z l)
-  where
-    below : (n : ℕ) → n ≤ 16777216 → n < 2 ^ 63
-    below n h = omega arith
+of-integer z l = toSigned-whole 63 (ofInt binary32 z) z (in-i64 (natAbs z) l) (ofInt-whole binary32 z l)
 
 pub integers-meet : IntegersMeet
 unfolding Moved floats shift inRange

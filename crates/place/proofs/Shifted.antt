@@ -19,14 +19,14 @@ use Rattle.place.specs.Moved.{isWhole, wholeOf, WholeTells, Plus}
 
 -- ---- what the premise's test says
 
+pub in-i64 : (n : ℕ) → n ≤ 16777216 → n < 2 ^ 63
+in-i64 n h = omega arith
+
 pub whole-tells : (x : Float) → T (isWhole x) → WholeTells x
 whole-tells x t =
     let w = whole-of-test binary32 x t in
-    let e : w .at ≡ wholeOf x = sym (toSigned-whole 63 x (w .at) (in-range (natAbs (w .at)) (w .small)) (w .is)) in
+    let e : w .at ≡ wholeOf x = sym (toSigned-whole 63 x (w .at) (in-i64 (natAbs (w .at)) (w .small)) (w .is)) in
     record { is = subst (IsWhole x) e (w .is); most = subst (λ (z : ℤ). natAbs z ≤ 16777216) e (w .small) }
-  where
-    in-range : (n : ℕ) → n ≤ 2 ^ 24 → n < 2 ^ 63
-    in-range n h = omega arith
 
 pub whole-told : (x : Float) (a : ℤ) → IsWhole x a → natAbs a ≤ 16777216 → T (isWhole x)
 whole-told x a h l = test-of-whole binary32 x a l h

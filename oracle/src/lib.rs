@@ -27,6 +27,8 @@ pub mod reach;
 pub mod record;
 pub mod sent;
 pub mod solids;
+#[cfg(port)]
+pub mod speed;
 pub mod stored;
 #[cfg(port)]
 pub mod weld;

@@ -65,6 +65,8 @@ a folder with a libcapi.a of its kind when this is built):
                                all words of the record, every place of the areas; of two open shells best volume, method,
                                trust and bound may differ, and how often they do is counted; last line 'A agree, D differ'
   oracle speed compute         milliseconds a record, at an eighth of the most triangles up to all; nanoseconds for small
+  oracle speed                 compute and each id routine beside the original on the meshes whose ratios are bounded, with
+                               the bound; then how the time grows from a quarter of the most triangles to all
 ";
 
 fn main() -> ExitCode {
@@ -100,6 +102,7 @@ fn main() -> ExitCode {
             (_, Ok(n)) => port::run(Run::Moves(n)),
             _ => return usage("N is a whole number from 0 up, or 'all' of floats"),
         },
+        ["speed"] => port::run(Run::Speed),
         ["speed", "floats"] => port::run(Run::SpeedFloats),
         ["speed", "ids"] => port::run(Run::SpeedIds),
         ["speed", "weld"] => port::run(Run::SpeedWeld),

@@ -12,6 +12,7 @@ pub enum Run {
     Raster(u64),
     Compute(u64),
     Moves(u64),
+    Speed,
     SpeedFloats,
     SpeedIds,
     SpeedWeld,
@@ -38,6 +39,7 @@ pub fn run(run: Run) -> io::Result<ExitCode> {
         Run::Raster(n) => linked::raster(n),
         Run::Compute(n) => linked::compute(n),
         Run::Moves(n) => linked::moves(n),
+        Run::Speed => linked::speed(),
         Run::SpeedFloats => linked::speed_floats(),
         Run::SpeedIds => linked::speed_ids(),
         Run::SpeedWeld => linked::speed_weld(),
@@ -50,7 +52,7 @@ pub fn run(run: Run) -> io::Result<ExitCode> {
 mod linked {
     use mowfrost_oracle::floats::compare::{on_all_32, on_chance, on_edges, Count};
     use mowfrost_oracle::floats::helpers::{Width, HELPERS};
-    use mowfrost_oracle::{compute, floats, ids, moves, raster, weld};
+    use mowfrost_oracle::{compute, floats, ids, moves, raster, speed, weld};
     use std::io::{self, StdoutLock, Write};
     use std::process::ExitCode;
 
@@ -162,6 +164,27 @@ mod linked {
     fn end(out: &mut StdoutLock, agree: u64, differ: u64) -> io::Result<ExitCode> {
         writeln!(out, "{agree} agree, {differ} differ")?;
         Ok(if differ == 0 { ExitCode::SUCCESS } else { ExitCode::FAILURE })
+    }
+
+    /// Each row with its bound, and a star where it is above it.
+    pub fn speed() -> io::Result<ExitCode> {
+        let star = |above: bool| if above { " *" } else { "" };
+        let mut out = io::stdout().lock();
+        writeln!(out, "| routine | on | triangles | port, µs | Rust, µs | ratio | at most |\n|---|---|---|---|---|---|---|")?;
+        for row in speed::records().chain(speed::lists()) {
+            let (ratio, above) = (row.port / row.rust, row.port > row.most * row.rust);
+            let (routine, on, size, port, rust) = (row.routine, &row.on, row.size, 1e6 * row.port, 1e6 * row.rust);
+            let bound = format!("{}{}", row.most, star(above));
+            writeln!(out, "| `{routine}` | {on} | {size} | {port:.2} | {rust:.2} | {ratio:.2} | {bound} |")?;
+        }
+        writeln!(out, "\n| routine | on | n, µs | 2n, µs | 4n, µs | twice the size | at most |\n|---|---|---|---|---|---|---|")?;
+        for row in speed::growth() {
+            let [one, two, four] = row.port.map(|t| 1e6 * t);
+            let bound = format!("{}{}", speed::GROWTH, star(row.step() > speed::GROWTH));
+            let (routine, on, step) = (row.routine, row.on, row.step());
+            writeln!(out, "| `{routine}` | {on} | {one:.0} | {two:.0} | {four:.0} | {step:.2} | {bound} |")?;
+        }
+        Ok(ExitCode::SUCCESS)
     }
 
     pub fn speed_floats() -> io::Result<ExitCode> {

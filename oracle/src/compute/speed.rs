@@ -11,7 +11,11 @@ use crate::solids::Shape;
 use std::hint::black_box;
 use std::time::Instant;
 
-const BEST_OF: usize = 9;
+/// Seconds that a race takes at least, and how many turns.
+const ENOUGH: f64 = 0.2;
+const TURNS: usize = 9;
+/// Seconds that a turn takes at least: a call on a small mesh is too short to be measured.
+const TURN: f64 = 0.001;
 
 pub struct Row {
     pub on: &'static str,
@@ -23,41 +27,47 @@ pub struct Row {
 
 /// Each shape at an eighth of its most triangles, a quarter, a half and all: how the time grows.
 pub fn rows() -> impl Iterator<Item = Row> {
-    SHAPES.into_iter().flat_map(|(on, make, most)| [8, 4, 2, 1].map(|share| race(on, make(most / share), 1)))
+    SHAPES.into_iter().flat_map(|(on, make, most)| [8, 4, 2, 1].map(|share| race(on, make(most / share))))
 }
 
-/// Small meshes: many calls in a row, since one is too short to be measured.
+/// Small meshes.
 pub fn small() -> impl Iterator<Item = Row> {
     let mut open = Shape::cube(2.0);
     open.remove(2);
     let mut turned = Shape::cube(2.0).turned(0.3, 0.2);
     turned.remove(2);
     [
-        ("tetrahedron", Shape::tetrahedron(1.0), 1000),
-        ("cube", Shape::cube(2.0), 1000),
-        ("cube to be welded", Shape::cube(2.0).exploded(), 1000),
-        ("cylinder of 24 sides", Shape::cylinder(1.0, 3.0, 24), 300),
-        ("cube without a triangle", open, 10),
-        ("cube without a triangle, turned", turned, 10),
+        ("tetrahedron", Shape::tetrahedron(1.0)),
+        ("cube", Shape::cube(2.0)),
+        ("cube to be welded", Shape::cube(2.0).exploded()),
+        ("cylinder of 24 sides", Shape::cylinder(1.0, 3.0, 24)),
+        ("cube without a triangle", open),
+        ("cube without a triangle, turned", turned),
     ]
     .into_iter()
-    .map(|(on, shape, calls)| race(on, shape, calls))
+    .map(|(on, shape)| race(on, shape))
 }
 
-/// The best of several runs that take turns.
-fn race(on: &'static str, shape: Shape, calls: usize) -> Row {
+/// The best of several turns, port and original one after the other.
+pub fn race(on: &'static str, shape: Shape) -> Row {
     let mesh = plain(1.0, &shape.vertices, &shape.ids);
     let lent = Lent::exactly(mesh.vertices.len(), mesh.ids.len());
     let (mut work, mut raster, mut surfaces) = (vec![1; lent.work], vec![1; lent.raster], vec![1; lent.surfaces]);
     let mut record = [0; WORDS];
+    let mut port = |mesh: &MeshFile| {
+        let areas = Areas { work: &mut work, raster: &mut raster, surfaces: &mut surfaces };
+        capi::compute(&Call { mesh, clip: 0, defect: 0 }, areas, &mut record)
+    };
+    let rust = |mesh: &MeshFile| qto::compute(&mesh.vertices, &mesh.ids, mesh.unit);
     let mut row = Row { on, triangles: shape.triangles(), port: f64::INFINITY, rust: f64::INFINITY };
-    for _ in 0..BEST_OF {
-        let port = |mesh: &MeshFile| {
-            let areas = Areas { work: &mut work, raster: &mut raster, surfaces: &mut surfaces };
-            capi::compute(&Call { mesh, clip: 0, defect: 0 }, areas, &mut record)
-        };
-        row.port = row.port.min(time(calls, &mesh, port));
-        row.rust = row.rust.min(time(calls, &mesh, |mesh| qto::compute(&mesh.vertices, &mesh.ids, mesh.unit)));
+    let once = time(1, &mesh, &mut port).min(time(1, &mesh, rust));
+    let calls = (TURN / once).ceil() as usize;
+    let begun = Instant::now();
+    let mut turns = 0;
+    while turns < TURNS || begun.elapsed().as_secs_f64() < ENOUGH {
+        row.port = row.port.min(time(calls, &mesh, &mut port));
+        row.rust = row.rust.min(time(calls, &mesh, rust));
+        turns += 1;
     }
     row
 }

@@ -19,19 +19,27 @@ pub struct Row {
 
 const SHAPES: [(&str, Shape); 4] = [("torus", torus), ("soup", soup), ("fan", fan), ("boxes", boxes)];
 
-/// Every routine on each shape as it comes, at the limit and below it; at the limit also with ids and triangles mixed up.
+/// Every routine on each shape below the limit, as it comes, and at the limit.
 pub fn rows() -> Vec<Row> {
     let mut rows = Vec::new();
     for routine in &ROUTINES {
         for (name, shape) in SHAPES {
-            for share in [64, 16, 4, 1] {
-                rows.push(race(routine, name.into(), &shape(MOST_IDS / 3 / share), BEST_OF));
+            for share in [64, 16, 4] {
+                rows.push(race(routine, name.into(), &shape(MOST_IDS / 3 / share)));
             }
-            let ids = mixed(&shape(MOST_IDS / 3), &mut Random::new(5));
-            rows.push(race(routine, format!("{name}, mixed up"), &ids, BEST_OF));
         }
+        rows.extend(at_the_limit(routine));
     }
     rows
+}
+
+/// A routine on each shape at the limit, as it comes and with ids and triangles mixed up.
+pub fn at_the_limit(routine: &Routine) -> impl Iterator<Item = Row> + '_ {
+    SHAPES.into_iter().flat_map(|(name, shape)| {
+        let ids = shape(MOST_IDS / 3);
+        let apart = mixed(&ids, &mut Random::new(5));
+        [race(routine, name.into(), &ids), race(routine, format!("{name}, mixed up"), &apart)]
+    })
 }
 
 /// Ids chosen against the hashes.
@@ -42,7 +50,7 @@ pub fn worst() -> Vec<Row> {
         ("pieces", "ids against every pass's hash", against_every_pass()),
     ];
     let named = |name: &str| ROUTINES.iter().find(|routine| routine.name == name).expect("a routine of that name");
-    lists.iter().map(|(name, on, ids)| race(named(name), (*on).into(), ids, 1)).collect()
+    lists.iter().map(|(name, on, ids)| best_of(1, named(name), (*on).into(), ids)).collect()
 }
 
 /// x with x * odd = 1 among the numbers below 2^32.
@@ -90,11 +98,15 @@ fn against_every_pass() -> Vec<u32> {
     ids
 }
 
+pub fn race(routine: &Routine, on: String, ids: &[u32]) -> Row {
+    best_of(BEST_OF, routine, on, ids)
+}
+
 /// Milliseconds, the best of several runs that take turns.
-fn race(routine: &Routine, on: String, ids: &[u32], best_of: usize) -> Row {
+fn best_of(runs: usize, routine: &Routine, on: String, ids: &[u32]) -> Row {
     let mut work = vec![1; (routine.needed)(ids.len())];
     let mut row = Row { name: routine.name, on, ids: ids.len(), port: f64::INFINITY, rust: f64::INFINITY };
-    for _ in 0..best_of {
+    for _ in 0..runs {
         row.port = row.port.min(time(|| (routine.port)(ids, &mut work)));
         row.rust = row.rust.min(time(|| (routine.rust)(ids)));
     }

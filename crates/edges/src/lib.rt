@@ -191,3 +191,33 @@ pub fn count(work: &[u32], n: usize, test: u8) -> usize
     }
     total
 }
+
+// How many edges pass each of three tests, in one pass over the rows.
+pub struct Survey {
+    pub present: usize,
+    pub unbalanced: usize,
+    pub crowded: usize,
+}
+
+pub fn survey_rows(work: &[u32], n: usize) -> Survey
+    requires { ⌜ (n ≤ 131072) × (3 * n ≤ length (now work)) ⌝ }
+    ensures { λ r. ⌜ (r .present ≡ sumTo (rowBit present (now (work .entry))) n) × (r .unbalanced ≡ sumTo (rowBit unbalanced (now (work .entry))) n)
+        × (r .crowded ≡ sumTo (rowBit crowded (now (work .entry))) n) ⌝ }
+{
+    let mut present = 0;
+    let mut unbalanced = 0;
+    let mut crowded = 0;
+    let mut i = 0;
+    while i < n {
+        let word = work[3 * i + 2];
+        present += passes(word, PRESENT);
+        unbalanced += passes(word, UNBALANCED);
+        crowded += passes(word, CROWDED);
+        i += 1;
+    }
+    Survey {
+        present,
+        unbalanced,
+        crowded,
+    }
+}

@@ -2,4 +2,5 @@
 pub mod Box
 pub mod Facet
 pub mod Fine
+pub mod Prepared
 pub mod Totals

@@ -1,12 +1,15 @@
 // What the sums of the record are made of: the box, one triangle's part, its slope, and the totals that take it. Internal: `surfaces` and `qto` ask it.
 ghost use mathlib.Core.Path.{_≡_};
 ghost use Prim.Native.Nat.{suc, _≤_, _<_};
+ghost use lib.Ieee.{binary64, ofBits, toBits};
 ghost use lib.ListN.{length};
+ghost use Rattle.ieee.specs.Root.{root};
 ghost use Rattle.grid.specs.Grid.{extent as extentOf};
 ghost use Rattle.ids.specs.Triangles.{triangle, triangleCount};
 ghost use Rattle.vertices.specs.Vertices.{vertexCount};
 ghost use Rattle.sums.specs.Box.{boxTo, box, origin as originOf, boxVolume};
-ghost use Rattle.sums.specs.Facet.{minus as minusOf, cross as crossOf, dot as dotOf, normal as normalOf, size as sizeOf, tetra as tetraOf, partOf, rebased, part as partAt};
+ghost use Rattle.sums.specs.Facet.{minus as minusOf, cross as crossOf, dot as dotOf, normal as normalOf, tetra as tetraOf, partOf, rebased, part};
+ghost use Rattle.sums.specs.Prepared.{facetBy, partBy, Rooted, Prepares};
 ghost use Rattle.sums.specs.Totals.{slopeOf, thresholds, noTotals, withFacet};
 
 // ---- the box
@@ -136,13 +139,6 @@ fn normal(t: [[f64; 3]; 3]) -> [f64; 3]
     cross(u, v)
 }
 
-// The length of a vector.
-fn size(n: [f64; 3]) -> f64
-    ensures { λ r. ⌜ r ≡ sizeOf n ⌝ }
-{
-    floats::root64(dot(n, n))
-}
-
 // a · (b × c): six times the volume of the tetrahedron on the triangle and the origin.
 fn tetra(t: [[f64; 3]; 3]) -> f64
     ensures { λ r. ⌜ r ≡ tetraOf t ⌝ }
@@ -171,25 +167,64 @@ pub enum Part {
     Used(Facet),
 }
 
-// The part of a triangle whose ids are in range.
-fn part_of(t: [[f64; 3]; 3]) -> Part
-    ensures { λ r. ⌜ r ≡ partOf t ⌝ }
+// ---- a triangle on its way: the dear steps are done, and while they are under way the triangle before it is taken
+
+// The cross product n, its square and length, and the volume term. The square is kept as its pattern.
+pub struct Prepared {
+    pub in_range: bool,
+    pub square: u64,
+    pub length: f64,
+    pub nx: f64,
+    pub ny: f64,
+    pub nz: f64,
+    pub volume: f64,
+}
+
+// One that adds nothing.
+pub fn nothing() -> Prepared
+    ensures { λ r. ⌜ Prepares Part.OutOfRange r ⌝ }
+{
+    Prepared {
+        in_range: false,
+        square: 0,
+        length: 0.0,
+        nx: 0.0,
+        ny: 0.0,
+        nz: 0.0,
+        volume: 0.0,
+    }
+}
+
+// The root of a square with the pattern b. The two triangles of a flat rectangle have one square, so the root is often known.
+fn length_of(square: f64, b: u64, known: u64, length: f64) -> f64
+    requires { ⌜ (b ≡ toBits binary64 square) × (length ≡ root binary64 (ofBits binary64 known)) ⌝ }
+    ensures { λ r. ⌜ (r ≡ root binary64 square) × (r ≡ root binary64 (ofBits binary64 b)) ⌝ }
+{
+    if b == known {
+        length
+    } else {
+        floats::root64(square)
+    }
+}
+
+// The triangle with these corners, behind another.
+fn prepare_corners(t: [[f64; 3]; 3], last: Prepared) -> Prepared
+    requires { ⌜ Rooted last ⌝ }
+    ensures { λ r. ⌜ Prepares (partOf t) r ⌝ }
 {
     let n = normal(t);
-    let length = size(n);
-    if length < 1e-12 {
-        return Part::Sliver;
-    }
-    let area = 0.5 * length;
-    let inv = 1.0 / length;
-    Part::Used(Facet {
-        area,
-        area32: floats::narrow(area),
+    let square = dot(n, n);
+    let b = floats::bits64(square);
+    let length = length_of(square, b, last.square, last.length);
+    Prepared {
+        in_range: true,
+        square: b,
+        length,
+        nx: n[0],
+        ny: n[1],
+        nz: n[2],
         volume: tetra(t),
-        nx: floats::narrow(n[0] * inv),
-        ny: floats::narrow(n[1] * inv),
-        nz: floats::narrow(n[2] * inv),
-    })
+    }
 }
 
 // Vertex v less the origin.
@@ -204,22 +239,47 @@ fn corner(vertices: &[f32], origin: [f64; 3], v: usize) -> [f64; 3]
     [x - origin[0], y - origin[1], z - origin[2]]
 }
 
-// The part of triangle t.
-pub fn part_at(vertices: &[f32], indices: &[u32], origin: [f64; 3], t: usize) -> Part
-    requires { ⌜ (length (now indices) ≤ 98304) × (t < triangleCount (now indices)) ⌝ }
-    ensures { λ r. ⌜ r ≡ partAt (now (vertices .entry)) origin (triangle (now (indices .entry)) t) ⌝ }
+// Triangle t, behind another; nothing where there is none.
+pub fn prepare(
+    vertices: &[f32],
+    indices: &[u32],
+    origin: [f64; 3],
+    t: usize,
+    last: Prepared,
+) -> Prepared
+    requires { ⌜ (length (now indices) ≤ 98304) × Rooted last ⌝ }
+    ensures { λ r. ⌜ Rooted r × (t < triangleCount (now (indices .entry)) → partBy r ≡ part (now (vertices .entry)) origin (triangle (now (indices .entry)) t)) ⌝ }
 {
+    if indices.len() / 3 <= t {
+        return nothing();
+    }
     let at = 3 * t;
     let a = indices[at];
     let b = indices[at + 1];
     let c = indices[at + 2];
     if !vertices::corners_in_range(vertices, a, b, c) {
-        return Part::OutOfRange;
+        return nothing();
     }
     let p = corner(vertices, origin, a as usize);
     let q = corner(vertices, origin, b as usize);
     let r = corner(vertices, origin, c as usize);
-    part_of([p, q, r])
+    prepare_corners([p, q, r], last)
+}
+
+// The facet of one that is in range and no sliver.
+pub fn facet_by(r: Prepared) -> Facet
+    ensures { λ f. ⌜ f ≡ facetBy r ⌝ }
+{
+    let area = 0.5 * r.length;
+    let inv = 1.0 / r.length;
+    Facet {
+        area,
+        area32: floats::narrow(area),
+        volume: r.volume,
+        nx: floats::narrow(r.nx * inv),
+        ny: floats::narrow(r.ny * inv),
+        nz: floats::narrow(r.nz * inv),
+    }
 }
 
 // ---- slope and totals

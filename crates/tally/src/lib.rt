@@ -35,12 +35,10 @@ pub fn tally_edges(part: &[u32], n: usize) -> Incidence
     requires { ⌜ (n ≤ 131072) × (3 * n ≤ length (now part)) ⌝ }
     ensures { λ r. ⌜ ((ids : List ℕ) → EdgeTable n (now (part .entry)) (chain ids) → (r .«boundary_free» ≡ boundaryFree ids) × (r .«over_incident» ≡ overIncident ids)) ⌝ }
 {
-    let present = edges::count(part, n, edges::PRESENT);
-    let unbalanced = edges::count(part, n, edges::UNBALANCED);
-    let crowded = edges::count(part, n, edges::CROWDED);
+    let s = edges::survey_rows(part, n);
     Incidence {
-        boundary_free: (0 < present) & (unbalanced == 0),
-        over_incident: 0 < crowded,
+        boundary_free: (0 < s.present) & (s.unbalanced == 0),
+        over_incident: 0 < s.crowded,
     }
 }
 

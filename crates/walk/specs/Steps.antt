@@ -1,12 +1,15 @@
 -- What one triangle does to the totals, the rows and their index.
 use mathlib.Core.Path.{_≡_}
-use Prim.Native.Nat.{ℕ}
+use Prim.Native.Nat.{ℕ, zero, suc, _-_, _≤_}
 use mathlib.Core.List.{List}
 use lib.ListN.{length}
 use lib.Ieee.{Float}
 use Rattle.sums.specs.declared.Part.{Part}
 use Rattle.sums.specs.declared.Thresholds.{Thresholds}
-use Rattle.ids.specs.Triangles.{triangleCount}
+use Rattle.sums.specs.declared.Prepared.{Prepared}
+use Rattle.ids.specs.Triangles.{triangle, triangleCount}
+use Rattle.sums.specs.Facet.{part}
+use Rattle.sums.specs.Prepared.{partBy, Rooted}
 use Rattle.sums.specs.Totals.{withPart, totalsTo}
 use Rattle.surfaces.specs.Surfaces.{Bucket}
 use Rattle.surfaces.specs.Index.{Gathered}
@@ -23,3 +26,13 @@ pub record Taken (vs o : List Float) (pair : Thresholds) (ids : List ℕ) (w : L
   pub totals : r .totals ≡ totalsTo vs o pair ids n
   pub count : r .rows ≡ length (bucketsTo vs o ids n)
   pub means : Gathered (triangleCount ids) w t u (bucketsTo vs o ids n)
+
+-- after n turns the triangle in front of the next one, if there is one, is prepared, and those in front of it are taken
+unfoldable pub Holds : List Float → List Float → List ℕ → ℕ → Prepared → Type 0
+Holds vs o ids zero p = partBy p ≡ Part.OutOfRange
+Holds vs o ids (suc n) p = partBy p ≡ part vs o (triangle ids n)
+
+pub record Underway (vs o : List Float) (pair : Thresholds) (ids : List ℕ) (w : List Float) (n : ℕ) (t : List ℕ) (u : List Float) (r : Sums) (p : Prepared) : Type 0 where
+  pub rooted : Rooted p
+  pub holds : n ≤ triangleCount ids → Holds vs o ids n p
+  pub taken : Taken vs o pair ids w (n - 1) t u r

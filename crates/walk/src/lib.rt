@@ -2,13 +2,14 @@
 ghost use mathlib.Core.Path.{_≡_};
 ghost use Prim.Native.Nat.{_+_, _*_, _≤_, _<_};
 ghost use lib.ListN.{length, replicate};
-ghost use Rattle.ids.specs.Triangles.{triangle, triangleCount};
+ghost use Rattle.ids.specs.Triangles.{triangleCount};
 ghost use Rattle.surfaces.specs.Index.{Ready};
-ghost use Rattle.sums.specs.Facet.{part};
+ghost use Rattle.sums.specs.Prepared.{partBy};
 ghost use Rattle.walk.specs.Walk.{Walks};
 ghost use Rattle.walk.specs.Steps.{Takes, Taken};
 use sums::Facet;
 use sums::Part;
+use sums::Prepared;
 use sums::Thresholds;
 use sums::Totals;
 
@@ -39,30 +40,29 @@ fn take_facet(
     }
 }
 
-// Triangle t more.
+// What is prepared of a triangle more.
 fn take(
-    vertices: &[f32],
-    indices: &[u32],
-    origin: [f64; 3],
     pair: Thresholds,
     s: Sums,
-    t: usize,
+    p: Prepared,
     index: &mut [u32],
     rows: &mut [f32],
+    m: usize,
 ) -> Sums
-    requires { ⌜ (length (now indices) ≤ 98304) × (t < triangleCount (now indices)) × Ready (triangleCount (now indices)) (s .rows) (now index) (now rows) ⌝ }
-    ensures { λ r. ⌜ Takes (triangleCount (now (indices .entry))) pair s (part (now (vertices .entry)) origin (triangle (now (indices .entry)) t))
-        (now (index .entry)) (now (index .exit)) (now (rows .entry)) (now (rows .exit)) r ⌝ }
+    requires { ⌜ Ready m (s .rows) (now index) (now rows) ⌝ }
+    ensures { λ r. ⌜ Takes m pair s (partBy p) (now (index .entry)) (now (index .exit)) (now (rows .entry)) (now (rows .exit)) r ⌝ }
 {
-    let p = sums::part_at(vertices, indices, origin, t);
-    match p {
-        Part::OutOfRange => s,
-        Part::Sliver => s,
-        Part::Used(f) => take_facet(pair, s, f, index, rows, indices.len() / 3),
+    if !p.in_range {
+        return s;
     }
+    if p.length < 1e-12 {
+        return s;
+    }
+    take_facet(pair, s, sums::facet_by(p), index, rows, m)
 }
 
-// All triangles, the index words being zero before.
+// All triangles, the index words being zero before. A triangle is prepared before the one in front of it is taken: the two have nothing to do with
+// each other, so that a processor works at the one's root while it looks for the other's row.
 fn take_all(
     vertices: &[f32],
     indices: &[u32],
@@ -79,9 +79,12 @@ fn take_all(
         totals: Totals::none(),
         rows: 0,
     };
+    let mut held = sums::nothing();
     let mut t = 0;
-    while t < m {
-        s = take(vertices, indices, origin, pair, s, t, index, rows);
+    while t <= m {
+        let next = sums::prepare(vertices, indices, origin, t, held);
+        s = take(pair, s, held, index, rows, m);
+        held = next;
         t += 1;
     }
     s

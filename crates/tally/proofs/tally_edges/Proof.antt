@@ -2,31 +2,24 @@
 use mathlib.Core.Path.{_≡_, _∙_}
 use borrow.Author.Needs.{needs}
 use Rattle.ids.specs.EdgeChain.{chain, edgesThat, present, unbalanced, crowded, boundaryFree, overIncident}
-use Rattle.edges.specs.Tests.{testOf}
 use Rattle.edges.proofs.Tally.{table-tally}
 use Rattle.tally.proofs.tally_edges.Statement.{statement}
 use Rattle.tally.proofs.tally_edges.Tie as tie
 
-count-requires : tie.Need-count-requires
-count-requires c κs = search needs
-
-count-requires-2 : tie.Need-count-requires-2
-count-requires-2 c κs = search needs
-
-count-requires-3 : tie.Need-count-requires-3
-count-requires-3 c κs = search needs
+survey-rows-requires : tie.Need-survey-rows-requires
+survey-rows-requires c κs = search needs
 
 returns : tie.Need-returns
-unfolding testOf boundaryFree overIncident
+unfolding boundaryFree overIncident
 returns c =
     λ ids m.
-    let s = c .before .before .before .before in
-    let n = s .args .n in
-    let t = s .args .part .now in
-    let e₀ : c .before .before .count .result ≡ edgesThat present (chain ids) = c .before .before .count .ensures .0 ∙ table-tally n t (chain ids) present m in
-    let e₁ : c .before .count2 .result ≡ edgesThat unbalanced (chain ids) = c .before .count2 .ensures .0 ∙ table-tally n t (chain ids) unbalanced m in
-    let e₂ : c .count3 .result ≡ edgesThat crowded (chain ids) = c .count3 .ensures .0 ∙ table-tally n t (chain ids) crowded m in
+    let n = c .before .before .args .n in
+    let t = c .before .before .args .part .now in
+    let s = c .survey-rows in
+    let e₀ : s .result .present ≡ edgesThat present (chain ids) = s .ensures .0 ∙ table-tally n t (chain ids) present m in
+    let e₁ : s .result .unbalanced ≡ edgesThat unbalanced (chain ids) = s .ensures .1 ∙ table-tally n t (chain ids) unbalanced m in
+    let e₂ : s .result .crowded ≡ edgesThat crowded (chain ids) = s .ensures .2 ∙ table-tally n t (chain ids) crowded m in
     (rw (e₀, e₁), rw e₂)
 
 pub tally-edges-spec : {M : Type 1} → statement M
-tally-edges-spec = tie.close (tie.spec count-requires count-requires-2 count-requires-3 returns)
+tally-edges-spec = tie.close (tie.spec survey-rows-requires returns)

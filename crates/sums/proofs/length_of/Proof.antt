@@ -1,0 +1,27 @@
+-- `sums::length_of` meets its contract: floats with one pattern have one root. Assumes nothing.
+use Prim.Native.Nat.{ℕ}
+use mathlib.Core.Path.{sym, _∙_, ap}
+use lib.Ieee.{binary64, ofBits}
+use Rattle.ieee.specs.Root.{root}
+use Rattle.sums.proofs.Parts.{root-by-pattern}
+use borrow.Author.Needs.{needs}
+use Rattle.sums.proofs.length_of.Statement.{statement}
+use Rattle.sums.proofs.length_of.Tie as tie
+
+root64-requires : tie.Need-root64-requires
+root64-requires c κs = search needs
+
+returns : tie.Need-returns
+returns c =
+    let a = c .before .args in
+    let p = c .before .pre in
+    let e = p .1 ∙ ap (λ (k : ℕ). root binary64 (ofBits binary64 k)) (sym (c .if1 .taken)) in
+    (e ∙ sym (root-by-pattern (a .square) (a .b) (c .before .good .0 .1) (p .0)), e)
+
+returns-2 : tie.Need-returns-2
+returns-2 c =
+    let a = c .before .before .args in
+    (c .root64 .ensures, c .root64 .ensures ∙ root-by-pattern (a .square) (a .b) (c .before .before .good .0 .1) (c .before .before .pre .0))
+
+pub length-of-spec : {M : Type 1} → statement M
+length-of-spec = tie.close (tie.spec root64-requires returns returns-2)

@@ -1,5 +1,6 @@
 // The square root of an `f64`, by integer arithmetic on the pattern. Internal: `floats` passes it on.
 ghost use lib.Ieee.{binary64, ofBits, toBits};
+ghost use mathlib.Core.Logic.{_⊎_};
 ghost use mathlib.Core.Path.{_≡_};
 ghost use Prim.Native.Nat.{_+_, _*_, _/_, _%_, _≤_, _<_, _^_};
 ghost use Rattle.ieee.specs.Root.{closestRoot, floorRoot, root};
@@ -49,6 +50,13 @@ fn nearest_root(m: u64) -> u64
     if t * t + s < u * 0x400_0000 { s + 1 } else { s }
 }
 
+// 1 where a is below b, and 0 where it is not: no branch.
+fn less(a: u64, b: u64) -> u64
+    ensures { λ r. ⌜ (r ≤ 1) × (((a < b) × (r ≡ 1)) ⊎ ((b ≤ a) × (r ≡ 0))) ⌝ }
+{
+    (a < b) as u64
+}
+
 // √(m * 2^52) to the nearest whole number, from any guess q. With r for m * 2^52 - q * q + 2^55, which fits a word where q
 // is near, the answer is a neighbour of q where r says so. The square is made of two parts of q: k is what is left of m * 2^52
 // after the squares above 2^44, in units of that. Where q is not near, by digits.
@@ -62,7 +70,7 @@ fn settled(m: u64, q: u64) -> u64
     let k = std::num::wrapping_sub_u64(m * 256 + 2046, u * u + p / 0x20_0000);
     let r = (k % 4096 + 2) * 0x1000_0000_0000 - (p % 0x20_0000 * 0x80_0000 + v * v);
     if (k < 4096) & (0x80_0000_0000_0002 < r + 3 * q) & (r < 0x80_0000_0000_0000 + 3 * q) {
-        q + (0x80_0000_0000_0000 + q < r) as u64 - (r + q <= 0x80_0000_0000_0000) as u64
+        q + less(0x80_0000_0000_0000 + q, r) - less(r + q, 0x80_0000_0000_0001)
     } else {
         nearest_root(m)
     }

@@ -1,16 +1,14 @@
 -- `root::settled` meets its contract: r is m * 2 ^ 52 - q * q + 2 ^ 55 whatever q is, if it fits, and then says which of q and its
 -- neighbours is the answer. Assumes nothing.
 use borrow.Author.Needs.{needs}
-use mathlib.Core.Path.{_≡_, refl, sym, subst}
-use mathlib.Core.Bool.{Bool, true, false, _&&_}
+use mathlib.Core.Logic.{_⊎_, inl, inr}
+use mathlib.Core.Path.{_≡_, sym, _∙_, subst}
+use mathlib.Core.Bool.{_&&_}
 use Prim.Native.Nat.{ℕ, _+_, _-_, _*_, _/_, _%_, _^_, _≤_, _<_}
-use native.Mathlib.Nat.{add-zero, mul-le-mul, sub-zero}
-use native.Mathlib.Decide.{decLt}
+use native.Mathlib.Nat.{mul-le-mul}
 use native.Mathlib.Omega.{arith}
-use borrow.Author.Tests.{le-leb, le-ltb, lt-leb, lt-ltb}
-use lib.Dec.{T, leb, ltb, leb→le, ltb→lt, nleb→lt, nltb→le}
+use lib.Dec.{T, ltb, ltb→lt}
 use lib.Ieee.Fits.{and-l, and-r}
-use mir.Val.{boolByte}
 use Rattle.ieee.specs.Root.{closestRoot}
 use Rattle.ieee.proofs.Numbers.Squares.{closestRoot-at}
 use Rattle.root.proofs.settled.Statement.{statement}
@@ -33,37 +31,29 @@ balance : (m u v h l k r : ℕ) → k + (u * u + h) ≡ m * 256 + 2046 → h * 2
     → m * 2 ^ 52 + 2 ^ 55 ≡ (u * 2 ^ 22 + v) * (u * 2 ^ 22 + v) + r
 balance m u v h l k r a b c = omega arith
 
--- a test as a number
-byte-small : (b : Bool) → boolByte b ≤ 1
-byte-small true = omega arith
-byte-small false = omega arith
+-- ---- which of the three it is, where q is near: n is q * q + r - c
+record Near (n q c r : ℕ) : Type 0 where
+  is : n + c ≡ q * q + r
+  above : c + 2 < r + 3 * q
+  below : r < c + 3 * q
 
--- ---- which of the three it is, where n is q * q + r - c
-module _ (n q c r : ℕ) (e : n + c ≡ q * q + r) (above : c + 2 < r + 3 * q) (below : r < c + 3 * q) where
-  same : r ≤ c + q → c < r + q → q ≡ closestRoot n 1
-  same h l = closestRoot-at n q (omega arith) (omega arith)
+abbrev Told : ℕ → ℕ → ℕ → Type 0
+Told a b x = ((a < b) × (x ≡ 1)) ⊎ ((b ≤ a) × (x ≡ 0))
 
-  next : c + q < r → q + 1 ≡ closestRoot n 1
-  next h = closestRoot-at n (q + 1) (omega arith) (omega arith)
+-- x tells whether it is the next, y whether it is the one before
+settles : (n q c r : ℕ) → Near n q c r → 0 < q → (x y : ℕ) → Told (c + q) r x → Told (r + q) (c + 1) y → q + x - y ≡ closestRoot n 1
+settles n q c r near p x y next before =
+    let is : q ≡ q - 1 + 1 = omega arith in
+    go (q - 1) is (subst (λ (z : ℕ). n + c ≡ z * z + r) is (near .is)) next before
+  where
+    at : (s : ℕ) → q + x - y ≡ s → s * s < n + s → n ≤ s * s + s → q + x - y ≡ closestRoot n 1
+    at s e h l = e ∙ closestRoot-at n s h l
 
-  last : 0 < q → r + q ≤ c → q - 1 ≡ closestRoot n 1
-  last p h =
-      let is : q ≡ q - 1 + 1 = omega arith in
-      go (q - 1) (subst (λ (z : ℕ). n + c ≡ z * z + r) is e) is
-    where
-      go : (s : ℕ) → n + c ≡ (s + 1) * (s + 1) + r → q ≡ s + 1 → s ≡ closestRoot n 1
-      go s d i = closestRoot-at n s (omega arith) (omega arith)
-
-  settles : 0 < q → q + boolByte (ltb (c + q) r) - boolByte (leb (r + q) c) ≡ closestRoot n 1
-  settles p =
-      elim (decLt (c + q) r) [
-        | yes h ↦ rw (lt-ltb (c + q) r h, lt-leb (r + q) c (omega arith), sub-zero (q + 1)) (next h)
-        | no h ↦
-            elim (decLt c (r + q)) [
-              | yes l ↦ rw (le-ltb (c + q) r (omega arith), lt-leb (r + q) c l, add-zero q, sub-zero q) (same (omega arith) l)
-              | no l ↦ rw (le-ltb (c + q) r (omega arith), le-leb (r + q) c (omega arith), add-zero q) (last p (omega arith))
-            ]
-      ]
+    go : (s : ℕ) → q ≡ s + 1 → n + c ≡ (s + 1) * (s + 1) + r → Told (c + q) r x → Told (r + q) (c + 1) y → q + x - y ≡ closestRoot n 1
+    go s i e (inl a) (inl b) = absurd (omega arith)
+    go s i e (inl a) (inr b) = at (s + 2) (omega arith) (omega arith) (omega arith)
+    go s i e (inr a) (inr b) = at (s + 1) (omega arith) (omega arith) (omega arith)
+    go s i e (inr a) (inl b) = at s (omega arith) (omega arith) (omega arith)
 
 -- ---- the routine
 abbrev left : ℕ → ℕ → ℕ
@@ -79,16 +69,6 @@ left-is m q k M Q K e =
     let whole : u * 2 ^ 22 + v ≡ q = omega arith in
     subst (λ (z : ℕ). m * 2 ^ 52 + 2 ^ 55 ≡ z * z + left q k) whole
     (balance m u v (u * v / 2 ^ 21) (u * v % 2 ^ 21) k (left q k) (omega arith) (omega arith) (omega arith))
-
--- the tests of the answer
-abbrev rest : tie.Then1 → ℕ
-rest c = left (c .before .before .args .q) (c .before .wrapping-sub-u64 .result)
-
-abbrev up : tie.Then1 → Bool
-up c = ltb (2 ^ 55 + c .before .before .args .q) (rest c)
-
-abbrev down : tie.Then1 → Bool
-down c = leb (rest c + c .before .before .args .q) (2 ^ 55)
 
 mul-p : tie.Need-mul-p
 mul-p c = let p = parts (c .args .q) (c .pre .3) in omega arith
@@ -138,42 +118,52 @@ mul-if1-2 c = search needs
 add-if1-2 : tie.Need-add-if1-2
 add-if1-2 c = search needs
 
+add-less : tie.Need-add-less
+add-less c = search needs
+
+less-requires : tie.Need-less-requires
+less-requires c κs = search needs
+
 add-result : tie.Need-add-result
 add-result c = search needs
 
-cast-result : tie.Need-cast-result
-cast-result c = search needs
+add-less-2 : tie.Need-add-less-2
+add-less-2 c = search needs
 
-add-result-2 : tie.Need-add-result-2
-add-result-2 c = omega (arith, byte-small (up c))
-
-add-result-3 : tie.Need-add-result-3
-add-result-3 c = search needs
-
-cast-result-2 : tie.Need-cast-result-2
-cast-result-2 c = search needs
+less-requires-2 : tie.Need-less-requires-2
+less-requires-2 c κs = search needs
 
 sub-result : tie.Need-sub-result
-sub-result c = omega (arith, byte-small (down c))
+sub-result c = search needs
 
 nearest-root-requires : tie.Need-nearest-root-requires
 nearest-root-requires c κs = search needs
 
-returns : tie.Need-returns
-returns c =
+abbrev rest : tie.Then1 → ℕ
+rest c = left (c .before .before .args .q) (c .before .wrapping-sub-u64 .result)
+
+near : (c : tie.Then1) → Near (c .before .before .args .m * 2 ^ 52) (c .before .before .args .q) (2 ^ 55) (rest c)
+near c =
     let called = c .before in
     let m = called .before .args .m in
     let q = called .before .args .q in
     let k = called .wrapping-sub-u64 .result in
     let r = rest c in
-    let near = ltb k 4096 in
+    let small = ltb k 4096 in
     let above = ltb (2 ^ 55 + 2) (r + 3 * q) in
     let below = ltb r (2 ^ 55 + 3 * q) in
     let all = subst T (sym (c .if1 .taken)) tt in
-    let both = and-l (near && above) below all in
-    settles (m * 2 ^ 52) q (2 ^ 55) r
-    (left-is m q k (called .before .pre .1) (called .before .pre .3) (ltb→lt k 4096 (and-l near above both)) (called .wrapping-sub-u64 .ensures))
-    (ltb→lt (2 ^ 55 + 2) (r + 3 * q) (and-r near above both)) (ltb→lt r (2 ^ 55 + 3 * q) (and-r (near && above) below all)) (omega arith)
+    let both = and-l (small && above) below all in
+    record {
+      is = left-is m q k (called .before .pre .1) (called .before .pre .3) (ltb→lt k 4096 (and-l small above both)) (called .wrapping-sub-u64 .ensures);
+      above = ltb→lt (2 ^ 55 + 2) (r + 3 * q) (and-r small above both);
+      below = ltb→lt r (2 ^ 55 + 3 * q) (and-r (small && above) below all);
+    }
+
+returns : tie.Need-returns
+returns c =
+    let at-if1 = c .before .before in
+    settles _ (at-if1 .before .before .args .q) (2 ^ 55) (rest at-if1) (near at-if1) (omega arith) _ _ (c .before .less .ensures .1) (c .less2 .ensures .1)
 
 returns-2 : tie.Need-returns-2
 returns-2 c = search needs
@@ -198,11 +188,11 @@ settled-spec =
     add-if1
     mul-if1-2
     add-if1-2
+    add-less
+    less-requires
     add-result
-    cast-result
-    add-result-2
-    add-result-3
-    cast-result-2
+    add-less-2
+    less-requires-2
     sub-result
     nearest-root-requires
     returns

@@ -1,2 +1,2 @@
--- What the test for a normal number above zero says of its pattern.
+-- Laws that two proofs of this crate share.
 pub mod Range

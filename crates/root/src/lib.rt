@@ -50,16 +50,16 @@ fn nearest_root(m: u64) -> u64
     if t * t + s < u * 0x400_0000 { s + 1 } else { s }
 }
 
-// 1 where a is below b, and 0 where it is not: no branch.
+// 1 where a is below b, and 0 where it is not. A number, since the compiler makes a jump of an `if`.
 fn less(a: u64, b: u64) -> u64
     ensures { λ r. ⌜ (r ≤ 1) × (((a < b) × (r ≡ 1)) ⊎ ((b ≤ a) × (r ≡ 0))) ⌝ }
 {
     (a < b) as u64
 }
 
-// √(m * 2^52) to the nearest whole number, from any guess q. With r for m * 2^52 - q * q + 2^55, which fits a word where q
-// is near, the answer is a neighbour of q where r says so. The square is made of two parts of q: k is what is left of m * 2^52
-// after the squares above 2^44, in units of that. Where q is not near, by digits.
+// √(m * 2^52) to the nearest whole number, from any guess q. r is m * 2^52 - q * q + 2^55, which fits a word where q is near.
+// The answer is q, the next number where r is above 2^55 + q, or the one before where r is not above 2^55 - q. The square
+// is made of q's parts u and v, and k is what is left in units of 2^44, and 2046 more. Where q is not near, by digits.
 fn settled(m: u64, q: u64) -> u64
     requires { ⌜ (2 ^ 52 ≤ m) × (m < 2 ^ 54) × (2 ^ 52 ≤ q) × (q < 2 ^ 53) ⌝ }
     ensures { λ r. ⌜ r ≡ closestRoot (m * 2 ^ 52) 1 ⌝ }
@@ -107,7 +107,7 @@ fn root_normal(x: f64, b: u64) -> u64
     root_scaled(FIELD + b % FIELD, b / FIELD + 1021, guess(x, b))
 }
 
-// The same for a subnormal one, whose digits are t. There is no guess.
+// The same for a subnormal one, whose pattern is t. No guess is made.
 fn root_subnormal(t: u64) -> u64
     requires { ⌜ (0 < t) × (t < 2 ^ 52) ⌝ }
     ensures { λ r. ⌜ r ≡ toBits binary64 (root binary64 (ofBits binary64 t)) ⌝ }
@@ -133,10 +133,14 @@ pub fn root64_bits(b: u64) -> u64
     }
 }
 
+// A normal x above zero is not read back from its pattern.
 pub fn root64(x: f64) -> f64
     ensures { λ r. ⌜ r ≡ root binary64 x ⌝ }
 {
-    let b = bits64(x);
+    if x != x {
+        return x;
+    }
+    let b = f64::to_bits(x);
     if (FIELD <= b) & (b < 0x7ff0_0000_0000_0000) {
         f64::from_bits(root_normal(x, b))
     } else {

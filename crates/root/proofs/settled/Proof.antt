@@ -1,7 +1,7 @@
 -- `root::settled` meets its contract: r is m * 2 ^ 52 - q * q + 2 ^ 55 whatever q is, if it fits, and then says which of q and its
 -- neighbours is the answer. Assumes nothing.
 use borrow.Author.Needs.{needs}
-use mathlib.Core.Logic.{_⊎_, inl, inr}
+use mathlib.Core.Logic.{_⊎_, inl, inr, ⊎-elim}
 use mathlib.Core.Path.{_≡_, sym, _∙_, subst}
 use mathlib.Core.Bool.{_&&_}
 use Prim.Native.Nat.{ℕ, _+_, _-_, _*_, _/_, _%_, _^_, _≤_, _<_}
@@ -163,7 +163,9 @@ near c =
 returns : tie.Need-returns
 returns c =
     let at-if1 = c .before .before in
-    settles _ (at-if1 .before .before .args .q) (2 ^ 55) (rest at-if1) (near at-if1) (omega arith) _ _ (c .before .less .ensures .1) (c .less2 .ensures .1)
+    settles _ (at-if1 .before .before .args .q) (2 ^ 55) (rest at-if1) (near at-if1) (omega arith) _ _
+    (⊎-elim (λ w. inl (omega arith, w .1)) (λ w. inr (omega arith, w .1)) (c .before .less .ensures .1))
+    (⊎-elim (λ w. inl (omega arith, w .1)) (λ w. inr (omega arith, w .1)) (c .less2 .ensures .1))
 
 returns-2 : tie.Need-returns-2
 returns-2 c = search needs

@@ -47,15 +47,15 @@ module _ (n s x y : ℕ) (e : s * s + x ≡ n + y) where
 squares : {m q t u : ℕ} → Parts m q t u → (q * 2 ^ 26 + t) * (q * 2 ^ 26 + t) + u * 2 ^ 26 ≡ m * 2 ^ 52 + t * t
 squares p = omega arith
 
-parts-at : (c : tie.After-whole-root)
-    → let m = c .before .args .m in let q = c .whole-root .result in Parts m q ((m - q * q) * 2 ^ 26 / (2 * q)) ((m - q * q) * 2 ^ 26 % (2 * q))
+parts-at : (c : tie.After-digit-root)
+    → let m = c .before .args .m in let q = c .digit-root .result in Parts m q ((m - q * q) * 2 ^ 26 / (2 * q)) ((m - q * q) * 2 ^ 26 % (2 * q))
 parts-at c =
     let m = c .before .args .m in
-    parts-of m (c .whole-root .result) (c .before .pre .0) (c .before .pre .1)
-    (subst (λ (q : ℕ). IsRoot m q) (sym (c .whole-root .ensures)) (floorRoot-is m))
+    parts-of m (c .digit-root .result) (c .before .pre .0) (c .before .pre .1)
+    (subst (λ (q : ℕ). IsRoot m q) (sym (c .digit-root .ensures)) (floorRoot-is m))
 
-whole-root-requires : tie.Need-whole-root-requires
-whole-root-requires c κs = search needs
+digit-root-requires : tie.Need-digit-root-requires
+digit-root-requires c κs = search needs
 
 mul-n : tie.Need-mul-n
 mul-n c = let p = parts-at c in omega arith
@@ -105,4 +105,4 @@ returns-2 c = let p = parts-at (c .before) in same (c .before .before .args .m *
 pub nearest-root-spec : {M : Type 1} → statement M
 nearest-root-spec =
     tie.close
-    (tie.spec whole-root-requires mul-n sub-n mul-n-2 mul-t div-t mul-u rem-u mul-s add-s mul-if1 add-if1 mul-if1-2 add-result returns returns-2)
+    (tie.spec digit-root-requires mul-n sub-n mul-n-2 mul-t div-t mul-u rem-u mul-s add-s mul-if1 add-if1 mul-if1-2 add-result returns returns-2)

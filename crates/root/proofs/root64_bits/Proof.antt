@@ -1,29 +1,50 @@
 -- `root::root64_bits` meets its contract. Assumes nothing.
 use borrow.Author.Needs.{needs}
 use native.Mathlib.Omega.{arith}
-use Rattle.ieee.proofs.Patterns.Root.{above-bits, infinity-bits, nan-bits, zero-bits}
+use lib.Ieee.{binary64}
+use Rattle.ieee.proofs.Patterns.Nan.{up-to-inf}
+use Rattle.ieee.proofs.Patterns.Root.{infinity-bits, nan-bits, zero-bits}
+use Rattle.root.proofs.Range.{inside, no-digits, outside}
 use Rattle.root.proofs.root64_bits.Statement.{statement}
 use Rattle.root.proofs.root64_bits.Tie as tie
 
-add-if1 : tie.Need-add-if1
-add-if1 c = search needs
+float-from-bits-root-normal : tie.Need-float-from-bits-root-normal
+float-from-bits-root-normal c = up-to-inf binary64 (c .before .args .b) (let h = inside (c .before .args .b) (c .if1 .taken) in omega arith)
 
-root-size-requires : tie.Need-root-size-requires
-root-size-requires c κs = search needs
+root-normal-requires : tie.Need-root-normal-requires
+root-normal-requires c κs = inside (c .before .args .b) (c .if1 .taken)
+
+root-subnormal-requires : tie.Need-root-subnormal-requires
+root-subnormal-requires c κs = search needs
 
 returns : tie.Need-returns
-returns c = let start = c .before in zero-bits (start .args .b) (start .fits .b .fits) (c .if1 .taken)
+returns c = c .root-normal .ensures .0
 
 returns-2 : tie.Need-returns-2
-returns-2 c =
-    let start = c .before .before .before in
-    above-bits (start .args .b) (c .root-size .result) (c .before .if2 .taken) (c .before .before .if1 .left) (c .root-size .ensures)
+returns-2 c = let start = c .before .before in zero-bits (start .args .b) (start .fits .b .fits) (no-digits (start .args .b) (c .if2 .taken))
 
 returns-3 : tie.Need-returns-3
-returns-3 c = infinity-bits (c .before .before .before .args .b) (c .if3 .taken)
+returns-3 c = search needs
 
 returns-4 : tie.Need-returns-4
-returns-4 c = let start = c .before .before .before in nan-bits (start .args .b) (start .fits .b .fits) (omega arith) (c .before .before .if1 .left)
+returns-4 c = infinity-bits (c .before .before .before .before .args .b) (c .if4 .taken)
+
+returns-5 : tie.Need-returns-5
+returns-5 c =
+    let at-if1 = c .before .before .before in
+    let b = at-if1 .before .args .b in
+    let past = outside b (at-if1 .if1 .left) (omega arith) in
+    nan-bits b (at-if1 .before .fits .b .fits) (omega arith) (λ z. omega arith)
 
 pub root64-bits-spec : {M : Type 1} → statement M
-root64-bits-spec = tie.close (tie.spec add-if1 root-size-requires returns returns-2 returns-3 returns-4)
+root64-bits-spec =
+    tie.close
+    (tie.spec
+    float-from-bits-root-normal
+    root-normal-requires
+    root-subnormal-requires
+    returns
+    returns-2
+    returns-3
+    returns-4
+    returns-5)

@@ -1,6 +1,7 @@
 -- `root::root_scaled` meets its contract. Assumes nothing.
 use borrow.Author.Needs.{needs}
-use Prim.Native.Nat.{ℕ, _+_, _*_, _%_, _^_, _≤_, _<_}
+use mathlib.Core.Path.{ap}
+use Prim.Native.Nat.{ℕ, _+_, _*_, _/_, _%_, _^_, _≤_, _<_}
 use native.Mathlib.Nat.{div-one, mul-le-mul-left}
 use native.Mathlib.Omega.{arith}
 use lib.Dec.{lit<}
@@ -17,24 +18,34 @@ doubled d r h =
 mul-result : tie.Need-mul-result
 mul-result c = search needs
 
-add-nearest-root : tie.Need-add-nearest-root
-add-nearest-root c = search needs
+add-settled : tie.Need-add-settled
+add-settled c = search needs
 
-mul-nearest-root : tie.Need-mul-nearest-root
-mul-nearest-root c = omega (arith, doubled (c .args .d) (c .args .w % 2) (omega arith))
+mul-settled : tie.Need-mul-settled
+mul-settled c = omega (arith, doubled (c .args .d) (c .args .w % 2) (omega arith))
 
-nearest-root-requires : tie.Need-nearest-root-requires
-nearest-root-requires c κs = let b = doubled (c .args .d) (c .args .w % 2) (omega arith) in (omega arith, omega arith)
+add-settled-2 : tie.Need-add-settled-2
+add-settled-2 c = search needs
 
-add-result : tie.Need-add-result
-add-result c =
+settled-requires : tie.Need-settled-requires
+settled-requires c κs =
+    let b = doubled (c .args .d) (c .args .w % 2) (omega arith) in
+    (omega arith, omega arith, omega arith, omega arith)
+
+low : (c : tie.After-settled) → c .settled .result ≤ 2 ^ 53
+low c =
     let start = c .before in
     let m = start .args .d * (1 + start .args .w % 2) in
     let b = doubled (start .args .d) (start .args .w % 2) (omega arith) in
-    omega (arith, c .nearest-root .ensures, closestRoot-le (m * 2 ^ 52) 1 (2 ^ 53) (lit< tt) (rw (div-one (m * 2 ^ 52)) (omega arith)))
+    rw (c .settled .ensures) (closestRoot-le (m * 2 ^ 52) 1 (2 ^ 53) (lit< tt) (rw (div-one (m * 2 ^ 52)) (omega arith)))
+
+add-result : tie.Need-add-result
+add-result c = omega (arith, low c)
 
 returns : tie.Need-returns
-returns c = search needs
+returns c = (ap (λ (z : ℕ). c .before .args .w / 2 * 2 ^ 52 + z) (c .settled .ensures), omega (arith, low c))
 
 pub root-scaled-spec : {M : Type 1} → statement M
-root-scaled-spec = tie.close (tie.spec mul-result add-nearest-root mul-nearest-root nearest-root-requires add-result returns)
+root-scaled-spec =
+    tie.close
+    (tie.spec mul-result add-settled mul-settled add-settled-2 settled-requires add-result returns)

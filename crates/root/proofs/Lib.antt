@@ -1,0 +1,2 @@
+-- Laws that two proofs of this crate share.
+pub mod Range

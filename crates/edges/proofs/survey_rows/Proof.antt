@@ -59,7 +59,6 @@ loop-less c = search needs
 loop-again : tie.Need-loop-again Inv-loop μ-loop
 unfolding rowBit testOf
 loop-again c =
-    
     let t = c .before .before .before .before .before .before .before .args .work .now in
     let l = c .before .before .before .before .before .loop in
     let p : c .before .before .passes .result ≡ rowBit present t (l .i) = c .before .before .passes .ensures .0 in
@@ -69,7 +68,6 @@ loop-again c =
 
 returns : tie.Need-returns Inv-loop μ-loop
 returns c =
-    
     let l = c .before .loop in
     let e : l .i ≡ c .before .before .before .args .n = omega arith in
     (rw (← e) (l .inv .1), rw (← e) (l .inv .2), rw (← e) (l .inv .3))

@@ -13,9 +13,9 @@ returns : tie.Need-returns
 unfolding boundaryFree overIncident
 returns c =
     λ ids m.
-    let n = c .before .before .args .n in
-    let t = c .before .before .args .part .now in
-    let s = c .survey-rows in
+    let n = c .before .before .before .before .before .args .n in
+    let t = c .before .before .before .before .before .args .part .now in
+    let s = c .before .before .before .survey-rows in
     let e₀ : s .result .present ≡ edgesThat present (chain ids) = s .ensures .0 ∙ table-tally n t (chain ids) present m in
     let e₁ : s .result .unbalanced ≡ edgesThat unbalanced (chain ids) = s .ensures .1 ∙ table-tally n t (chain ids) unbalanced m in
     let e₂ : s .result .crowded ≡ edgesThat crowded (chain ids) = s .ensures .2 ∙ table-tally n t (chain ids) crowded m in

@@ -1,7 +1,7 @@
 -- `precedes` puts plain rows in a strict order: one way only, and what is behind is behind all further ones; two rows of binary32 of which neither
 -- precedes the other are one. Three rows compare as three natural numbers, made of the ranks of their floats. Assumes nothing.
 use mathlib.Core.Path.{_≡_, refl, sym, ap, _∙_}
-use mathlib.Core.Bool.{Bool, true, false, not, _&&_, false≢true, Bool·not-not}
+use mathlib.Core.Bool.{Bool, true, false, not, _&&_, _||_, false≢true, Bool·not-not}
 use Prim.Native.Nat.{ℕ, zero, suc, _+_, _-_, _*_, _≤_, _<_}
 use native.Mathlib.Decide.{decLt}
 use native.Mathlib.Nat.{mul-le-mul-right, mul-pos}
@@ -17,6 +17,18 @@ use Rattle.ieee.proofs.Values.OneFloat.{value-unique}
 use Rattle.rows.specs.declared.PlanarSurface.{PlanarSurface}
 use Rattle.rows.specs.Rows.{thenBy, precedes, plain, plainRow}
 use Rattle.rows.specs.Sorting.{single}
+
+-- ---- by the first alone, or by the rest
+
+pub then-first : (less more rest : Bool) → (less || more) ≡ true → less ≡ thenBy less more rest
+then-first true more rest e = refl
+then-first false true rest e = refl
+then-first false false rest e = absurd (false≢true e)
+
+pub then-rest : (less more rest : Bool) → (less || more) ≡ false → rest ≡ thenBy less more rest
+then-rest true more rest e = absurd (false≢true (sym e))
+then-rest false true rest e = absurd (false≢true (sym e))
+then-rest false false rest e = refl
 
 -- ---- one way only, for any floats
 

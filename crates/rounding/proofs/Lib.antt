@@ -1,0 +1,2 @@
+-- What the tests of the narrowing tell.
+mod Sizes

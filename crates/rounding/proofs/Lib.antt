@@ -1,2 +1,2 @@
--- What the tests of the narrowing tell.
+-- What the test for a usual size tells.
 mod Sizes

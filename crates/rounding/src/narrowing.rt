@@ -20,7 +20,8 @@ fn usual(m: u64) -> bool
 }
 
 // An `f32` has 29 digits less and counts its exponent from 896 lower. Half of what goes is added, less one where the last
-// digit that stays is even: a carry out of the digits runs into the exponent by itself.
+// digit that stays is even; a carry out of the digits runs into the exponent by itself. Of a far too small size less than
+// 896 is left, so nothing.
 fn narrow_usual(m: u64) -> u64
     requires { ⌜ usualSize m ≡ true ⌝ }
     ensures { λ r. ⌜ (r ≡ narrowSize m) × (r ≤ 0x7f80_0000) ⌝ }

@@ -77,8 +77,8 @@ narrow-large (suc y) t h l =
     rw (shift-inf binary32 (2 ^ 52 + t) y 1074 29 (suc y - 897) (omega arith) (omega arith) (inr (omega arith)) false (omega arith) (omega arith))
     (sym (bits-inf binary32))
 
--- ---- the same on the whole pattern m of a size at once, in the ranges `narrow-normal` and `narrow-tiny`: a tie's digit is added, 29 digits go, and
--- then what the exponent counts from, of which the far too small have less
+-- ---- the same on the whole pattern m of a size at once, in the ranges of `narrow-normal` and `narrow-tiny`: half of what goes is added, less one
+-- where the last digit that stays is even; 29 digits go; and the exponent counts from 896 lower, which is more than a tiny size has
 abbrev shortened : ℕ → ℕ
 shortened m = (m + (2 ^ 28 - 1 + m / 2 ^ 29 % 2)) / 2 ^ 29
 

@@ -2,11 +2,12 @@
 use mathlib.Core.Path.{_≡_, refl, sym, ap, _∙_}
 use mathlib.Core.Bool.{Bool, true, false, true≢false, false≢true}
 use Prim.Native.Nat.{ℕ, zero, suc, _+_, _-_, _*_, _/_, _^_, _<_, min}
+use native.Mathlib.Nat.{div-eq-of-lt, div-eq-of-lt-le}
 use native.Mathlib.Omega.{arith}
 use native.Mathlib.Decide.{decLt}
 use borrow.Author.Tests.{le-ltb, le-leb, lt-leb}
 use lib.Dec.{T, leb}
-use lib.Ieee.{Float, binary64, ofBits, toSigned}
+use lib.Ieee.{Float, Format, prec, low, top, ofBits, toSigned}
 use lib.IntN.{ℤ, pos, negsuc, natAbs, _-ℤ_}
 use lib.Signed.{leZ, nonNeg}
 use mir.Syntax.{w64}
@@ -63,15 +64,16 @@ coded-signed false n = omega arith
 coded-signed true zero = refl
 coded-signed true (suc n) = omega arith
 
-sign-bit : (b : ℕ) → b < 2 ^ 64 → b / 2 ^ 63 ≡ bit (leb (2 ^ 63) b)
+sign-bit : (t b : ℕ) → b < 2 * t → b / t ≡ bit (leb t b)
 unfolding bit
-sign-bit b l =
-    elim (decLt b (2 ^ 63)) [
-      | yes h ↦ rw (lt-leb (2 ^ 63) b h) (omega arith)
-      | no h ↦ rw (le-leb (2 ^ 63) b (omega arith)) (omega arith)
+sign-bit t b l =
+    elim (decLt b t) [
+      | yes h ↦ rw (lt-leb t b h) (div-eq-of-lt h)
+      | no h ↦ rw (le-leb t b (omega arith)) (div-eq-of-lt-le {k = 1} t (omega arith) (omega arith))
     ]
 
-pub by-pattern : (y : Float) (b n : ℕ) → ofBits binary64 b ≡ y → b < 2 ^ 64 → (h : field b < 1075) → n ≡ toWhole half (size-of b) (2 ^ 1074)
-    → (2 * n - min (b / 2 ^ 63) n ≡ coded (toSigned 63 (halfAway binary64 y))) × (n < 2 ^ 63)
-by-pattern y b n is l h r =
-    (ap (λ (z : ℕ). 2 * n - min z n) (sign-bit b l) ∙ coded-signed (leb (2 ^ 63) b) n ∙ ap coded (nearest-signed y b is n h r (leb (2 ^ 63) b) refl), few y b is n h r)
+-- below hid f, and so within a word that has more digits than the format
+pub by-pattern : (f : Format) (w : ℕ) → prec f < w → (y : Float) (b n : ℕ) → ofBits f b ≡ y → b < 2 * top f → field f b < low f + 1 → n ≡ toWhole half (size-of f b) (2 ^ low f)
+    → (2 * n - min (b / top f) n ≡ coded (toSigned w (halfAway f y))) × (n < 2 ^ w)
+by-pattern f w wide y b n is l h r =
+    (ap (λ (z : ℕ). 2 * n - min z n) (sign-bit (top f) b l) ∙ coded-signed (leb (top f) b) n ∙ ap coded (nearest-signed f w wide y b is n h r (leb (top f) b) refl), few f w wide y b is n h r)

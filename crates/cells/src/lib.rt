@@ -1,6 +1,6 @@
 // The cells of a weld: which cell a vertex is in, and a table in lent words of the first vertex in each. Internal: `weld` asks it.
 ghost use mathlib.Core.Path.{_≡_};
-ghost use Prim.Native.Nat.{_+_, _*_, _/_, _%_, _≤_, _<_, min};
+ghost use Prim.Native.Nat.{_+_, _-_, _*_, _/_, _%_, _^_, _≤_, _<_, min};
 ghost use lib.ListN.{length, getD, set};
 ghost use Rattle.table.specs.Rows.{Found};
 ghost use Rattle.vertices.specs.Vertices.{vertexCount};
@@ -35,8 +35,16 @@ fn lesser(a: u64, b: u64) -> u64
     if a < b { a } else { b }
 }
 
+// The same of a size and a sign, which is 1 below zero: twice the size, and one less below zero, unless that is 0.
+pub fn coded_size(sign: u64, n: u64) -> u64
+    requires { ⌜ n < 2 ^ 63 ⌝ }
+    ensures { λ r. ⌜ r ≡ 2 * n - min sign n ⌝ }
+{
+    2 * n - lesser(sign, n)
+}
+
 // The cell of a coordinate. A NaN, whose cell is 0, goes first. Below 2^52 the number comes from the pattern's fields, with no
-// float or signed integer between: twice the size, and one less below zero, unless that is 0.
+// float or signed integer between.
 fn cell(x: f32, inv: f64) -> u64
     ensures { λ r. ⌜ r ≡ codedOf (cellOf inv x) ⌝ }
 {
@@ -47,8 +55,7 @@ fn cell(x: f32, inv: f64) -> u64
     let b = floats::bits64(y);
     let e = b % SIGN / FIELD;
     if e < 1075 {
-        let n = rounding::half_size(e, b % FIELD);
-        2 * n - lesser(b / SIGN, n)
+        coded_size(b / SIGN, rounding::half_size(e, b % FIELD))
     } else {
         coded(floats::to_i64(y))
     }

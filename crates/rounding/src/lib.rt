@@ -9,6 +9,7 @@ mod whole; // floor, ceiling, and rounding half away from zero
 pub use narrowing::narrow;
 pub use narrowing::narrow_bits;
 pub use to_integer::half_size;
+pub use to_integer::half_size32;
 pub use whole::ceiling32;
 pub use whole::ceiling32_bits;
 pub use whole::ceiling64;

@@ -1,30 +1,49 @@
 // f64 to f32, to nearest, a tie to the even one, by integer arithmetic on the pattern.
-ghost use lib.Ieee.{binary32, binary64, ofBits, round, toBits};
-ghost use mathlib.Core.Bool.{false};
+ghost use lib.Ieee.{binary32, binary64, ofBits, toBits};
+ghost use mathlib.Core.Bool.{true};
 ghost use mathlib.Core.Path.{_≡_};
-ghost use Prim.Native.Nat.{_<_, _^_};
-ghost use Rattle.ieee.specs.Fields.{sized};
+ghost use Prim.Native.Nat.{_<_, _≤_};
 ghost use Rattle.ieee.specs.Rounded.{rounded};
+ghost use Rattle.rounding.specs.Sizes.{narrowSize, usualSize};
 use crate::ties_even::nearest_shift;
 use patterns::FIELD;
 use patterns::SIGN;
 use patterns::bits64;
 use patterns::f32_of;
 
-// The size of a finite `f64`, from its pattern's fields, as the pattern of the nearest `f32`. An `f32` has 29 digits
-// less and counts its exponent from 896 lower. A carry out of the digits runs into the exponent by itself.
-fn narrow_size(e: u64, t: u64) -> u64
-    requires { ⌜ (e < 2047) × (t < 2 ^ 52) ⌝ }
-    ensures { λ r. ⌜ r ≡ toBits binary32 (round binary32 false (sized binary64 e t) (2 ^ 1074)) ⌝ }
+// Whether a size's pattern m is one of the usual: of a normal `f32`, or of its infinity by a carry, or far below half of the
+// smallest, as 0 is.
+fn usual(m: u64) -> bool
+    ensures { λ r. ⌜ r ≡ usualSize m ⌝ }
 {
-    if e < 863 {
-        // far below half of the smallest value
+    ((m < 0x35f0_0000_0000_0000) | (0x3810_0000_0000_0000 <= m)) & (m < 0x47f0_0000_0000_0000)
+}
+
+// An `f32` has 29 digits less and counts its exponent from 896 lower. Half of what goes is added, less one where the last
+// digit that stays is even; a carry out of the digits runs into the exponent by itself. Of a far too small size less than
+// 896 is left, so nothing.
+fn narrow_usual(m: u64) -> u64
+    requires { ⌜ usualSize m ≡ true ⌝ }
+    ensures { λ r. ⌜ (r ≡ narrowSize m) × (r ≤ 0x7f80_0000) ⌝ }
+{
+    let n = (m + (0xfff_ffff + m / 0x2000_0000 % 2)) / 0x2000_0000;
+    if n < 0x1_c000_0000 {
         0
-    } else if e < 897 {
+    } else {
+        n - 0x1_c000_0000
+    }
+}
+
+// The size of a finite `f64`, by its pattern, as the pattern of the nearest `f32`.
+fn narrow_size(m: u64) -> u64
+    requires { ⌜ m < 0x7ff0_0000_0000_0000 ⌝ }
+    ensures { λ r. ⌜ r ≡ narrowSize m ⌝ }
+{
+    if usual(m) {
+        narrow_usual(m)
+    } else if m < 0x3810_0000_0000_0000 {
         // below the normal values more digits go
-        nearest_shift(FIELD + t, 926 - e)
-    } else if e < 1151 {
-        (e - 897) * 0x80_0000 + nearest_shift(FIELD + t, 29)
+        nearest_shift(FIELD + m % FIELD, 926 - m / FIELD)
     } else {
         // 2^128 and up
         0x7f80_0000
@@ -35,19 +54,25 @@ pub fn narrow_bits(b: u64) -> u32
     ensures { λ r. ⌜ r ≡ toBits binary32 (rounded binary32 (ofBits binary64 b)) ⌝ }
 {
     let s = b / SIGN * 0x8000_0000;
-    let e = b % SIGN / FIELD;
-    let t = b % FIELD;
-    if e < 2047 {
-        (s + narrow_size(e, t)) as u32
-    } else if t == 0 {
+    let m = b % SIGN;
+    if m < 0x7ff0_0000_0000_0000 {
+        (s + narrow_size(m)) as u32
+    } else if m == 0x7ff0_0000_0000_0000 {
         (s + 0x7f80_0000) as u32
     } else {
         0x7fc0_0000
     }
 }
 
+// A usual size goes the short way, with no test of the result.
 pub fn narrow(x: f64) -> f32
     ensures { λ r. ⌜ r ≡ rounded binary32 x ⌝ }
 {
-    f32_of(narrow_bits(bits64(x)))
+    let b = bits64(x);
+    let m = b % SIGN;
+    if usual(m) {
+        f32::from_bits((b / SIGN * 0x8000_0000 + narrow_usual(m)) as u32)
+    } else {
+        f32_of(narrow_bits(b))
+    }
 }

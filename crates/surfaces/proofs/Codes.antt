@@ -5,9 +5,13 @@ use Prim.Native.Nat.{ℕ, _*_, _<_}
 use native.Mathlib.Omega.{arith}
 use borrow.Author.Tests.{eqb-true}
 use lib.Dec.{eqb}
+use lib.Ieee.{Float, binary32}
 use lib.IntN.{ℤ, pos, negsuc}
 use mir.Syntax.{w32, w64}
-use mir.Val.{Fits, SFits}
+use mir.Val.{Fits, SFits, ofZ, toZ}
+use Rattle.ieee.specs.Integral.{halfAway}
+use Rattle.ieee.specs.Single.{_⊗_}
+use Rattle.ieee.proofs.Order.Ranges.{signed-kept}
 use Rattle.ids.proofs.Same.{three-eq, three-refl, eqb-refl}
 use Rattle.table.specs.Rows.{homeRow, Found}
 use Rattle.table.proofs.Search.{home-below}
@@ -15,6 +19,7 @@ use Rattle.cells.specs.Table.{coded}
 use Rattle.cells.proofs.Codes.{coded-one}
 use Rattle.surfaces.specs.declared.Code.{Code}
 use Rattle.surfaces.specs.declared.Key.{Key}
+use Rattle.surfaces.specs.Surfaces.{ten, tenths}
 use Rattle.surfaces.specs.Index.{codeOf, sameCode, hashOf, homeOf}
 
 -- ---- an i32
@@ -27,6 +32,11 @@ pub coded-fits : (z : ℤ) → SFits w32 z → Fits w32 (coded z)
 unfolding coded
 coded-fits (pos n) f = record { fits = omega (arith, f .sfits) }
 coded-fits (negsuc n) f = record { fits = omega (arith, f .sfits) }
+
+-- tenths are read back from their bits
+pub tenths-kept : (x : Float) → toZ w32 (ofZ w32 (tenths x)) ≡ tenths x
+unfolding tenths
+tenths-kept x = signed-kept w32 (halfAway binary32 (x ⊗ ten))
 
 -- ---- one to one, and `sameCode` is equality
 

@@ -54,13 +54,27 @@ fn coded(k: i32) -> u32
     cells::coded(k as i64) as u32
 }
 
-fn code_of(k: Key) -> Code
-    ensures { λ r. ⌜ r ≡ codeOf k ⌝ }
+// The code of a component. Below 2^23 tenths it comes from the pattern's fields, with no float or signed integer between.
+fn tenths_code(c: f32) -> u32
+    ensures { λ r. ⌜ r ≡ codedOf (tenthsOf c) ⌝ }
+{
+    let b = floats::bits32(c * 10.0) as u64;
+    let e = b % 0x8000_0000 / 0x80_0000;
+    if e < 150 {
+        cells::coded_size(b / 0x8000_0000, rounding::half_size32(e, b % 0x80_0000)) as u32
+    } else {
+        coded(tenths(c))
+    }
+}
+
+// The code of a normal's key.
+fn code_of_normal(nx: f32, ny: f32, nz: f32) -> Code
+    ensures { λ r. ⌜ r ≡ codeOf (keyOf nx ny nz) ⌝ }
 {
     Code {
-        x: coded(k.x),
-        y: coded(k.y),
-        z: coded(k.z),
+        x: tenths_code(nx),
+        y: tenths_code(ny),
+        z: tenths_code(nz),
     }
 }
 
@@ -139,18 +153,28 @@ fn new_row(rows: &mut [f32], n: usize, k: Key, area: f32)
     rows[at + 3] = tenth(k.z);
 }
 
-// An area more for a key, in the n rows of m at most. The answer is how many rows there are then.
-pub fn put(index: &mut [u32], rows: &mut [f32], m: usize, n: usize, k: Key, area: f32) -> usize
+// An area more for the key of a normal, in the n rows of m at most. The answer is how many rows there are then. The key itself
+// is made for a new row only.
+pub fn put_normal(
+    index: &mut [u32],
+    rows: &mut [f32],
+    m: usize,
+    n: usize,
+    nx: f32,
+    ny: f32,
+    nz: f32,
+    area: f32,
+) -> usize
     requires { ⌜ Ready m n (now index) (now rows) ⌝ }
-    ensures { λ r. ⌜ Puts m n k area (now (index .entry)) (now (index .exit)) (now (rows .entry)) (now (rows .exit)) r ⌝ }
+    ensures { λ r. ⌜ Puts m n (keyOf nx ny nz) area (now (index .entry)) (now (index .exit)) (now (rows .entry)) (now (rows .exit)) r ⌝ }
 {
-    let l = code_of(k);
+    let l = code_of_normal(nx, ny, nz);
     let from = table::home(hash(l), 2 * m);
     let r = find(index, m, l, from);
     let s = index[r] as usize;
     if s == 0 {
         claim(index, m, r, n, l);
-        new_row(rows, n, k, area);
+        new_row(rows, n, quantize_normal(nx, ny, nz), area);
         n + 1
     } else {
         grow(rows, 4 * (s - 1), area);

@@ -19,8 +19,7 @@ use Rattle.sums.specs.declared.Thresholds.{Thresholds}
 use Rattle.sums.specs.Facet.{part, shortest}
 use Rattle.sums.specs.Prepared.{facetBy, partBy, Rooted, Prepares}
 use Rattle.sums.specs.Totals.{noTotals, withFacet, withPart, totalsTo}
-use Rattle.surfaces.specs.declared.Key.{Key}
-use Rattle.surfaces.specs.Surfaces.{Bucket, keyOf, put}
+use Rattle.surfaces.specs.Surfaces.{Bucket, keyOf}
 use Rattle.surfaces.specs.Index.{Gathered, Puts, Ready}
 use Rattle.surfaces.proofs.Gathering.{gathered-none}
 use Rattle.surfaces.proofs.Keys.{length-put-le}
@@ -52,11 +51,10 @@ unfolding withPart withSurface
 takes-sliver m pair s t u = record { totals = refl; puts = λ w bs l g. (sym l, g) }
 
 -- a facet
-pub takes-used : (m : ℕ) (pair : Thresholds) (s : Sums) (f : Facet) (t t′ : List ℕ) (u u′ : List Float) (k : Key) (n : ℕ) (a : Totals) → k ≡ keyOf (f .nx) (f .ny) (f .nz)
-    → Puts m (s .rows) k (f .area32) t t′ u u′ n → a ≡ withFacet pair (s .totals) f → Takes m pair s (Part.Used f) t t′ u u′ (record { totals = a; rows = n })
+pub takes-used : (m : ℕ) (pair : Thresholds) (s : Sums) (f : Facet) (t t′ : List ℕ) (u u′ : List Float) (n : ℕ) (a : Totals)
+    → Puts m (s .rows) (keyOf (f .nx) (f .ny) (f .nz)) (f .area32) t t′ u u′ n → a ≡ withFacet pair (s .totals) f → Takes m pair s (Part.Used f) t t′ u u′ (record { totals = a; rows = n })
 unfolding withPart withSurface
-takes-used m pair s f t t′ u u′ k n a e p h =
-    record { totals = h; puts = λ w bs l g. subst (λ (j : Key). (n ≡ length (put j (f .area32) bs)) × Gathered m w t′ u′ (put j (f .area32) bs)) e (p .puts w bs l g) }
+takes-used m pair s f t t′ u u′ n a p h = record { totals = h; puts = p .puts }
 
 -- no more rows than triangles
 part-le : (bs : List Bucket) (p : Part) → length (withSurface bs p) ≤ length bs + 1

@@ -32,8 +32,7 @@ fn take_facet(
     ensures { λ r. ⌜ Takes m pair s (Part.Used f) (now (index .entry)) (now (index .exit)) (now (rows .entry)) (now (rows .exit)) r ⌝ }
 {
     let totals = s.totals;
-    let key = surfaces::quantize_normal(f.nx, f.ny, f.nz);
-    let n = surfaces::put(index, rows, m, s.rows, key, f.area32);
+    let n = surfaces::put_normal(index, rows, m, s.rows, f.nx, f.ny, f.nz, f.area32);
     Sums {
         totals: totals.add(pair, f),
         rows: n,

@@ -39,7 +39,7 @@ module _ (c : tie.After-bits64) where
 
 -- below 2 ^ 52
 small : (c : tie.After-half-size) → let n = c .half-size .result in (2 * n - min (b (c .before .before) / 2 ^ 63) n ≡ coded (toSigned 63 (halfAway binary64 (y (c .before .before))))) × (n < 2 ^ 63)
-small c = let q = c .before .before in by-pattern (y q) (b q) (c .half-size .result) (is q) (below q) (c .before .if2 .taken) (c .half-size .ensures)
+small c = let q = c .before .before in by-pattern binary64 63 (omega arith) (y q) (b q) (c .half-size .result) (is q) (below q) (c .before .if2 .taken) (c .half-size .ensures)
 
 returns : tie.Need-returns
 returns c = nan-cell (c .before .args .inv) (c .before .args .x) (c .if1 .taken)
@@ -54,14 +54,8 @@ bits64-requires c κs = search needs
 half-size-requires : tie.Need-half-size-requires
 half-size-requires c κs = search needs
 
-mul-result : tie.Need-mul-result
-mul-result c = omega (arith, small c .1)
-
-lesser-requires : tie.Need-lesser-requires
-lesser-requires c κs = search needs
-
-sub-result : tie.Need-sub-result
-sub-result c = search needs
+coded-size-requires : tie.Need-coded-size-requires
+coded-size-requires c κs = small c .1
 
 to-i64-requires : tie.Need-to-i64-requires
 to-i64-requires c κs = search needs
@@ -71,7 +65,7 @@ coded-requires c κs = search needs
 
 returns-2 : tie.Need-returns-2
 unfolding cellOf
-returns-2 c = rw (c .lesser .ensures) (small (c .before) .0)
+returns-2 c = c .coded-size .ensures ∙ small (c .before) .0
 
 returns-3 : tie.Need-returns-3
 unfolding cellOf
@@ -83,4 +77,4 @@ returns-3 c =
 pub cell-spec : {M : Type 1} → statement M
 cell-spec =
     tie.close
-    (tie.spec returns float-to-float-y bits64-requires half-size-requires mul-result lesser-requires sub-result to-i64-requires coded-requires returns-2 returns-3)
+    (tie.spec returns float-to-float-y bits64-requires half-size-requires coded-size-requires to-i64-requires coded-requires returns-2 returns-3)

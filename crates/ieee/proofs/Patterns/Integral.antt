@@ -3,14 +3,14 @@ use mathlib.Core.Path.{_≡_, refl, sym, _∙_, subst}
 use mathlib.Core.Logic.{inl, inr}
 use mathlib.Core.Bool.{Bool, true, false, cond}
 use Prim.Native.Nat.{ℕ, zero, suc, _+_, _-_, _*_, _/_, _%_, _^_, _≤_, _<_}
-use native.Mathlib.Nat.{div-lt-iff-lt-mul, eq-zero-or-pos, le-add-right, le-of-eq, le-trans, lt-of-lt-of-le, mul-le-mul-left, mul-le-mul-right, mul-lt-mul-of-pos-right}
+use native.Mathlib.Nat.{div-lt-iff-lt-mul, eq-zero-or-pos, le-add-right, le-of-eq, le-trans, lt-of-lt-of-le, mod-lt, mul-le-mul-left, mul-le-mul-right, mul-lt-mul-of-pos-right}
 use native.Mathlib.Decide.{decLt}
 use native.Mathlib.Omega.{arith}
 use borrow.Author.Tests.{le-leb, lt-leb}
 use lib.IntN.{pos, negsuc}
 use lib.Dec.{T, leb, le→leb, lit≤}
 use lib.Pow.{pow-add, pow-mono, pow-pos, shl-lt}
-use lib.Ieee.{Float, nan, inf, fin, Format, binary32, binary64, prec, emax, low, up, down, hid, round, neg, ofInt, inFloat, fits, ofBits}
+use lib.Ieee.{Float, nan, inf, fin, Format, binary32, binary64, prec, emax, low, up, down, hid, ones, top, round, neg, ofInt, inFloat, fits, ofBits}
 use lib.Ieee.Exact.{HasValue}
 use lib.Ieee.Fits.{down-pos, two}
 use Rattle.ieee.specs.Fields.{exp, sized}
@@ -69,55 +69,58 @@ module _ (f : Format) (k : ℕ) where
       le-trans (le-of-eq (sym (pow-add 2 k (low f))))
       (le-trans (pow-mono places) (le-trans (le-of-eq (pow-add 2 (prec f - 1) y)) (mul-le-mul-right (2 ^ y) (le-add-right (hid f) t))))
 
--- ---- by the pattern b that x has as an `f64`
-abbrev pub field : ℕ → ℕ
-field b = b % 2 ^ 63 / 2 ^ 52
+-- ---- by the pattern b that x has in the format g
+abbrev pub field : Format → ℕ → ℕ
+field g b = b % top g / hid g
 
-abbrev pub size-of : ℕ → ℕ
-size-of b = sized binary64 (field b) (b % 2 ^ 52)
+abbrev pub size-of : Format → ℕ → ℕ
+size-of g b = sized g (field g b) (b % hid g)
 
-pub value : (x : Float) (b : ℕ) → ofBits binary64 b ≡ x → (s : Bool) → leb (2 ^ 63) b ≡ s → field b < 2047 → HasValue x s (size-of b) (2 ^ 1074)
-value x b is s g h = rw (← is, ← g) (read-value binary64 b h)
+pub value : (g : Format) (x : Float) (b : ℕ) → ofBits g b ≡ x → (s : Bool) → leb (top g) b ≡ s → field g b < ones g → HasValue x s (size-of g b) (2 ^ low g)
+value g x b is s h l = rw (← is, ← h) (read-value g b l)
 
+pub small : (g f : Format) (above below : Way) (x : Float) (b : ℕ) → ofBits g b ≡ x → (s : Bool) (n : ℕ) → leb (top g) b ≡ s → field g b < ones g
+    → n ≡ toWhole (cond s below above) (size-of g b) (2 ^ low g) → round f s n 1 ≡ integral f above below x
+small g f above below x b is s n h l r =
+    rw r (sym (integral-at f above below x s (size-of g b) (2 ^ low g) (pow-pos (low g)) (value g x b is s h l)))
+
+pub in-format : (g f : Format) (w : Way) (b n : ℕ) → field g b < emax g + (prec f - 1) → n ≡ toWhole w (size-of g b) (2 ^ low g) → T (inFloat f (pos n))
+unfolding inFloat
+in-format g f w b n h r =
+    let l : size-of g b / 2 ^ low g < hid f =
+    div-lt-iff-lt-mul (pow-pos (low g)) .1 (at-most g (prec f - 1) (field g b) (b % hid g) (mod-lt b (pow-pos (prec g - 1))) h) in
+    let m = whole-le w (size-of g b) (2 ^ low g) (pow-pos (low g)) in
+    le→leb n (2 ^ prec f) (rw r (few (toWhole w (size-of g b) (2 ^ low g)) (size-of g b / 2 ^ low g) (hid f) (2 ^ prec f) m l (twice-hid f)))
+  where
+    few : (n q h p : ℕ) → n ≤ q + 1 → q < h → p ≡ 2 * h → n ≤ p
+    few n q h p a b c = omega arith
+
+-- ---- the pattern as an `f64`
 module _ (f : Format) (above below : Way) (x : Float) (b : ℕ) (is : ofBits binary64 b ≡ x) where
-  pub small : (s : Bool) (n : ℕ) → leb (2 ^ 63) b ≡ s → field b < 1075 → n ≡ toWhole (cond s below above) (size-of b) (2 ^ 1074)
-      → round f s n 1 ≡ integral f above below x
-  small s n g h r = rw r (sym (integral-at f above below x s (size-of b) (2 ^ 1074) (pow-pos 1074) (value x b is s g (omega arith))))
-
   -- the way is the sign's
   abbrev way : Way
   way = cond (leb (2 ^ 63) b) below above
 
-  pub from-zero-up : (n : ℕ) → b < 2 ^ 63 → field b < 1075 → n ≡ toWhole way (size-of b) (2 ^ 1074) → ofInt f (pos n) ≡ integral f above below x
+  pub from-zero-up : (n : ℕ) → b < 2 ^ 63 → field binary64 b < 1075 → n ≡ toWhole way (size-of binary64 b) (2 ^ 1074) → ofInt f (pos n) ≡ integral f above below x
   unfolding ofInt
-  from-zero-up n g h r = let e = lt-leb (2 ^ 63) b g in small false n e h (rw e at r)
+  from-zero-up n g h r = let e = lt-leb (2 ^ 63) b g in small binary64 f above below x b is false n e (omega arith) (rw e at r)
 
-  pub below-zero : (n : ℕ) → 2 ^ 63 ≤ b → field b < 1075 → n ≡ toWhole way (size-of b) (2 ^ 1074) → neg (ofInt f (pos n)) ≡ integral f above below x
+  pub below-zero : (n : ℕ) → 2 ^ 63 ≤ b → field binary64 b < 1075 → n ≡ toWhole way (size-of binary64 b) (2 ^ 1074) → neg (ofInt f (pos n)) ≡ integral f above below x
   unfolding ofInt
-  below-zero n g h r = let e = le-leb (2 ^ 63) b g in round-neg f false n 1 ∙ small true n e h (rw e at r)
+  below-zero n g h r = let e = le-leb (2 ^ 63) b g in round-neg f false n 1 ∙ small binary64 f above below x b is true n e (omega arith) (rw e at r)
 
-  pub whole-already : T (fits f x) → 1022 + prec f ≤ field b → x ≡ integral f above below x
+  pub whole-already : T (fits f x) → 1022 + prec f ≤ field binary64 b → x ≡ integral f above below x
   whole-already t h =
-      elim (decLt (field b) 2047) [
+      elim (decLt (field binary64 b) 2047) [
         | yes l ↦
-            sym (integral-large f above below x (leb (2 ^ 63) b) (size-of b) (2 ^ 1074) t (pow-pos 1074) (value x b is (leb (2 ^ 63) b) refl l)
-            (at-least binary64 (prec f - 1) (field b) (b % 2 ^ 52) (omega (arith, two f))))
+            sym (integral-large f above below x (leb (2 ^ 63) b) (size-of binary64 b) (2 ^ 1074) t (pow-pos 1074) (value binary64 x b is (leb (2 ^ 63) b) refl l)
+            (at-least binary64 (prec f - 1) (field binary64 b) (b % 2 ^ 52) (omega (arith, two f))))
         | no l ↦ subst (λ (v : Float). v ≡ integral f above below v) is (no-number (omega arith))
       ]
     where
-      no-number : field b ≡ 2047 → ofBits binary64 b ≡ integral f above below (ofBits binary64 b)
+      no-number : field binary64 b ≡ 2047 → ofBits binary64 b ≡ integral f above below (ofBits binary64 b)
       no-number k =
           elim (eq-zero-or-pos (b % 2 ^ 52)) [
             | inl z ↦ rw (read-inf binary64 b k z) (integral-inf f above below (leb (2 ^ 63) b))
             | inr p ↦ rw (read-nan binary64 b k p) (integral-nan f above below)
           ]
-
-pub in-format : (f : Format) (w : Way) (b n : ℕ) → field b < 1022 + prec f → n ≡ toWhole w (size-of b) (2 ^ 1074) → T (inFloat f (pos n))
-unfolding inFloat
-in-format f w b n h r =
-    let l : size-of b / 2 ^ 1074 < hid f = div-lt-iff-lt-mul (pow-pos 1074) .1 (at-most binary64 (prec f - 1) (field b) (b % 2 ^ 52) (omega arith) (omega (arith, two f))) in
-    let m = whole-le w (size-of b) (2 ^ 1074) (pow-pos 1074) in
-    le→leb n (2 ^ prec f) (rw r (few (toWhole w (size-of b) (2 ^ 1074)) (size-of b / 2 ^ 1074) (hid f) (2 ^ prec f) m l (twice-hid f)))
-  where
-    few : (n q h p : ℕ) → n ≤ q + 1 → q < h → p ≡ 2 * h → n ≤ p
-    few n q h p a b c = omega arith

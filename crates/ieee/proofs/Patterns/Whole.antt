@@ -4,10 +4,10 @@ use Prim.Native.Nat.{ℕ, zero, suc, _+_, _-_, _*_, _/_, _^_, _≤_, _<_, min}
 use native.Mathlib.Nat.{add-div-right, div-div-eq-div-mul, lt-of-lt-of-le, mul-assoc, mul-comm, mul-div-mul-right, mul-one, mul-pos, pow-succ'}
 use native.Mathlib.Omega.{arith}
 use lib.Pow.{pow-add, pow-mono, pow-pos, shl-lt}
-use lib.Ieee.{Format, binary64, low, hid}
+use lib.Ieee.{Format, binary64, prec, low, hid}
 use Rattle.ieee.specs.Fields.{exp, sized}
 use Rattle.ieee.specs.Integral.{Way, half, toWhole}
-use Rattle.ieee.proofs.Patterns.Fields.{exp-le, sig-lt}
+use Rattle.ieee.proofs.Patterns.Fields.{exp-le, sig-lt, twice-hid}
 use Rattle.ieee.proofs.Numbers.Basic.{pow-half}
 use Rattle.ieee.proofs.Numbers.Wholes.{half-none, whole-same, whole-tiny}
 
@@ -28,17 +28,19 @@ half-digit d j h =
 twice-lt : (n k l : ℕ) → n < 2 ^ k → k < l → 2 * n < 2 ^ l
 twice-lt n k l h g = lt-of-lt-of-le (omega (arith, pow-succ' 2 k)) (pow-mono g)
 
-small-size : (e t : ℕ) → e ≤ 1012 → t < 2 ^ 52 → 2 * sized binary64 e t < 2 ^ 1074
-small-size e t h l = twice-lt (sized binary64 e t) (53 + exp e) 1074 (shl-lt 53 (exp e) (sig-lt binary64 e t l)) (omega (arith, exp-le e))
+small-size : (f : Format) (e t : ℕ) → prec f + e < low f → t < hid f → 2 * sized f e t < 2 ^ low f
+small-size f e t h l = twice-lt (sized f e t) (prec f + exp e) (low f) (shl-lt (prec f) (exp e) (sig-lt f e t l)) (omega (arith, exp-le e))
 
 -- far below a half there is nothing, and of any digits a shift by 63 leaves nothing
-pub none-size : (e t : ℕ) → e ≤ 1012 → t < 2 ^ 52 → toWhole half (2 ^ 52 + t) (2 ^ 63) ≡ toWhole half (sized binary64 e t) (2 ^ 1074)
-none-size e t h l = half-none (2 ^ 52 + t) (2 ^ 63) (omega arith) ∙ sym (half-none (sized binary64 e t) (2 ^ 1074) (small-size e t h l))
+pub none-size : (f : Format) (e t : ℕ) → prec f < 63 → prec f + e < low f → t < hid f → toWhole half (hid f + t) (2 ^ 63) ≡ toWhole half (sized f e t) (2 ^ low f)
+none-size f e t p h l =
+    half-none (hid f + t) (2 ^ 63) (twice-lt (hid f + t) (prec f) 63 (omega (arith, twice-hid f)) p)
+    ∙ sym (half-none (sized f e t) (2 ^ low f) (small-size f e t h l))
 
 pub tiny-size : (w : Way) (e t : ℕ) → e < 1012 → t < 2 ^ 52 → toWhole w (e + t) (2 ^ 63) ≡ toWhole w (sized binary64 e t) (2 ^ 1074)
 tiny-size w e t h l =
     whole-tiny w (e + t) (2 ^ 63) (sized binary64 e t) (2 ^ 1074) (omega arith)
-    (small-size e t (omega arith) l) (some e)
+    (small-size binary64 e t (omega arith) l) (some e)
   where
     some : (e : ℕ) → min (e + t) 1 ≡ min (sized binary64 e t) 1
     some zero = omega arith

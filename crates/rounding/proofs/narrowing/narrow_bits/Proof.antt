@@ -11,9 +11,8 @@ use Rattle.rounding.proofs.narrowing.narrow_bits.Tie as tie
 
 size-below : (c : tie.After-narrow-size) → c .narrow-size .result < 2 ^ 31
 size-below c =
-    let b = c .before .before .args .b in
-    let e = b % 2 ^ 63 / 2 ^ 52 in
-    rw (c .narrow-size .ensures) (bits-lt binary32 (sized binary64 e (b % 2 ^ 52)) (2 ^ 1074))
+    let m = c .before .before .args .b % 2 ^ 63 in
+    rw (c .narrow-size .ensures) (bits-lt binary32 (sized binary64 (m / 2 ^ 52) (m % 2 ^ 52)) (2 ^ 1074))
 
 mul-s : tie.Need-mul-s
 mul-s c = search needs
@@ -39,10 +38,10 @@ returns c =
     narrow-finite (start .args .b) (c .narrow-size .result) (start .fits .b .fits) (c .before .if1 .taken) (c .narrow-size .ensures)
 
 returns-2 : tie.Need-returns-2
-returns-2 c = let start = c .before .before in narrow-inf (start .args .b) (start .fits .b .fits) (omega arith) (c .if2 .taken)
+returns-2 c = let start = c .before .before in narrow-inf (start .args .b) (start .fits .b .fits) (c .if2 .taken)
 
 returns-3 : tie.Need-returns-3
-returns-3 c = let start = c .before .before in narrow-nan (start .args .b) (omega arith) (omega arith)
+returns-3 c = narrow-nan (c .before .before .args .b) (omega arith)
 
 pub narrow-bits-spec : {M : Type 1} → statement M
 narrow-bits-spec = tie.close (tie.spec mul-s narrow-size-requires add-result cast-result add-result-2 cast-result-2 returns returns-2 returns-3)

@@ -3,6 +3,7 @@ use borrow.Author.Needs.{needs}
 use mathlib.Core.Path.{_∙_}
 use mathlib.Core.Logic.{⊎-elim}
 use native.Mathlib.Omega.{arith}
+use lib.Ieee.{binary64}
 use Rattle.ieee.specs.Integral.{half}
 use Rattle.ieee.proofs.Patterns.Whole.{cut-size, none-size}
 use Rattle.rounding.proofs.to_integer.half_size.Statement.{statement}
@@ -23,7 +24,7 @@ returns c =
     let t = c .before .before .args .t in
     c .nearest-shift .ensures
     ∙ ⊎-elim (λ w. rw (w .1) (cut-size half e t (omega (arith, w .0 .taken)) (c .before .before .pre .0)))
-    (λ w. rw (w .1) (none-size e t (w .0 .left) (c .before .before .pre .1))) (c .before .if1 .came)
+    (λ w. rw (w .1) (none-size binary64 e t (omega arith) (omega (arith, w .0 .left)) (c .before .before .pre .1))) (c .before .if1 .came)
 
 pub half-size-spec : {M : Type 1} → statement M
 half-size-spec = tie.close (tie.spec sub-k add-nearest-shift nearest-shift-requires returns)

@@ -29,7 +29,7 @@ whole-size-requires c κs = search needs
 int-to-float-n : tie.Need-int-to-float-n
 int-to-float-n c =
     let asked = c .before .before in
-    in-format binary32 (wayOf (asked .way-at .result)) (asked .before .before .bits64 .result) (c .before .whole-size .result) (omega (arith, asked .before .if1 .left))
+    in-format binary64 binary32 (wayOf (asked .way-at .result)) (asked .before .before .bits64 .result) (c .before .whole-size .result) (omega (arith, asked .before .if1 .left))
     (c .before .whole-size .ensures)
 
 returns : tie.Need-returns

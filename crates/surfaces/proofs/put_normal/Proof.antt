@@ -1,18 +1,20 @@
--- `surfaces::put` meets its contract: from what the search found and what was written, by the laws `puts-new` and `puts-known`. Assumes nothing.
-use mathlib.Core.Path.{subst}
+-- `surfaces::put_normal` meets its contract: from what the search found and what was written, by the laws `puts-new` and `puts-known`. Assumes nothing.
+use mathlib.Core.Path.{ap, _∙_, subst}
 use Prim.Native.Nat.{_*_, _≤_}
 use native.Mathlib.Omega.{arith}
 use borrow.Author.Needs.{needs}
 use Rattle.table.specs.Rows.{Found}
 use Rattle.surfaces.specs.declared.Code.{Code}
-use Rattle.surfaces.specs.Index.{codeOf, slotIn, keyIn, homeOf, Claimed}
+use Rattle.surfaces.specs.declared.Key.{Key}
+use Rattle.surfaces.specs.Surfaces.{keyOf}
+use Rattle.surfaces.specs.Index.{codeOf, slotIn, keyIn, homeOf, Claimed, withRow}
 use Rattle.surfaces.proofs.Codes.{found-code}
 use Rattle.surfaces.proofs.Gathering.{gathered-searchable, puts-new, puts-known}
-use Rattle.surfaces.proofs.put.Statement.{statement}
-use Rattle.surfaces.proofs.put.Tie as tie
+use Rattle.surfaces.proofs.put_normal.Statement.{statement}
+use Rattle.surfaces.proofs.put_normal.Tie as tie
 
-code-of-requires : tie.Need-code-of-requires
-code-of-requires c κs = search needs
+code-of-normal-requires : tie.Need-code-of-normal-requires
+code-of-normal-requires c κs = search needs
 
 hash-requires : tie.Need-hash-requires
 hash-requires c κs = search needs
@@ -43,12 +45,18 @@ module _ (c : tie.After-find) where
   abbrev st : tie.Start
   st = c .before .before .before .before .before .before .before
 
-  found : Found (2 * st .args .m) (homeOf (st .args .m) (codeOf (st .args .k))) (keyIn (st .args .m) (st .args .index .now)) (slotIn (st .args .index .now)) (codeOf (st .args .k)) (c .find .result)
-  found = found-code (st .args .m) (c .before .before .home .result) (c .before .before .before .hash .result) (codeOf (st .args .k)) (c .before .before .before .before .code-of .result) (keyIn (st .args .m) (st .args .index .now)) (slotIn (st .args .index .now)) (c .find .result)
-      (c .before .before .before .before .code-of .ensures) (c .before .before .before .hash .ensures) (c .before .before .home .ensures .0) (c .find .ensures)
+  abbrev k : Key
+  k = keyOf (st .args .nx) (st .args .ny) (st .args .nz)
+
+  found : Found (2 * st .args .m) (homeOf (st .args .m) (codeOf k)) (keyIn (st .args .m) (st .args .index .now)) (slotIn (st .args .index .now)) (codeOf k) (c .find .result)
+  found = found-code (st .args .m) (c .before .before .home .result) (c .before .before .before .hash .result) (codeOf k) (c .before .before .before .before .code-of-normal .result) (keyIn (st .args .m) (st .args .index .now)) (slotIn (st .args .index .now)) (c .find .result)
+      (c .before .before .before .before .code-of-normal .ensures) (c .before .before .before .hash .ensures) (c .before .before .home .ensures .0) (c .find .ensures)
 
 claim-requires : tie.Need-claim-requires
 claim-requires c κs = search needs
+
+quantize-normal-requires : tie.Need-quantize-normal-requires
+quantize-normal-requires c κs = search needs
 
 new-row-requires : tie.Need-new-row-requires
 new-row-requires c κs = search needs
@@ -79,13 +87,13 @@ same-length-2 c = search needs
 
 returns : tie.Need-returns
 returns c =
-    let s = c .before .before .before .before .before .before .before .before .before .before .before .before .before .before .before .before .before in
+    let s = c .before .before .before .before .before .before .before .before .before .before .before .before .before .before .before .before .before .before in
     let a = s .args in
-    let q = c .before .before .before .before .before .before .before .before .before .before in
-    let w = c .before .before .before .before .before .before .claim .last .0 in
-    puts-new (a .m) (a .n) (a .k) (a .area) (a .index .now) (a .rows .now) (c .before .before .new-row .last .0) (q .find .result) (s .pre .left) (found q) w (c .before .before .before .before .before .before .before .before .if1 .taken) (s .pre .room)
-    (subst (λ (x : Code). Claimed (a .m) (q .find .result) (a .n) x (a .index .now) w) (c .before .before .before .before .before .before .before .before .before .before .before .before .before .before .code-of .ensures) (c .before .before .before .before .before .before .claim .ensures))
-    (c .before .before .new-row .ensures)
+    let q = c .before .before .before .before .before .before .before .before .before .before .before in
+    let w = c .before .before .before .before .before .before .before .claim .last .0 in
+    puts-new (a .m) (a .n) (k q) (a .area) (a .index .now) (a .rows .now) (c .before .before .new-row .last .0) (q .find .result) (s .pre .left) (found q) w (c .before .before .before .before .before .before .before .before .before .if1 .taken) (s .pre .room)
+    (subst (λ (x : Code). Claimed (a .m) (q .find .result) (a .n) x (a .index .now) w) (c .before .before .before .before .before .before .before .before .before .before .before .before .before .before .before .code-of-normal .ensures) (c .before .before .before .before .before .before .before .claim .ensures))
+    (c .before .before .new-row .ensures ∙ ap (λ (x : Key). withRow (a .rows .now) (a .n) x (a .area)) (c .before .before .before .quantize-normal .ensures))
 
 same-length-3 : tie.Need-same-length-3
 same-length-3 c = search needs
@@ -98,13 +106,13 @@ returns-2 c =
     let s = c .before .before .before .before .before .before .before .before .before .before .before .before .before in
     let a = s .args in
     let q = c .before .before .before .before .before .before in
-    puts-known (a .m) (a .n) (a .k) (a .area) (a .index .now) (a .rows .now) (c .before .before .grow .last .0) (q .find .result) (s .pre .left) (found q) (omega (arith, c .before .before .before .before .if1 .left)) (c .before .before .grow .ensures)
+    puts-known (a .m) (a .n) (k q) (a .area) (a .index .now) (a .rows .now) (c .before .before .grow .last .0) (q .find .result) (s .pre .left) (found q) (omega (arith, c .before .before .before .before .if1 .left)) (c .before .before .grow .ensures)
 
-pub put-spec : {M : Type 1} → statement M
-put-spec =
+pub put-normal-spec : {M : Type 1} → statement M
+put-normal-spec =
     tie.close
     (tie.spec
-    code-of-requires
+    code-of-normal-requires
     hash-requires
     mul-home
     home-requires
@@ -113,6 +121,7 @@ put-spec =
     slice-read-s
     cast-s
     claim-requires
+    quantize-normal-requires
     new-row-requires
     add-result
     sub-grow

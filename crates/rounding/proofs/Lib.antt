@@ -1,0 +1,2 @@
+-- What the test for a usual size tells.
+mod Sizes

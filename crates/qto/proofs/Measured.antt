@@ -40,7 +40,7 @@ unit-ends u h = (and-l (le leastUnit u) (le u mostUnit) h, and-r (le leastUnit u
 pub unit-square : (u : Float) → T (unitFits u) → T (positive (square u))
 unit-square u h = let e = unit-ends u h in square-positive u (e .0) (e .1)
 
--- the walk from the box minimum o by the pair p found the sums r, left the index t, and made the surface area w of s
+-- the walk from the box minimum o by the pair p found the sums r and made the surface area w of s
 module _
     (vs : List Float)
     (ids : List ℕ)
@@ -50,17 +50,16 @@ module _
     (p : Thresholds)
     (s : List Float)
     (r : Sums)
-    (t : List ℕ)
     (w : List Float)
     (is-box : b ≡ box vs)
     (is-origin : o ≡ origin b)
     (is-pair : p ≡ thresholds)
-    (walked : Walks vs o p ids s r t w)
+    (walked : Walks vs o p ids s r w)
   where
-    walks : Walks vs (origin (box vs)) thresholds ids s r t w
+    walks : Walks vs (origin (box vs)) thresholds ids s r w
     walks =
-        subst (λ (q : Thresholds). Walks vs (origin (box vs)) q ids s r t w) is-pair
-        (subst (λ (q : List Float). Walks vs q p ids s r t w) (is-origin ∙ ap origin is-box) walked)
+        subst (λ (q : Thresholds). Walks vs (origin (box vs)) q ids s r w) is-pair
+        (subst (λ (q : List Float). Walks vs q p ids s r w) (is-origin ∙ ap origin is-box) walked)
 
     totalled : r .totals ≡ totals vs ids
     unfolding totals

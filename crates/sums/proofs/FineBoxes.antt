@@ -43,6 +43,16 @@ fine-at [] i h l = absurd (omega arith)
 fine-at (x ∷ vs) zero h l = and-l (fine x) (allFine vs) h
 fine-at (x ∷ vs) (suc i) h l = fine-at vs i (and-r (fine x) (allFine vs) h) (omega arith)
 
+finite-number : (x : Float) → T (finite x) → T (not (isNan x))
+unfolding isNan
+finite-number nan h = absurd h
+finite-number (inf s) h = absurd h
+finite-number (fin s m e) h = tt
+
+-- a float of such a list is no NaN
+pub number-at : (vs : List Float) (i : ℕ) → T (allFine vs) → i < length vs → T (not (isNan (getD vs i nan)))
+number-at vs i h l = finite-number (getD vs i nan) (fine-finite (getD vs i nan) (fine-at vs i h l))
+
 pub coordinate-fine : (vs : List Float) (axis v : ℕ) → T (allFine vs) → axis < 3 → v < vertexCount vs → T (fine (coordinate vs axis v))
 coordinate-fine vs axis v h a l = fine-at vs (3 * v + axis) h (omega arith)
 

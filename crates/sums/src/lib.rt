@@ -2,6 +2,7 @@
 ghost use mathlib.Core.Path.{_≡_};
 ghost use Prim.Native.Nat.{suc, _≤_, _<_};
 ghost use lib.Ieee.{binary64, ofBits, toBits};
+ghost use lib.Dec.{T};
 ghost use lib.ListN.{length};
 ghost use Rattle.ieee.specs.Root.{root};
 ghost use Rattle.grid.specs.Grid.{extent as extentOf};
@@ -9,6 +10,7 @@ ghost use Rattle.ids.specs.Triangles.{triangle, triangleCount};
 ghost use Rattle.vertices.specs.Vertices.{vertexCount};
 ghost use Rattle.sums.specs.Box.{boxTo, box, origin as originOf, boxVolume};
 ghost use Rattle.sums.specs.Facet.{minus as minusOf, cross as crossOf, dot as dotOf, normal as normalOf, tetra as tetraOf, partOf, rebased, part};
+ghost use Rattle.sums.specs.Fine.{allFine};
 ghost use Rattle.sums.specs.Prepared.{facetBy, partBy, Rooted, Prepares};
 ghost use Rattle.sums.specs.Totals.{slopeOf, thresholds, noTotals, withFacet};
 
@@ -227,15 +229,15 @@ fn prepare_corners(t: [[f64; 3]; 3], last: Prepared) -> Prepared
     }
 }
 
-// Vertex v less the origin.
+// Vertex v less the origin. No float is a NaN, so the cast loses nothing.
 fn corner(vertices: &[f32], origin: [f64; 3], v: usize) -> [f64; 3]
-    requires { ⌜ v < vertexCount (now vertices) ⌝ }
+    requires { ⌜ (v < vertexCount (now vertices)) × T (allFine (now vertices)) ⌝ }
     ensures { λ r. ⌜ r ≡ rebased (now (vertices .entry)) origin v ⌝ }
 {
     let at = 3 * v;
-    let x = std::num::f32_to_f64_with_nan(vertices[at]);
-    let y = std::num::f32_to_f64_with_nan(vertices[at + 1]);
-    let z = std::num::f32_to_f64_with_nan(vertices[at + 2]);
+    let x = vertices[at] as f64;
+    let y = vertices[at + 1] as f64;
+    let z = vertices[at + 2] as f64;
     [x - origin[0], y - origin[1], z - origin[2]]
 }
 
@@ -247,7 +249,7 @@ pub fn prepare(
     t: usize,
     last: Prepared,
 ) -> Prepared
-    requires { ⌜ (length (now indices) ≤ 98304) × Rooted last ⌝ }
+    requires { ⌜ (length (now indices) ≤ 98304) × Rooted last × T (allFine (now vertices)) ⌝ }
     ensures { λ r. ⌜ Rooted r × (t < triangleCount (now (indices .entry)) → partBy r ≡ part (now (vertices .entry)) origin (triangle (now (indices .entry)) t)) ⌝ }
 {
     if indices.len() / 3 <= t {

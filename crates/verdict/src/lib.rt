@@ -92,7 +92,7 @@ fn by_chain(vertices: &[f32], indices: &[u32], eps: f32, near: bool, work: &mut 
     let i = indices.len();
     let front = 4 * i + 4 * (i / 3);
     let m = 8 * (vertices.len() / 3);
-    weld::keep(indices, &mut work[front..], m);
+    weld::lay(indices, &mut work[front..], m);
     let said = by_ids(work, i, front + m, near);
     let free = is_free(said);
     if !free {

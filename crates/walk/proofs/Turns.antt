@@ -8,9 +8,7 @@ use native.Mathlib.Omega.{arith}
 use mathlib.Core.List.{List, []}
 use lib.ListN.{length, replicate}
 use lib.Ieee.{Float, lt}
-use Rattle.ids.specs.Lent.{cleared}
 use Rattle.ids.specs.Triangles.{triangle, triangleCount}
-use Rattle.ids.proofs.Lent.{cleared-all}
 use Rattle.sums.specs.declared.Facet.{Facet}
 use Rattle.sums.specs.declared.Part.{Part}
 use Rattle.sums.specs.declared.Prepared.{Prepared}
@@ -127,14 +125,13 @@ ready vs o pair ids w n t u s small words room left a =
       means = (w, bucketsTo vs o ids n, sym (a .count), a .means);
     }
 
--- the walk as a whole: n words of index were cleared before and after
-pub walks : (vs o : List Float) (pair : Thresholds) (ids : List ℕ) (w : List Float) (n : ℕ) (t t′ : List ℕ) (u : List Float) (r : Sums) → Taken vs o pair ids w (triangleCount ids) t u r
-    → n ≡ 5 * triangleCount ids → length t ≡ n → t′ ≡ cleared n t → Walks vs o pair ids w r t′ u
-walks vs o pair ids w n t t′ u r a e l h =
+-- the walk as a whole
+pub walks : (vs o : List Float) (pair : Thresholds) (ids : List ℕ) (w : List Float) (t : List ℕ) (u : List Float) (r : Sums) → Taken vs o pair ids w (triangleCount ids) t u r
+    → Walks vs o pair ids w r u
+walks vs o pair ids w t u r a =
     record {
       totals = a .totals;
       count = a .count;
       few = omega (arith, a .count, buckets-le vs o ids (triangleCount ids));
-      index = h ∙ cleared-all n t l ∙ ap (λ (k : ℕ). replicate k 0) e;
       surfaces = a .means .filled;
     }

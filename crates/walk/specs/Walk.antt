@@ -3,7 +3,7 @@ use mathlib.Core.Path.{_≡_}
 use Prim.Native.Nat.{ℕ, zero, suc, _*_, _≤_}
 use mathlib.Core.Bool.{Bool, false, _||_, cond}
 use mathlib.Core.List.{List, [], _++_}
-use lib.ListN.{length, drop, replicate}
+use lib.ListN.{length, drop}
 use lib.Ieee.{Float}
 use Rattle.ieee.specs.Single.{_⊕_, nought}
 use Rattle.ids.specs.Triangles.{triangle, triangleCount}
@@ -55,9 +55,8 @@ keyAmong vs o ids k (suc n) = hasPart k (part vs o (triangle ids n)) || keyAmong
 abbrev pub withRows : List Bucket → List Float → List Float
 withRows bs s = flatten (rows bs) ++ drop (4 * length bs) s
 
-pub record Walks (vs o : List Float) (p : Thresholds) (ids : List ℕ) (s : List Float) (r : Sums) (t : List ℕ) (u : List Float) : Type 0 where
+pub record Walks (vs o : List Float) (p : Thresholds) (ids : List ℕ) (s : List Float) (r : Sums) (u : List Float) : Type 0 where
   pub totals : r .totals ≡ totalsTo vs o p ids (triangleCount ids)
   pub count : r .rows ≡ length (bucketsTo vs o ids (triangleCount ids))
   pub few : r .rows ≤ triangleCount ids
-  pub index : t ≡ replicate (5 * triangleCount ids) 0
   pub surfaces : u ≡ withRows (bucketsTo vs o ids (triangleCount ids)) s

@@ -1,9 +1,11 @@
 // One walk over the triangles: the totals, and a row for each key of a normal. Internal: `qto` asks it.
 ghost use mathlib.Core.Path.{_≡_};
 ghost use Prim.Native.Nat.{_+_, _*_, _≤_, _<_};
+ghost use lib.Dec.{T};
 ghost use lib.ListN.{length, replicate};
 ghost use Rattle.ids.specs.Triangles.{triangleCount};
 ghost use Rattle.surfaces.specs.Index.{Ready};
+ghost use Rattle.sums.specs.Fine.{allFine};
 ghost use Rattle.sums.specs.Prepared.{partBy};
 ghost use Rattle.walk.specs.Walk.{Walks};
 ghost use Rattle.walk.specs.Steps.{Takes, Taken};
@@ -70,7 +72,7 @@ fn take_all(
     index: &mut [u32],
     rows: &mut [f32],
 ) -> Sums
-    requires { ⌜ (length (now indices) ≤ 98304) × (0 < triangleCount (now indices)) × (now index ≡ replicate (5 * triangleCount (now indices)) 0) × (4 * triangleCount (now indices) ≤ length (now rows)) ⌝ }
+    requires { ⌜ T (allFine (now vertices)) × (length (now indices) ≤ 98304) × (0 < triangleCount (now indices)) × (now index ≡ replicate (5 * triangleCount (now indices)) 0) × (4 * triangleCount (now indices) ≤ length (now rows)) ⌝ }
     ensures { λ r. ⌜ Taken (now (vertices .entry)) origin pair (now (indices .entry)) (now (rows .entry)) (triangleCount (now (indices .entry))) (now (index .exit)) (now (rows .exit)) r ⌝ }
 {
     let m = indices.len() / 3;
@@ -89,7 +91,8 @@ fn take_all(
     s
 }
 
-// The sums of all triangles. The index, 5 words a triangle, is zero afterwards; the rows stand first in the surface area.
+// The sums of all triangles. The rows stand first in the surface area; the index, 5 words a triangle, is left as it is, since all words are cleared when the
+// verdict is known.
 pub fn walk(
     vertices: &[f32],
     indices: &[u32],
@@ -98,12 +101,10 @@ pub fn walk(
     index: &mut [u32],
     rows: &mut [f32],
 ) -> Sums
-    requires { ⌜ (length (now indices) ≤ 98304) × (0 < triangleCount (now indices)) × (length (now index) ≡ 5 * triangleCount (now indices)) × (4 * triangleCount (now indices) ≤ length (now rows)) ⌝ }
-    ensures { λ r. ⌜ Walks (now (vertices .entry)) origin pair (now (indices .entry)) (now (rows .entry)) r (now (index .exit)) (now (rows .exit)) ⌝ }
+    requires { ⌜ T (allFine (now vertices)) × (length (now indices) ≤ 98304) × (0 < triangleCount (now indices)) × (length (now index) ≡ 5 * triangleCount (now indices)) × (4 * triangleCount (now indices) ≤ length (now rows)) ⌝ }
+    ensures { λ r. ⌜ Walks (now (vertices .entry)) origin pair (now (indices .entry)) (now (rows .entry)) r (now (rows .exit)) ⌝ }
 {
     let n = index.len();
     table::clear(index, n);
-    let s = take_all(vertices, indices, origin, pair, index, rows);
-    table::clear(index, n);
-    s
+    take_all(vertices, indices, origin, pair, index, rows)
 }

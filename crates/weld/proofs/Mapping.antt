@@ -117,9 +117,11 @@ weld-last vs inv ids g b u w x lg eu lb m ew ex =
     ex ∙ ap (cleared (8 * n)) ew ∙ cleared-front (8 * n) (take (8 * n) u) (mapped n u ids) front ∙ ap (λ (l : List ℕ). replicate (8 * n) 0 ++ l) (mapped-weld vs inv u ids names)
 
 -- the same with no table
-pub keep-last : (m : ℕ) (ids t w x : List ℕ) → length t ≡ m + length ids → w ≡ take m t ++ mapped 0 t ids → x ≡ cleared m w → x ≡ replicate m 0 ++ ids
-keep-last m ids t w x lt ew ex =
-    ex ∙ ap (cleared m) ew ∙ cleared-front m (take m t) (mapped 0 t ids) (length-take-le m t (omega arith)) ∙ ap (λ (l : List ℕ). replicate m 0 ++ l) (mapped-none t ids)
+pub lay-last : (m : ℕ) (ids t w : List ℕ) → w ≡ take m t ++ mapped 0 t ids → w ≡ take m t ++ ids
+lay-last m ids t w ew = ew ∙ ap (λ (l : List ℕ). take m t ++ l) (mapped-none t ids)
+
+pub keep-last : (m : ℕ) (ids t w x : List ℕ) → length t ≡ m + length ids → w ≡ take m t ++ ids → x ≡ cleared m w → x ≡ replicate m 0 ++ ids
+keep-last m ids t w x lt ew ex = ex ∙ ap (cleared m) ew ∙ cleared-front m (take m t) ids (length-take-le m t (omega arith))
 
 -- whether there is a weld
 pub welded-not : (vs : List Float) (ids : List ℕ) (ε : Float) → unwelded vs ε ≡ true → ids ≡ welded vs ids ε

@@ -51,12 +51,20 @@ fn weld(vertices: &[f32], ids: &[u32], inv: f64, part: &mut [u32])
     table::clear(part, m);
 }
 
-// The ids as they are, behind m words that are then zero.
-pub fn keep(ids: &[u32], part: &mut [u32], m: usize)
+// The ids as they are, behind m words that stay.
+pub fn lay(ids: &[u32], part: &mut [u32], m: usize)
+    requires { ⌜ length (now part) ≡ m + length (now ids) ⌝ }
+    ensures { λ _. ⌜ now (part .exit) ≡ take m (now (part .entry)) ++ now (ids .entry) ⌝ }
+{
+    map_ids(ids, part, m, 0);
+}
+
+// The same, behind m words that are then zero.
+fn keep(ids: &[u32], part: &mut [u32], m: usize)
     requires { ⌜ length (now part) ≡ m + length (now ids) ⌝ }
     ensures { λ _. ⌜ now (part .exit) ≡ replicate m 0 ++ now (ids .entry) ⌝ }
 {
-    map_ids(ids, part, m, 0);
+    lay(ids, part, m);
     table::clear(part, m);
 }
 

@@ -63,7 +63,7 @@ corner-requires : tie.Need-corner-requires
 unfolding triangle
 corner-requires c κs =
     let a = c .before .before .before .before .before .before .before .before .args in
-    corners-are (a .vertices .now) (triangle (a .indices .now) (a .t)) (sym (c .before .corners-in-range .ensures) ∙ not-false (c .before .corners-in-range .result) (c .if2 .left)) .0
+    (corners-are (a .vertices .now) (triangle (a .indices .now) (a .t)) (sym (c .before .corners-in-range .ensures) ∙ not-false (c .before .corners-in-range .result) (c .if2 .left)) .0, c .before .before .before .before .before .before .before .before .pre .2)
 
 cast-corner-2 : tie.Need-cast-corner-2
 cast-corner-2 c =
@@ -74,7 +74,7 @@ corner-requires-2 : tie.Need-corner-requires-2
 unfolding triangle
 corner-requires-2 c κs =
     let a = c .before .before .before .before .before .before .before .before .before .args in
-    corners-are (a .vertices .now) (triangle (a .indices .now) (a .t)) (sym (c .before .before .corners-in-range .ensures) ∙ not-false (c .before .before .corners-in-range .result) (c .before .if2 .left)) .1
+    (corners-are (a .vertices .now) (triangle (a .indices .now) (a .t)) (sym (c .before .before .corners-in-range .ensures) ∙ not-false (c .before .before .corners-in-range .result) (c .before .if2 .left)) .1, c .before .before .before .before .before .before .before .before .before .pre .2)
 
 cast-corner-3 : tie.Need-cast-corner-3
 cast-corner-3 c =
@@ -85,7 +85,7 @@ corner-requires-3 : tie.Need-corner-requires-3
 unfolding triangle
 corner-requires-3 c κs =
     let a = c .before .before .before .before .before .before .before .before .before .before .args in
-    corners-are (a .vertices .now) (triangle (a .indices .now) (a .t)) (sym (c .before .before .before .corners-in-range .ensures) ∙ not-false (c .before .before .before .corners-in-range .result) (c .before .before .if2 .left)) .2
+    (corners-are (a .vertices .now) (triangle (a .indices .now) (a .t)) (sym (c .before .before .before .corners-in-range .ensures) ∙ not-false (c .before .before .before .corners-in-range .result) (c .before .before .if2 .left)) .2, c .before .before .before .before .before .before .before .before .before .before .pre .2)
 
 prepare-corners-requires : tie.Need-prepare-corners-requires
 prepare-corners-requires c κs = search needs

@@ -3,12 +3,14 @@ use mathlib.Core.Bool.{true, false}
 use mathlib.Core.Path.{_≡_, sym, ap, _∙_}
 use borrow.Author.Tests.{not-true, not-false}
 use borrow.Author.Needs.{needs}
-use lib.ListN.{length}
+use Prim.Native.Nat.{_+_, _-_, _*_, _/_}
+use lib.ListN.{length, take, drop}
+use native.Mathlib.Omega.{arith}
 use Rattle.ids.specs.EdgeChain.{boundaryFree}
 use Rattle.vertices.specs.Vertices.{vertexCount}
 use Rattle.verdict.specs.Steps.{chained, isFree, openUnlessFree}
 use Rattle.verdict.proofs.Meaning.{free-is, by-given, by-welded}
-use Rattle.verdict.proofs.Parts.{asked-behind}
+use Rattle.verdict.proofs.Parts.{length-in-part, asked-behind}
 use Rattle.verdict.proofs.by_chain.Statement.{statement}
 use Rattle.verdict.proofs.by_chain.Tie as tie
 
@@ -18,9 +20,13 @@ module _ (c : tie.After-is-free) where
 
   said : c .before .before .before .by-ids .result ≡ chained (st .args .indices .now) (st .args .near)
   said =
-      let kept = c .before .before .before .before .before .before .before .keep in
+      let kept = c .before .before .before .before .before .before .before .lay in
       let asked = c .before .before .before .by-ids in
-      asked-behind (length (st .args .indices .now)) (vertexCount (st .args .vertices .now)) (st .args .work .now) (kept .last .1 .0) _ (st .args .near) (asked .result) (st .pre .2) (kept .ensures) (asked .ensures)
+      let i = length (st .args .indices .now) in
+      let w = st .args .work .now in
+      let front = 4 * i + 4 * (i / 3) in
+      let m = 8 * vertexCount (st .args .vertices .now) in
+      asked-behind i (vertexCount (st .args .vertices .now)) w (kept .last .1 .0) (take m (take (length w - front) (drop front w))) _ (st .args .near) (asked .result) (st .pre .2) (length-in-part front m w (omega (arith, st .pre .2))) (kept .ensures) (asked .ensures)
 
   told : boundaryFree (st .args .indices .now) ≡ c .is-free .result
   told = free-is (st .args .indices .now) (st .args .near) ∙ ap isFree (sym said) ∙ sym (c .is-free .ensures)
@@ -37,20 +43,20 @@ add-front c = search needs
 mul-m : tie.Need-mul-m
 mul-m c = search needs
 
-mul-keep : tie.Need-mul-keep
-mul-keep c = search needs
+mul-lay : tie.Need-mul-lay
+mul-lay c = search needs
 
-sub-keep : tie.Need-sub-keep
-sub-keep c = search needs
+sub-lay : tie.Need-sub-lay
+sub-lay c = search needs
 
-part-keep-start : tie.Need-part-keep-start
-part-keep-start c = search needs
+part-lay-start : tie.Need-part-lay-start
+part-lay-start c = search needs
 
-part-keep-end : tie.Need-part-keep-end
-part-keep-end c = search needs
+part-lay-end : tie.Need-part-lay-end
+part-lay-end c = search needs
 
-keep-requires : tie.Need-keep-requires
-keep-requires c κs = search needs
+lay-requires : tie.Need-lay-requires
+lay-requires c κs = search needs
 
 add-by-ids : tie.Need-add-by-ids
 add-by-ids c = search needs
@@ -95,11 +101,11 @@ by-chain-spec =
     mul-front-2
     add-front
     mul-m
-    mul-keep
-    sub-keep
-    part-keep-start
-    part-keep-end
-    keep-requires
+    mul-lay
+    sub-lay
+    part-lay-start
+    part-lay-end
+    lay-requires
     add-by-ids
     by-ids-requires
     is-free-requires

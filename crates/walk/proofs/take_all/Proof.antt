@@ -23,16 +23,16 @@ nothing-requires : tie.Need-nothing-requires Inv-loop μ-loop
 nothing-requires c κs = search needs
 
 loop-holds : tie.Need-loop-holds Inv-loop μ-loop
-loop-holds c = (omega arith, refl, refl, underway-none _ _ _ _ _ _ _ _ (c .before .before .before .before .before .before .pre .2) (c .before .none .ensures) (c .nothing .ensures))
+loop-holds c = (omega arith, refl, refl, underway-none _ _ _ _ _ _ _ _ (c .before .before .before .before .before .before .pre .3) (c .before .none .ensures) (c .nothing .ensures))
 
 prepare-requires : tie.Need-prepare-requires Inv-loop μ-loop
-prepare-requires c κs = (c .before .before .before .before .before .before .before .before .pre .0, c .before .loop .inv .3 .rooted)
+prepare-requires c κs = (c .before .before .before .before .before .before .before .before .pre .1, c .before .loop .inv .3 .rooted, c .before .before .before .before .before .before .before .before .pre .0)
 
 take-requires : tie.Need-take-requires Inv-loop μ-loop
-take-requires c κs = ready _ _ _ _ _ _ _ _ _ (omega (arith, c .before .before .before .before .before .before .before .before .before .before .before .pre .0)) (c .before .before .before .before .loop .inv .1 ∙ ap length (c .before .before .before .before .before .before .before .before .before .before .before .pre .2) ∙ length-replicate _ _) (omega (arith, c .before .before .before .before .before .before .before .before .before .before .before .pre .3, c .before .before .before .before .loop .inv .2)) (omega (arith, c .before .before .before .before .before .before .before .before .before .before .before .pre .1)) (c .before .before .before .before .loop .inv .3 .taken)
+take-requires c κs = ready _ _ _ _ _ _ _ _ _ (omega (arith, c .before .before .before .before .before .before .before .before .before .before .before .pre .1)) (c .before .before .before .before .loop .inv .1 ∙ ap length (c .before .before .before .before .before .before .before .before .before .before .before .pre .3) ∙ length-replicate _ _) (omega (arith, c .before .before .before .before .before .before .before .before .before .before .before .pre .4, c .before .before .before .before .loop .inv .2)) (omega (arith, c .before .before .before .before .before .before .before .before .before .before .before .pre .2)) (c .before .before .before .before .loop .inv .3 .taken)
 
 add-t : tie.Need-add-t Inv-loop μ-loop
-add-t c = record { fits = omega (arith, c .before .before .before .before .before .before .before .before .before .before .before .before .before .before .before .before .pre .0) }
+add-t c = record { fits = omega (arith, c .before .before .before .before .before .before .before .before .before .before .before .before .before .before .before .before .pre .1) }
 
 loop-less : tie.Need-loop-less Inv-loop μ-loop
 loop-less c = search needs

@@ -1,11 +1,11 @@
--- `weld::keep` meets its contract: by no table the ids stay. Assumes nothing.
+-- `weld::keep` meets its contract: the words in front of the ids are cleared. Assumes nothing.
 use borrow.Author.Needs.{needs}
 use Rattle.weld.proofs.Mapping.{keep-last}
 use Rattle.weld.proofs.keep.Statement.{statement}
 use Rattle.weld.proofs.keep.Tie as tie
 
-map-ids-requires : tie.Need-map-ids-requires
-map-ids-requires c κs = search needs
+lay-requires : tie.Need-lay-requires
+lay-requires c κs = search needs
 
 clear-requires : tie.Need-clear-requires
 clear-requires c κs = search needs
@@ -17,7 +17,7 @@ returns : tie.Need-returns
 returns c =
     let s = c .before .before .before .before .before .before .before .before .before .before in
     let a = s .args in
-    keep-last (a .m) (a .ids .now) (a .part .now) (c .before .before .before .before .before .before .map-ids .last .1 .0) (c .before .before .clear .last .0) (s .pre) (c .before .before .before .before .before .before .map-ids .ensures) (c .before .before .clear .ensures)
+    keep-last (a .m) (a .ids .now) (a .part .now) (c .before .before .before .before .before .before .lay .last .1 .0) (c .before .before .clear .last .0) (s .pre) (c .before .before .before .before .before .before .lay .ensures) (c .before .before .clear .ensures)
 
 pub keep-spec : {M : Type 1} → statement M
-keep-spec = tie.close (tie.spec map-ids-requires clear-requires same-length returns)
+keep-spec = tie.close (tie.spec lay-requires clear-requires same-length returns)

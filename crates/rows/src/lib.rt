@@ -88,20 +88,40 @@ fn later(rows: &[f32], i: usize, j: usize) -> usize
     ahead(rows, i, j) as usize
 }
 
-// Of the children of row i in a heap of n rows the one that comes last; n where it has none.
-fn child(rows: &[f32], i: usize, n: usize) -> usize
-    requires { ⌜ (i < n) × (n ≤ 32768) × (4 * n ≤ length (now rows)) ⌝ }
-    ensures { λ r. ⌜ (i < r) × (r ≤ n) ⌝ }
+// Row start goes down the heap of n rows until it has no child, and each time changes places with the one that comes last; where it ends. Whether it has gone far enough is not asked on the way: it nearly always belongs near the bottom.
+fn descend(rows: &mut [f32], start: usize, n: usize) -> usize
+    requires { ⌜ (start < n) × (n ≤ 32768) × (4 * n ≤ length (now rows)) ⌝ }
+    ensures { λ r. ⌜ (start ≤ r) × (r < n) × SameRows (rowsOf (now (rows .entry))) (rowsOf (now (rows .exit))) ⌝ }
 {
-    let left = 2 * i + 1;
-    if left >= n {
-        return n;
+    let mut i = start;
+    while 2 * i + 2 < n {
+        let left = 2 * i + 1;
+        let below = left + later(rows, left, left + 1);
+        swap(rows, i, below);
+        i = below;
     }
-    let right = left + 1;
-    if right >= n {
-        return left;
+    let lone = 2 * i + 1;
+    if lone >= n {
+        return i;
     }
-    left + later(rows, left, right)
+    swap(rows, i, lone);
+    lone
+}
+
+// Row i goes up again, to row start at most, while its parent precedes it: seldom more than a step or two.
+fn climb(rows: &mut [f32], start: usize, i: usize)
+    requires { ⌜ 4 * i + 4 ≤ length (now rows) ⌝ }
+    ensures { λ _. ⌜ SameRows (rowsOf (now (rows .entry))) (rowsOf (now (rows .exit))) ⌝ }
+{
+    let mut k = i;
+    while k > start {
+        let parent = (k - 1) / 2;
+        if !ahead(rows, parent, k) {
+            return;
+        }
+        swap(rows, parent, k);
+        k = parent;
+    }
 }
 
 // Row start sinks in the heap of n rows until no child comes after it.
@@ -109,18 +129,8 @@ fn sink(rows: &mut [f32], start: usize, n: usize)
     requires { ⌜ (start < n) × (n ≤ 32768) × (4 * n ≤ length (now rows)) ⌝ }
     ensures { λ _. ⌜ SameRows (rowsOf (now (rows .entry))) (rowsOf (now (rows .exit))) ⌝ }
 {
-    let mut i = start;
-    while i < n {
-        let below = child(rows, i, n);
-        if below >= n {
-            return;
-        }
-        if !ahead(rows, i, below) {
-            return;
-        }
-        swap(rows, i, below);
-        i = below;
-    }
+    let end = descend(rows, start, n);
+    climb(rows, start, end);
 }
 
 // The first n rows become a heap.

@@ -1,0 +1,72 @@
+-- `rows::climb` meets its contract: the loop only swaps, and k goes up the heap to a parent, which is smaller. Assumes nothing.
+use mathlib.Core.Path.{_≡_, refl}
+use Prim.Native.Nat.{_≤_}
+use native.Mathlib.Omega.{arith}
+use borrow.Author.Needs.{needs}
+use lib.ListN.{length}
+use Rattle.rows.specs.Rows.{rowsOf}
+use Rattle.rows.specs.Sorting.{SameRows}
+use Rattle.rows.proofs.Counts.{same-rows}
+use Rattle.rows.proofs.Sinking.{same-swap}
+use Rattle.rows.proofs.Flat.{row-inside}
+use Rattle.rows.proofs.climb.Statement.{statement}
+use Rattle.rows.proofs.climb.Tie as tie
+
+abbrev Inv-loop : tie.InvT-loop
+Inv-loop rows₀ start i k₀ rows k = (k ≤ i) × (length rows ≡ length rows₀) × SameRows (rowsOf rows₀) (rowsOf rows)
+
+abbrev μ-loop : tie.MeasureT-loop
+μ-loop rows₀ start i k₀ rows k = k
+
+loop-holds : tie.Need-loop-holds Inv-loop μ-loop
+loop-holds c = (omega arith, refl, same-rows (rowsOf (c .before .args .rows .now)))
+
+sub-parent : tie.Need-sub-parent Inv-loop μ-loop
+sub-parent c = search needs
+
+ahead-requires : tie.Need-ahead-requires Inv-loop μ-loop
+ahead-requires c κs = search needs
+
+same-length : tie.Need-same-length Inv-loop μ-loop
+same-length c = search needs
+
+returns : tie.Need-returns Inv-loop μ-loop
+returns c = c .before .before .before .before .loop .inv .2
+
+swap-requires : tie.Need-swap-requires Inv-loop μ-loop
+swap-requires c κs = search needs
+
+loop-less : tie.Need-loop-less Inv-loop μ-loop
+loop-less c = search needs
+
+loop-again : tie.Need-loop-again Inv-loop μ-loop
+loop-again c =
+    let t = c .before .before .before .before .before .before .before .before .before .before .args .rows .now in
+    let l = c .before .before .before .before .before .before .before .before .loop in (
+      omega arith,
+      omega (arith, c .before .before .swap .kept),
+      same-swap (rowsOf t) (rowsOf (l .rows)) _ _ (l .k) (l .inv .2) (c .before .before .swap .ensures) (row-inside (l .rows) _ (omega arith)) (row-inside (l .rows) (l .k) (omega arith)),
+    )
+
+same-length-2 : tie.Need-same-length-2 Inv-loop μ-loop
+same-length-2 c = search needs
+
+returns-2 : tie.Need-returns-2 Inv-loop μ-loop
+returns-2 c = c .before .loop .inv .2
+
+pub climb-spec : {M : Type 1} → statement M
+climb-spec =
+    tie.close
+    (tie.spec
+    Inv-loop
+    μ-loop
+    loop-holds
+    sub-parent
+    ahead-requires
+    same-length
+    returns
+    swap-requires
+    loop-less
+    loop-again
+    same-length-2
+    returns-2)

@@ -1,6 +1,6 @@
 -- `rounded`, and its pattern for an `f32` by the fields of an `f64`'s pattern, in each range of the exponent's field. Assumes nothing.
 use mathlib.Core.Path.{_≡_, refl, sym, ap, _∙_, subst}
-use mathlib.Core.Logic.{_⊎_, inl, inr, ⊎-elim}
+use mathlib.Core.Logic.{inl, inr}
 use mathlib.Core.Bool.{Bool, false, cond}
 use Prim.Native.Nat.{ℕ, zero, suc, _+_, _-_, _*_, _/_, _%_, _^_, _≤_, _<_}
 use native.Mathlib.Nat.{add-mul-div-right, div-eq-of-lt, mod-eq-of-lt, zero-add}
@@ -53,7 +53,7 @@ subnormal e t h l =
     shift-bits binary32 (sig binary64 e t) (exp e) 1074 (925 - exp e) 0 (omega arith)
     (below-pow (sig binary64 e t) 53 (24 + (925 - exp e)) (sig-lt binary64 e t l) (omega arith)) (inl refl) (lit< tt)
 
-narrow-tiny : (e t : ℕ) → e < 863 → t < 2 ^ 52 → 0 ≡ Narrow e t
+pub narrow-tiny : (e t : ℕ) → e < 863 → t < 2 ^ 52 → 0 ≡ Narrow e t
 narrow-tiny e t h l =
     let x = exp-le e in
     let d = sig-lt binary64 e t l in
@@ -77,8 +77,8 @@ narrow-large (suc y) t h l =
     rw (shift-inf binary32 (2 ^ 52 + t) y 1074 29 (suc y - 897) (omega arith) (omega arith) (inr (omega arith)) false (omega arith) (omega arith))
     (sym (bits-inf binary32))
 
--- ---- the same on the whole pattern m of a size at once, in the ranges of `narrow-normal` and `narrow-tiny`: half of what goes is added, less one
--- where the last digit that stays is even; 29 digits go; and the exponent counts from 896 lower, which is more than a tiny size has
+-- ---- `narrow-normal` on the whole pattern m of a size at once: half of what goes is added, less one where the last digit that stays is even; 29
+-- digits go; and the exponent counts from 896 lower
 abbrev shortened : ℕ → ℕ
 shortened m = (m + (2 ^ 28 - 1 + m / 2 ^ 29 % 2)) / 2 ^ 29
 
@@ -93,7 +93,7 @@ evenly-more n j b h B =
     rw (even, regroup) (add-mul-div-right (n + h + n / b % 2) (2 * j) B)
 
 -- the leading digit, which is not written, counts as much as one of the exponent
-shortened-normal : (m : ℕ) → 897 * 2 ^ 52 ≤ m → m < 1151 * 2 ^ 52 → shortened m - 896 * 2 ^ 23 ≡ NarrowWhole m
+pub shortened-normal : (m : ℕ) → 897 * 2 ^ 52 ≤ m → m < 1151 * 2 ^ 52 → shortened m - 896 * 2 ^ 23 ≡ NarrowWhole m
 shortened-normal m h g =
     let e = m / 2 ^ 52 in
     let n : ℕ = 2 ^ 52 + m % 2 ^ 52 in
@@ -103,13 +103,6 @@ shortened-normal m h g =
     ap shortened split ∙ evenly-more n j (2 ^ 29) (2 ^ 28 - 1) (omega arith) ∙ ap (λ (z : ℕ). z + 2 * j) (nearest-shift n 29 (omega arith)) in
     let from : shortened m - 896 * 2 ^ 23 ≡ (e - 897) * 2 ^ 23 + closest n (2 ^ 29) = omega arith in
     from ∙ narrow-normal e (m % 2 ^ 52) (omega arith) (omega arith) (omega arith)
-
-shortened-tiny : (m : ℕ) → m < 863 * 2 ^ 52 → shortened m - 896 * 2 ^ 23 ≡ NarrowWhole m
-shortened-tiny m h =
-    let none : shortened m - 896 * 2 ^ 23 ≡ 0 = omega arith in none ∙ narrow-tiny (m / 2 ^ 52) (m % 2 ^ 52) (omega arith) (omega arith)
-
-pub shortened-is : (m : ℕ) → (m < 863 * 2 ^ 52) ⊎ (897 * 2 ^ 52 ≤ m) → m < 1151 * 2 ^ 52 → shortened m - 896 * 2 ^ 23 ≡ NarrowWhole m
-shortened-is m w g = ⊎-elim (λ h. shortened-tiny m h) (λ h. shortened-normal m h g) w
 
 -- ---- with the sign, the infinities and the NaN
 sign : (b : ℕ) → b < 2 ^ 64 → b / 2 ^ 63 * 2 ^ 31 ≡ cond (leb (2 ^ 63) b) (2 ^ 31) 0

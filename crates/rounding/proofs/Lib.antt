@@ -1,2 +1,0 @@
--- What the test for a usual size tells.
-mod Sizes

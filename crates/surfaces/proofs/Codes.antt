@@ -11,7 +11,7 @@ use mir.Syntax.{w32, w64}
 use mir.Val.{Fits, SFits, ofZ, toZ}
 use Rattle.ieee.specs.Integral.{halfAway}
 use Rattle.ieee.specs.Single.{_⊗_}
-use Rattle.ieee.proofs.Order.Ranges.{signed-kept}
+use Rattle.ieee.proofs.Order.Ranges.{signed-fits, signed-kept}
 use Rattle.ids.proofs.Same.{three-eq, three-refl, eqb-refl}
 use Rattle.table.specs.Rows.{homeRow, Found}
 use Rattle.table.proofs.Search.{home-below}
@@ -32,6 +32,10 @@ pub coded-fits : (z : ℤ) → SFits w32 z → Fits w32 (coded z)
 unfolding coded
 coded-fits (pos n) f = record { fits = omega (arith, f .sfits) }
 coded-fits (negsuc n) f = record { fits = omega (arith, f .sfits) }
+
+pub tenths-fit : (x : Float) → SFits w32 (tenths x)
+unfolding tenths
+tenths-fit x = signed-fits w32 (halfAway binary32 (x ⊗ ten))
 
 -- tenths are read back from their bits
 pub tenths-kept : (x : Float) → toZ w32 (ofZ w32 (tenths x)) ≡ tenths x

@@ -1,12 +1,12 @@
 // The surface rows while they are summed: the key of a normal, and its row, found by an index in lent words. Internal: `walk` asks it.
 ghost use mathlib.Core.Path.{_≡_};
-ghost use Prim.Native.Nat.{_+_, _*_, _≤_, _<_};
-ghost use lib.Ieee.{nan};
+ghost use Prim.Native.Nat.{_+_, _*_, _/_, _%_, _^_, _≤_, _<_};
+ghost use lib.Ieee.{Float, nan, binary32, ofBits};
 ghost use lib.ListN.{length, getD, set};
-ghost use Rattle.ieee.specs.Single.{_⊕_, nought};
+ghost use Rattle.ieee.specs.Single.{_⊕_, _⊗_, nought};
 ghost use Rattle.table.specs.Rows.{Found};
 ghost use Rattle.cells.specs.Table.{coded as codedOf};
-ghost use Rattle.surfaces.specs.Surfaces.{tenths as tenthsOf, tenth as tenthOf, keyOf};
+ghost use Rattle.surfaces.specs.Surfaces.{ten, tenths as tenthsOf, tenth as tenthOf, keyOf};
 ghost use Rattle.surfaces.specs.Index.{codeOf, sameCode, stored, slotIn, keyIn, hashOf, Searchable, Claimed, withRow, Ready, Puts};
 
 // A unit normal in tenths.
@@ -23,12 +23,25 @@ pub struct Code {
     pub z: u32,
 }
 
-// A component in tenths, half away from zero.
+// The pattern of a component times 10.
+fn tenfold(c: f32) -> u64
+    ensures { λ r. ⌜ (ofBits binary32 r ≡ c ⊗ ten) × (r < 2 ^ 32) ⌝ }
+{
+    floats::bits32(c * 10.0) as u64
+}
+
+// A component in tenths, half away from zero. Below 2^23 they come from the pattern's fields, and the sign is put on last.
 fn tenths(c: f32) -> i32
     ensures { λ r. ⌜ r ≡ tenthsOf c ⌝ }
 {
-    let y = floats::round32(c * 10.0);
-    floats::to_i32(y)
+    let b = tenfold(c);
+    let e = b % 0x8000_0000 / 0x80_0000;
+    if e < 150 {
+        let n = rounding::half_size32(e, b % 0x80_0000) as i32;
+        if b < 0x8000_0000 { n } else { -n }
+    } else {
+        floats::to_i32(floats::round32(c * 10.0))
+    }
 }
 
 pub fn quantize_normal(nx: f32, ny: f32, nz: f32) -> Key
@@ -54,27 +67,46 @@ fn coded(k: i32) -> u32
     cells::coded(k as i64) as u32
 }
 
-// The code of a component. Below 2^23 tenths it comes from the pattern's fields, with no float or signed integer between.
-fn tenths_code(c: f32) -> u32
-    ensures { λ r. ⌜ r ≡ codedOf (tenthsOf c) ⌝ }
+// The code of a component by the pattern of ten times it, below 2^23 tenths: no float or signed integer between.
+fn pattern_code(b: u64) -> u32
+    requires { ⌜ (b < 2 ^ 32) × (b % 2147483648 / 8388608 < 150) ⌝ }
+    ensures { λ r. ⌜ ((c : Float) → ofBits binary32 b ≡ c ⊗ ten → r ≡ codedOf (tenthsOf c)) ⌝ }
 {
-    let b = floats::bits32(c * 10.0) as u64;
-    let e = b % 0x8000_0000 / 0x80_0000;
-    if e < 150 {
-        cells::coded_size(b / 0x8000_0000, rounding::half_size32(e, b % 0x80_0000)) as u32
-    } else {
-        coded(tenths(c))
+    let n = rounding::half_size32(b % 0x8000_0000 / 0x80_0000, b % 0x80_0000);
+    cells::coded_size(b / 0x8000_0000, n) as u32
+}
+
+// The code of a normal's key, by the key.
+fn code_of(k: Key) -> Code
+    ensures { λ r. ⌜ r ≡ codeOf k ⌝ }
+{
+    Code {
+        x: coded(k.x),
+        y: coded(k.y),
+        z: coded(k.z),
     }
 }
 
-// The code of a normal's key.
+// The same by the patterns, where they have so few tenths, as those of a unit normal do.
 fn code_of_normal(nx: f32, ny: f32, nz: f32) -> Code
     ensures { λ r. ⌜ r ≡ codeOf (keyOf nx ny nz) ⌝ }
 {
+    let x = tenfold(nx);
+    let y = tenfold(ny);
+    let z = tenfold(nz);
+    if 150 <= x % 0x8000_0000 / 0x80_0000 {
+        return code_of(quantize_normal(nx, ny, nz));
+    }
+    if 150 <= y % 0x8000_0000 / 0x80_0000 {
+        return code_of(quantize_normal(nx, ny, nz));
+    }
+    if 150 <= z % 0x8000_0000 / 0x80_0000 {
+        return code_of(quantize_normal(nx, ny, nz));
+    }
     Code {
-        x: tenths_code(nx),
-        y: tenths_code(ny),
-        z: tenths_code(nz),
+        x: pattern_code(x),
+        y: pattern_code(y),
+        z: pattern_code(z),
     }
 }
 

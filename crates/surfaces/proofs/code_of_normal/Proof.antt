@@ -1,23 +1,77 @@
--- `surfaces::code_of_normal` meets its contract: each component is coded. Assumes nothing.
+-- `surfaces::code_of_normal` meets its contract: each component is coded, by its pattern or by the key. Assumes nothing.
 use Rattle.surfaces.specs.Surfaces.{keyOf}
 use Rattle.surfaces.specs.Index.{codeOf}
+use mathlib.Core.Path.{_∙_, ap}
 use borrow.Author.Needs.{needs}
 use Rattle.surfaces.proofs.code_of_normal.Statement.{statement}
 use Rattle.surfaces.proofs.code_of_normal.Tie as tie
 
-tenths-code-requires : tie.Need-tenths-code-requires
-tenths-code-requires c κs = search needs
+tenfold-requires : tie.Need-tenfold-requires
+tenfold-requires c κs = search needs
 
-tenths-code-requires-2 : tie.Need-tenths-code-requires-2
-tenths-code-requires-2 c κs = search needs
+tenfold-requires-2 : tie.Need-tenfold-requires-2
+tenfold-requires-2 c κs = search needs
 
-tenths-code-requires-3 : tie.Need-tenths-code-requires-3
-tenths-code-requires-3 c κs = search needs
+tenfold-requires-3 : tie.Need-tenfold-requires-3
+tenfold-requires-3 c κs = search needs
+
+quantize-normal-requires : tie.Need-quantize-normal-requires
+quantize-normal-requires c κs = search needs
+
+code-of-requires : tie.Need-code-of-requires
+code-of-requires c κs = search needs
 
 returns : tie.Need-returns
+returns c = c .code-of .ensures ∙ ap codeOf (c .before .quantize-normal .ensures)
+
+quantize-normal-requires-2 : tie.Need-quantize-normal-requires-2
+quantize-normal-requires-2 c κs = search needs
+
+code-of-requires-2 : tie.Need-code-of-requires-2
+code-of-requires-2 c κs = search needs
+
+returns-2 : tie.Need-returns-2
+returns-2 c = c .code-of2 .ensures ∙ ap codeOf (c .before .quantize-normal2 .ensures)
+
+quantize-normal-requires-3 : tie.Need-quantize-normal-requires-3
+quantize-normal-requires-3 c κs = search needs
+
+code-of-requires-3 : tie.Need-code-of-requires-3
+code-of-requires-3 c κs = search needs
+
+returns-3 : tie.Need-returns-3
+returns-3 c = c .code-of3 .ensures ∙ ap codeOf (c .before .quantize-normal3 .ensures)
+
+pattern-code-requires : tie.Need-pattern-code-requires
+pattern-code-requires c κs = search needs
+
+pattern-code-requires-2 : tie.Need-pattern-code-requires-2
+pattern-code-requires-2 c κs = search needs
+
+pattern-code-requires-3 : tie.Need-pattern-code-requires-3
+pattern-code-requires-3 c κs = search needs
+
+returns-4 : tie.Need-returns-4
 unfolding codeOf keyOf
-returns c = rw (c .before .before .tenths-code .ensures, c .before .tenths-code2 .ensures, c .tenths-code3 .ensures)
+returns-4 c = rw (c .before .before .pattern-code .ensures (c .before .before .before .before .before .before .before .before .before .args .nx) (c .before .before .before .before .before .before .before .before .tenfold .ensures .0), c .before .pattern-code2 .ensures (c .before .before .before .before .before .before .before .before .before .args .ny) (c .before .before .before .before .before .before .before .tenfold2 .ensures .0), c .pattern-code3 .ensures (c .before .before .before .before .before .before .before .before .before .args .nz) (c .before .before .before .before .before .before .tenfold3 .ensures .0))
 
 pub code-of-normal-spec : {M : Type 1} → statement M
 code-of-normal-spec =
-    tie.close (tie.spec tenths-code-requires tenths-code-requires-2 tenths-code-requires-3 returns)
+    tie.close
+    (tie.spec
+    tenfold-requires
+    tenfold-requires-2
+    tenfold-requires-3
+    quantize-normal-requires
+    code-of-requires
+    returns
+    quantize-normal-requires-2
+    code-of-requires-2
+    returns-2
+    quantize-normal-requires-3
+    code-of-requires-3
+    returns-3
+    pattern-code-requires
+    pattern-code-requires-2
+    pattern-code-requires-3
+    returns-4)

@@ -12,9 +12,10 @@ use Rattle.ieee.proofs.Patterns.Back.{read-back}
 use Rattle.ids.specs.Triangles.{Triangle}
 use Rattle.vertices.specs.Vertices.{vertexCount, cornersInRange}
 use Rattle.vertices.proofs.Range.{corners-below}
+use Rattle.sums.specs.declared.Crossed.{Crossed}
 use Rattle.sums.specs.declared.Part.{Part}
 use Rattle.sums.specs.Facet.{at, dot, normal, size, tetra, facetOf, partOf, rebased, part}
-use Rattle.sums.specs.Prepared.{facetBy, partBy, Prepares}
+use Rattle.sums.specs.Prepared.{facetBy, partBy, withRoot, partIn, Prepares}
 
 -- ---- on its way
 -- one that adds nothing: the root of 0 is 0
@@ -26,12 +27,20 @@ prepares-nothing x y z v = record { part = refl; rooted = rw (zero-bits binary64
 pub root-by-pattern : (d : Float) (b : ℕ) → fits binary64 d ≡ true → b ≡ toBits binary64 d → root binary64 d ≡ root binary64 (ofBits binary64 b)
 root-by-pattern d b F e = ap (root binary64) (sym (ap (ofBits binary64) e ∙ read-back binary64 d F))
 
--- by the cross product n, its square d with the pattern b, and that one's root l
-module _ (t : List (List Float)) (n : List Float) (d l v : Float) (b : ℕ) (n-is : n ≡ normal t) (d-is : d ≡ dot n n) (v-is : v ≡ tetra t) where
-  pub prepares-corners : l ≡ root binary64 d → l ≡ root binary64 (ofBits binary64 b)
-      → Prepares (partOf t) (record { «in_range» = true; square = b; length = l; nx = at n 0; ny = at n 1; nz = at n 2; volume = v })
-  unfolding partBy facetBy partOf facetOf size
-  prepares-corners l-is l-by = record { part = rw (l-is, d-is, n-is, v-is); rooted = l-by }
+pub prepares-crossed : (r : Crossed) (b : ℕ) (l : Float) → b ≡ toBits binary64 (r .square) → l ≡ root binary64 (r .square) → l ≡ root binary64 (ofBits binary64 b)
+    → Prepares (partIn r) (record { «in_range» = r .«in_range»; square = b; length = l; nx = r .nx; ny = r .ny; nz = r .nz; volume = r .volume })
+unfolding partIn withRoot partBy facetBy
+prepares-crossed r b l b-is l-is l-by = record { part = rw l-is; rooted = l-by }
+
+pub crossed-none : (d x y z v : Float) → partIn (record { «in_range» = false; square = d; nx = x; ny = y; nz = z; volume = v }) ≡ Part.OutOfRange
+unfolding partIn withRoot partBy
+crossed-none d x y z v = refl
+
+-- by the cross product n and its square d
+pub crossed-corners : (t : List (List Float)) (n : List Float) (d v : Float) → n ≡ normal t → d ≡ dot n n → v ≡ tetra t
+    → partIn (record { «in_range» = true; square = d; nx = at n 0; ny = at n 1; nz = at n 2; volume = v }) ≡ partOf t
+unfolding partIn withRoot partBy facetBy partOf facetOf size
+crossed-corners t n d v n-is d-is v-is = rw (d-is, n-is, v-is)
 
 -- ---- by the corners
 pub part-out : (vs o : List Float) (t : Triangle) → cornersInRange vs t ≡ false → Part.OutOfRange ≡ part vs o t

@@ -11,7 +11,7 @@ ghost use Rattle.vertices.specs.Vertices.{vertexCount};
 ghost use Rattle.sums.specs.Box.{boxTo, box, origin as originOf, boxVolume};
 ghost use Rattle.sums.specs.Facet.{minus as minusOf, cross as crossOf, dot as dotOf, normal as normalOf, tetra as tetraOf, partOf, rebased, part};
 ghost use Rattle.sums.specs.Fine.{allFine};
-ghost use Rattle.sums.specs.Prepared.{facetBy, partBy, Rooted, Prepares};
+ghost use Rattle.sums.specs.Prepared.{facetBy, partIn, Rooted, Prepares};
 ghost use Rattle.sums.specs.Totals.{slopeOf, thresholds, noTotals, withFacet};
 
 // ---- the box
@@ -169,9 +169,82 @@ pub enum Part {
     Used(Facet),
 }
 
-// ---- a triangle on its way: the dear steps are done, and while they are under way the triangle before it is taken
+// ---- a triangle on its way, in two stages: first its cross product and volume term are there, then the length. Between them the triangle before it is
+// prepared, and behind them the one before that is taken, so that a processor works at all three.
 
-// The cross product n, its square and length, and the volume term. The square is kept as its pattern.
+// The cross product n, its square, and the volume term.
+pub struct Crossed {
+    pub in_range: bool,
+    pub square: f64,
+    pub nx: f64,
+    pub ny: f64,
+    pub nz: f64,
+    pub volume: f64,
+}
+
+// One that adds nothing.
+pub fn no_cross() -> Crossed
+    ensures { λ r. ⌜ partIn r ≡ Part.OutOfRange ⌝ }
+{
+    Crossed {
+        in_range: false,
+        square: 0.0,
+        nx: 0.0,
+        ny: 0.0,
+        nz: 0.0,
+        volume: 0.0,
+    }
+}
+
+// The triangle with these corners.
+fn cross_corners(t: [[f64; 3]; 3]) -> Crossed
+    ensures { λ r. ⌜ partIn r ≡ partOf t ⌝ }
+{
+    let n = normal(t);
+    Crossed {
+        in_range: true,
+        square: dot(n, n),
+        nx: n[0],
+        ny: n[1],
+        nz: n[2],
+        volume: tetra(t),
+    }
+}
+
+// Vertex v less the origin. No float is a NaN, so the cast loses nothing.
+fn corner(vertices: &[f32], origin: [f64; 3], v: usize) -> [f64; 3]
+    requires { ⌜ (v < vertexCount (now vertices)) × T (allFine (now vertices)) ⌝ }
+    ensures { λ r. ⌜ r ≡ rebased (now (vertices .entry)) origin v ⌝ }
+{
+    let at = 3 * v;
+    let x = vertices[at] as f64;
+    let y = vertices[at + 1] as f64;
+    let z = vertices[at + 2] as f64;
+    [x - origin[0], y - origin[1], z - origin[2]]
+}
+
+// Triangle t; nothing where there is none.
+pub fn cross_at(vertices: &[f32], indices: &[u32], origin: [f64; 3], t: usize) -> Crossed
+    requires { ⌜ (length (now indices) ≤ 98304) × T (allFine (now vertices)) ⌝ }
+    ensures { λ r. ⌜ (t < triangleCount (now (indices .entry)) → partIn r ≡ part (now (vertices .entry)) origin (triangle (now (indices .entry)) t)) ⌝ }
+{
+    if indices.len() / 3 <= t {
+        return no_cross();
+    }
+    let at = 3 * t;
+    let a = indices[at];
+    let b = indices[at + 1];
+    let c = indices[at + 2];
+    if !vertices::corners_in_range(vertices, a, b, c) {
+        return no_cross();
+    }
+    let p = corner(vertices, origin, a as usize);
+    let q = corner(vertices, origin, b as usize);
+    let r = corner(vertices, origin, c as usize);
+    cross_corners([p, q, r])
+}
+
+// The same with the length. The square is kept as its pattern.
 pub struct Prepared {
     pub in_range: bool,
     pub square: u64,
@@ -209,63 +282,21 @@ fn length_of(square: f64, b: u64, known: u64, length: f64) -> f64
     }
 }
 
-// The triangle with these corners, behind another.
-fn prepare_corners(t: [[f64; 3]; 3], last: Prepared) -> Prepared
+// A triangle behind another whose length is known.
+pub fn with_root(r: Crossed, last: Prepared) -> Prepared
     requires { ⌜ Rooted last ⌝ }
-    ensures { λ r. ⌜ Prepares (partOf t) r ⌝ }
+    ensures { λ p. ⌜ Prepares (partIn r) p ⌝ }
 {
-    let n = normal(t);
-    let square = dot(n, n);
-    let b = floats::bits64(square);
-    let length = length_of(square, b, last.square, last.length);
+    let b = floats::bits64(r.square);
     Prepared {
-        in_range: true,
+        in_range: r.in_range,
         square: b,
-        length,
-        nx: n[0],
-        ny: n[1],
-        nz: n[2],
-        volume: tetra(t),
+        length: length_of(r.square, b, last.square, last.length),
+        nx: r.nx,
+        ny: r.ny,
+        nz: r.nz,
+        volume: r.volume,
     }
-}
-
-// Vertex v less the origin. No float is a NaN, so the cast loses nothing.
-fn corner(vertices: &[f32], origin: [f64; 3], v: usize) -> [f64; 3]
-    requires { ⌜ (v < vertexCount (now vertices)) × T (allFine (now vertices)) ⌝ }
-    ensures { λ r. ⌜ r ≡ rebased (now (vertices .entry)) origin v ⌝ }
-{
-    let at = 3 * v;
-    let x = vertices[at] as f64;
-    let y = vertices[at + 1] as f64;
-    let z = vertices[at + 2] as f64;
-    [x - origin[0], y - origin[1], z - origin[2]]
-}
-
-// Triangle t, behind another; nothing where there is none.
-pub fn prepare(
-    vertices: &[f32],
-    indices: &[u32],
-    origin: [f64; 3],
-    t: usize,
-    last: Prepared,
-) -> Prepared
-    requires { ⌜ (length (now indices) ≤ 98304) × Rooted last × T (allFine (now vertices)) ⌝ }
-    ensures { λ r. ⌜ Rooted r × (t < triangleCount (now (indices .entry)) → partBy r ≡ part (now (vertices .entry)) origin (triangle (now (indices .entry)) t)) ⌝ }
-{
-    if indices.len() / 3 <= t {
-        return nothing();
-    }
-    let at = 3 * t;
-    let a = indices[at];
-    let b = indices[at + 1];
-    let c = indices[at + 2];
-    if !vertices::corners_in_range(vertices, a, b, c) {
-        return nothing();
-    }
-    let p = corner(vertices, origin, a as usize);
-    let q = corner(vertices, origin, b as usize);
-    let r = corner(vertices, origin, c as usize);
-    prepare_corners([p, q, r], last)
 }
 
 // The facet of one that is in range and no sliver.

@@ -1,5 +1,5 @@
--- One triangle more: what it does to the totals and the rows, that there is room for it, where the walk starts, how a turn prepares one triangle and takes
--- the one before, and what the walk gives at its end.
+-- One triangle more: what it does to the totals and the rows, that there is room for it, where the walk starts, how a turn brings
+-- three triangles on, and what the walk gives at its end.
 use mathlib.Core.Path.{_≡_, refl, sym, _∙_, ap, subst}
 use Prim.Native.Nat.{ℕ, zero, suc, _+_, _-_, _*_, _≤_, _<_}
 use mathlib.Core.Bool.{true, false}
@@ -11,11 +11,12 @@ use lib.Ieee.{Float, lt}
 use Rattle.ids.specs.Triangles.{triangle, triangleCount}
 use Rattle.sums.specs.declared.Facet.{Facet}
 use Rattle.sums.specs.declared.Part.{Part}
+use Rattle.sums.specs.declared.Crossed.{Crossed}
 use Rattle.sums.specs.declared.Prepared.{Prepared}
 use Rattle.sums.specs.declared.Totals.{Totals}
 use Rattle.sums.specs.declared.Thresholds.{Thresholds}
 use Rattle.sums.specs.Facet.{part, shortest}
-use Rattle.sums.specs.Prepared.{facetBy, partBy, Rooted, Prepares}
+use Rattle.sums.specs.Prepared.{facetBy, partBy, partIn, Prepares}
 use Rattle.sums.specs.Totals.{noTotals, withFacet, withPart, totalsTo}
 use Rattle.surfaces.specs.Surfaces.{Bucket, keyOf}
 use Rattle.surfaces.specs.Index.{Gathered, Puts, Ready}
@@ -23,7 +24,7 @@ use Rattle.surfaces.proofs.Gathering.{gathered-none}
 use Rattle.surfaces.proofs.Keys.{length-put-le}
 use Rattle.walk.specs.declared.Sums.{Sums}
 use Rattle.walk.specs.Walk.{withSurface, bucketsTo, Walks}
-use Rattle.walk.specs.Steps.{Takes, Taken, Holds, Underway}
+use Rattle.walk.specs.Steps.{Takes, Taken, Awaits, Underway}
 
 -- the part of what is prepared
 module _ (p : Prepared) where
@@ -88,30 +89,40 @@ unfolding withPart withSurface
 taken-still vs o pair ids w n t t′ u u′ s r a b =
     let p = b .puts w (bucketsTo vs o ids n) (sym (a .count)) (a .means) in record { totals = b .totals ∙ a .totals; count = p .0; means = p .1 }
 
--- the triangle behind n others is prepared, and the one in front of it taken
+-- one triangle gets its cross product, the one in front of it its root, and the one in front of that is taken
 module _ (vs o : List Float) (pair : Thresholds) (ids : List ℕ) (w : List Float) where
-  pub underway-none : (t : List ℕ) (a : Totals) (p : Prepared) → t ≡ replicate (5 * triangleCount ids) 0 → a ≡ noTotals → Prepares Part.OutOfRange p
-      → Underway vs o pair ids w 0 t w (record { totals = a; rows = 0 }) p
-  unfolding Holds
-  underway-none t a p e h q = record { rooted = q .rooted; holds = λ _. q .part; taken = taken-none vs o pair ids w t a e h }
+  pub underway-none : (t : List ℕ) (a : Totals) (p : Prepared) (q : Crossed) → t ≡ replicate (5 * triangleCount ids) 0 → a ≡ noTotals → Prepares Part.OutOfRange p → partIn q ≡ Part.OutOfRange
+      → Underway vs o pair ids w 0 t w (record { totals = a; rows = 0 }) p q
+  unfolding Awaits
+  underway-none t a p q e h g k = record { rooted = g .rooted; crossed = λ _. k; prepared = λ _. g .part; taken = taken-none vs o pair ids w t a e h }
 
-  taken-held : (n : ℕ) (t t′ : List ℕ) (u u′ : List Float) (s r : Sums) (p : Prepared)
-      → Holds vs o ids n p → Taken vs o pair ids w (n - 1) t u s → Takes (triangleCount ids) pair s (partBy p) t t′ u u′ r → Taken vs o pair ids w n t′ u′ r
-  unfolding Holds
-  taken-held zero t t′ u u′ s r p h a b =
+  taken-awaited : (n : ℕ) (t t′ : List ℕ) (u u′ : List Float) (s r : Sums) (p : Part)
+      → Awaits vs o ids n p → Taken vs o pair ids w (n - 1) t u s → Takes (triangleCount ids) pair s p t t′ u u′ r → Taken vs o pair ids w n t′ u′ r
+  unfolding Awaits
+  taken-awaited zero t t′ u u′ s r p h a b =
       taken-still vs o pair ids w 0 t t′ u u′ s r a (subst (λ (q : Part). Takes (triangleCount ids) pair s q t t′ u u′ r) h b)
-  taken-held (suc n) t t′ u u′ s r p h a b =
+  taken-awaited (suc n) t t′ u u′ s r p h a b =
       let e : suc n - 1 ≡ n = omega arith in
       subst (λ (k : ℕ). Taken vs o pair ids w k t′ u′ r) (add-one n)
       (taken-next vs o pair ids w n t t′ u u′ s r (subst (λ (k : ℕ). Taken vs o pair ids w k t u s) e a) (subst (λ (q : Part). Takes (triangleCount ids) pair s q t t′ u u′ r) h b))
 
-  pub underway-next : (n : ℕ) (t t′ : List ℕ) (u u′ : List Float) (s r : Sums) (p q : Prepared) → n ≤ triangleCount ids → Underway vs o pair ids w n t u s p
-      → Takes (triangleCount ids) pair s (partBy p) t t′ u u′ r → Rooted q × (n < triangleCount ids → partBy q ≡ part vs o (triangle ids n)) → Underway vs o pair ids w (n + 1) t′ u′ r q
-  unfolding Holds
-  underway-next n t t′ u u′ s r p q h a b e =
-      let l : n ≡ suc n - 1 = omega arith in
-      subst (λ (k : ℕ). Underway vs o pair ids w k t′ u′ r q) (sym (add-one n))
-      (record { rooted = e .0; holds = λ k. e .1 (omega (arith, k)); taken = subst (λ (k : ℕ). Taken vs o pair ids w k t′ u′ r) l (taken-held n t t′ u u′ s r p (a .holds h) (a .taken) b) })
+  pub underway-next : (n : ℕ) (t t′ : List ℕ) (u u′ : List Float) (s r : Sums) (p p′ : Prepared) (q q′ : Crossed) → n ≤ triangleCount ids + 1 → Underway vs o pair ids w n t u s p q
+      → Takes (triangleCount ids) pair s (partBy p) t t′ u u′ r → Prepares (partIn q) p′ → (n < triangleCount ids → partIn q′ ≡ part vs o (triangle ids n))
+      → Underway vs o pair ids w (n + 1) t′ u′ r p′ q′
+  unfolding Awaits
+  underway-next n t t′ u u′ s r p p′ q q′ h a b e f =
+      let before : n - 2 ≡ n - 1 - 1 = omega arith in
+      let behind : n - 1 ≡ suc n - 2 = omega arith in
+      let same : n ≡ suc n - 1 = omega arith in
+      subst (λ (k : ℕ). Underway vs o pair ids w k t′ u′ r p′ q′) (sym (add-one n))
+      (record {
+        rooted = e .rooted;
+        crossed = λ l. f (omega (arith, l));
+        prepared = λ l. subst (λ (k : ℕ). Awaits vs o ids k (partBy p′)) same (subst (λ (x : Part). Awaits vs o ids n x) (sym (e .part)) (a .crossed (omega (arith, l))));
+        taken =
+            subst (λ (k : ℕ). Taken vs o pair ids w k t′ u′ r) behind
+            (taken-awaited (n - 1) t t′ u u′ s r (partBy p) (a .prepared (omega arith)) (subst (λ (k : ℕ). Taken vs o pair ids w k t u s) before (a .taken)) b);
+      })
 
 -- there is room for a row more
 pub ready : (vs o : List Float) (pair : Thresholds) (ids : List ℕ) (w : List Float) (n : ℕ) (t : List ℕ) (u : List Float) (s : Sums) → triangleCount ids ≤ 32768

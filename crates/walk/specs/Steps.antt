@@ -6,10 +6,11 @@ use lib.ListN.{length}
 use lib.Ieee.{Float}
 use Rattle.sums.specs.declared.Part.{Part}
 use Rattle.sums.specs.declared.Thresholds.{Thresholds}
+use Rattle.sums.specs.declared.Crossed.{Crossed}
 use Rattle.sums.specs.declared.Prepared.{Prepared}
 use Rattle.ids.specs.Triangles.{triangle, triangleCount}
 use Rattle.sums.specs.Facet.{part}
-use Rattle.sums.specs.Prepared.{partBy, Rooted}
+use Rattle.sums.specs.Prepared.{partBy, partIn, Rooted}
 use Rattle.sums.specs.Totals.{withPart, totalsTo}
 use Rattle.surfaces.specs.Surfaces.{Bucket}
 use Rattle.surfaces.specs.Index.{Gathered}
@@ -27,12 +28,14 @@ pub record Taken (vs o : List Float) (pair : Thresholds) (ids : List ℕ) (w : L
   pub count : r .rows ≡ length (bucketsTo vs o ids n)
   pub means : Gathered (triangleCount ids) w t u (bucketsTo vs o ids n)
 
--- after n turns the triangle in front of the next one, if there is one, is prepared, and those in front of it are taken
-unfoldable pub Holds : List Float → List Float → List ℕ → ℕ → Prepared → Type 0
-Holds vs o ids zero p = partBy p ≡ Part.OutOfRange
-Holds vs o ids (suc n) p = partBy p ≡ part vs o (triangle ids n)
+-- p is the part of the triangle behind n - 1 others, and that of none where n is 0
+unfoldable pub Awaits : List Float → List Float → List ℕ → ℕ → Part → Type 0
+Awaits vs o ids zero p = p ≡ Part.OutOfRange
+Awaits vs o ids (suc n) p = p ≡ part vs o (triangle ids n)
 
-pub record Underway (vs o : List Float) (pair : Thresholds) (ids : List ℕ) (w : List Float) (n : ℕ) (t : List ℕ) (u : List Float) (r : Sums) (p : Prepared) : Type 0 where
+-- after n turns: q has the cross product of the last triangle, p the length of the one in front of it, and those in front of that are taken
+pub record Underway (vs o : List Float) (pair : Thresholds) (ids : List ℕ) (w : List Float) (n : ℕ) (t : List ℕ) (u : List Float) (r : Sums) (p : Prepared) (q : Crossed) : Type 0 where
   pub rooted : Rooted p
-  pub holds : n ≤ triangleCount ids → Holds vs o ids n p
-  pub taken : Taken vs o pair ids w (n - 1) t u r
+  pub crossed : n ≤ triangleCount ids → Awaits vs o ids n (partIn q)
+  pub prepared : n - 1 ≤ triangleCount ids → Awaits vs o ids (n - 1) (partBy p)
+  pub taken : Taken vs o pair ids w (n - 2) t u r

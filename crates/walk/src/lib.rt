@@ -62,8 +62,8 @@ fn take(
     take_facet(pair, s, sums::facet_by(p), index, rows, m)
 }
 
-// All triangles, the index words being zero before. A triangle is prepared before the one in front of it is taken: the two have nothing to do with
-// each other, so that a processor works at the one's root while it looks for the other's row.
+// All triangles, the index words being zero before. In one turn a triangle gets its cross product, the one in front of it its root, and the one in front
+// of that is taken: the three have nothing to do with each other, so that a processor looks for a row while it works at a root.
 fn take_all(
     vertices: &[f32],
     indices: &[u32],
@@ -81,11 +81,14 @@ fn take_all(
         rows: 0,
     };
     let mut held = sums::nothing();
+    let mut next = sums::no_cross();
     let mut t = 0;
-    while t <= m {
-        let next = sums::prepare(vertices, indices, origin, t, held);
+    while t <= m + 1 {
+        let p = sums::with_root(next, held);
+        let r = sums::cross_at(vertices, indices, origin, t);
         s = take(pair, s, held, index, rows, m);
-        held = next;
+        held = p;
+        next = r;
         t += 1;
     }
     s

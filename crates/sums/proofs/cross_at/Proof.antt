@@ -1,4 +1,4 @@
--- `sums::prepare` meets its contract. A triangle in range has its corners, and one out of range has no part. Assumes nothing.
+-- `sums::cross_at` meets its contract. A triangle in range has its corners, and one out of range has no part. Assumes nothing.
 use mathlib.Core.Path.{sym, _∙_}
 use Prim.Native.Nat.{_*_, _+_}
 use borrow.Author.Tests.{not-true, not-false}
@@ -6,14 +6,14 @@ use Rattle.ids.specs.Triangles.{triangle}
 use Rattle.sums.proofs.Parts.{part-in, part-out, corners-are}
 use native.Mathlib.Omega.{arith}
 use borrow.Author.Needs.{needs}
-use Rattle.sums.proofs.prepare.Statement.{statement}
-use Rattle.sums.proofs.prepare.Tie as tie
+use Rattle.sums.proofs.cross_at.Statement.{statement}
+use Rattle.sums.proofs.cross_at.Tie as tie
 
-nothing-requires : tie.Need-nothing-requires
-nothing-requires c κs = search needs
+no-cross-requires : tie.Need-no-cross-requires
+no-cross-requires c κs = search needs
 
 returns : tie.Need-returns
-returns c = (c .nothing .ensures .rooted, λ h. absurd (omega (arith, h)))
+returns c = λ h. absurd (omega (arith, h))
 
 mul-at : tie.Need-mul-at
 mul-at c = search needs
@@ -45,14 +45,14 @@ shared-slice-read-c c = search needs
 corners-in-range-requires : tie.Need-corners-in-range-requires
 corners-in-range-requires c κs = search needs
 
-nothing-requires-2 : tie.Need-nothing-requires-2
-nothing-requires-2 c κs = search needs
+no-cross-requires-2 : tie.Need-no-cross-requires-2
+no-cross-requires-2 c κs = search needs
 
 returns-2 : tie.Need-returns-2
 unfolding triangle
 returns-2 c =
     let a = c .before .before .before .before .before .before .before .before .before .args in
-    (c .nothing2 .ensures .rooted, λ h. c .nothing2 .ensures .part ∙ part-out (a .vertices .now) (a .origin) (triangle (a .indices .now) (a .t)) (sym (c .before .before .corners-in-range .ensures) ∙ not-true (c .before .before .corners-in-range .result) (c .before .if2 .taken)))
+    λ h. c .no-cross2 .ensures ∙ part-out (a .vertices .now) (a .origin) (triangle (a .indices .now) (a .t)) (sym (c .before .before .corners-in-range .ensures) ∙ not-true (c .before .before .corners-in-range .result) (c .before .if2 .taken))
 
 cast-corner : tie.Need-cast-corner
 cast-corner c =
@@ -63,7 +63,7 @@ corner-requires : tie.Need-corner-requires
 unfolding triangle
 corner-requires c κs =
     let a = c .before .before .before .before .before .before .before .before .args in
-    (corners-are (a .vertices .now) (triangle (a .indices .now) (a .t)) (sym (c .before .corners-in-range .ensures) ∙ not-false (c .before .corners-in-range .result) (c .if2 .left)) .0, c .before .before .before .before .before .before .before .before .pre .2)
+    (corners-are (a .vertices .now) (triangle (a .indices .now) (a .t)) (sym (c .before .corners-in-range .ensures) ∙ not-false (c .before .corners-in-range .result) (c .if2 .left)) .0, c .before .before .before .before .before .before .before .before .pre .1)
 
 cast-corner-2 : tie.Need-cast-corner-2
 cast-corner-2 c =
@@ -74,7 +74,7 @@ corner-requires-2 : tie.Need-corner-requires-2
 unfolding triangle
 corner-requires-2 c κs =
     let a = c .before .before .before .before .before .before .before .before .before .args in
-    (corners-are (a .vertices .now) (triangle (a .indices .now) (a .t)) (sym (c .before .before .corners-in-range .ensures) ∙ not-false (c .before .before .corners-in-range .result) (c .before .if2 .left)) .1, c .before .before .before .before .before .before .before .before .before .pre .2)
+    (corners-are (a .vertices .now) (triangle (a .indices .now) (a .t)) (sym (c .before .before .corners-in-range .ensures) ∙ not-false (c .before .before .corners-in-range .result) (c .before .if2 .left)) .1, c .before .before .before .before .before .before .before .before .before .pre .1)
 
 cast-corner-3 : tie.Need-cast-corner-3
 cast-corner-3 c =
@@ -85,25 +85,23 @@ corner-requires-3 : tie.Need-corner-requires-3
 unfolding triangle
 corner-requires-3 c κs =
     let a = c .before .before .before .before .before .before .before .before .before .before .args in
-    (corners-are (a .vertices .now) (triangle (a .indices .now) (a .t)) (sym (c .before .before .before .corners-in-range .ensures) ∙ not-false (c .before .before .before .corners-in-range .result) (c .before .before .if2 .left)) .2, c .before .before .before .before .before .before .before .before .before .before .pre .2)
+    (corners-are (a .vertices .now) (triangle (a .indices .now) (a .t)) (sym (c .before .before .before .corners-in-range .ensures) ∙ not-false (c .before .before .before .corners-in-range .result) (c .before .before .if2 .left)) .2, c .before .before .before .before .before .before .before .before .before .before .pre .1)
 
-prepare-corners-requires : tie.Need-prepare-corners-requires
-prepare-corners-requires c κs = search needs
+cross-corners-requires : tie.Need-cross-corners-requires
+cross-corners-requires c κs = search needs
 
 returns-3 : tie.Need-returns-3
 unfolding triangle
 returns-3 c =
-    let a = c .before .before .before .before .before .before .before .before .before .before .before .before .args in (
-      c .prepare-corners .ensures .rooted,
-      λ h. c .prepare-corners .ensures .part
-          ∙ part-in (a .vertices .now) (a .origin) (triangle (a .indices .now) (a .t)) (c .before .before .before .corner .result) (c .before .before .corner2 .result) (c .before .corner3 .result) (sym (c .before .before .before .before .before .corners-in-range .ensures) ∙ not-false (c .before .before .before .before .before .corners-in-range .result) (c .before .before .before .before .if2 .left)) (c .before .before .before .corner .ensures) (c .before .before .corner2 .ensures) (c .before .corner3 .ensures),
-    )
+    let a = c .before .before .before .before .before .before .before .before .before .before .before .before .args in
+    λ h. c .cross-corners .ensures
+    ∙ part-in (a .vertices .now) (a .origin) (triangle (a .indices .now) (a .t)) (c .before .before .before .corner .result) (c .before .before .corner2 .result) (c .before .corner3 .result) (sym (c .before .before .before .before .before .corners-in-range .ensures) ∙ not-false (c .before .before .before .before .before .corners-in-range .result) (c .before .before .before .before .if2 .left)) (c .before .before .before .corner .ensures) (c .before .before .corner2 .ensures) (c .before .corner3 .ensures)
 
-pub prepare-spec : {M : Type 1} → statement M
-prepare-spec =
+pub cross-at-spec : {M : Type 1} → statement M
+cross-at-spec =
     tie.close
     (tie.spec
-    nothing-requires
+    no-cross-requires
     returns
     mul-at
     mul-a
@@ -115,7 +113,7 @@ prepare-spec =
     mul-c
     shared-slice-read-c
     corners-in-range-requires
-    nothing-requires-2
+    no-cross-requires-2
     returns-2
     cast-corner
     corner-requires
@@ -123,5 +121,5 @@ prepare-spec =
     corner-requires-2
     cast-corner-3
     corner-requires-3
-    prepare-corners-requires
+    cross-corners-requires
     returns-3)

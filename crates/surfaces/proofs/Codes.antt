@@ -1,17 +1,17 @@
--- A key as three words: one to one, so that equal codes are equal keys. An i32 has a code below 2 ^ 32. And where a search for a code starts. Assumes nothing.
-use mathlib.Core.Path.{_≡_, ap}
+-- A key as three words: one to one, so that equal codes are equal keys. An i32 has a code below 2 ^ 32, and is read back from it. And where a search for a code starts. Assumes nothing.
+use mathlib.Core.Path.{_≡_, refl, ap}
 use mathlib.Core.Bool.{true}
-use Prim.Native.Nat.{ℕ, _*_, _<_}
+use Prim.Native.Nat.{ℕ, zero, suc, _*_, _/_, _%_, _<_}
 use native.Mathlib.Omega.{arith}
 use borrow.Author.Tests.{eqb-true}
 use lib.Dec.{eqb}
 use lib.Ieee.{Float, binary32}
-use lib.IntN.{ℤ, pos, negsuc}
+use lib.IntN.{ℤ, pos, negsuc, _-ℤ_}
 use mir.Syntax.{w32, w64}
 use mir.Val.{Fits, SFits, ofZ, toZ}
 use Rattle.ieee.specs.Integral.{halfAway}
 use Rattle.ieee.specs.Single.{_⊗_}
-use Rattle.ieee.proofs.Order.Ranges.{signed-fits, signed-kept}
+use Rattle.ieee.proofs.Order.Ranges.{signed-kept}
 use Rattle.ids.proofs.Same.{three-eq, three-refl, eqb-refl}
 use Rattle.table.specs.Rows.{homeRow, Found}
 use Rattle.table.proofs.Search.{home-below}
@@ -33,14 +33,26 @@ unfolding coded
 coded-fits (pos n) f = record { fits = omega (arith, f .sfits) }
 coded-fits (negsuc n) f = record { fits = omega (arith, f .sfits) }
 
-pub tenths-fit : (x : Float) → SFits w32 (tenths x)
-unfolding tenths
-tenths-fit x = signed-fits w32 (halfAway binary32 (x ⊗ ten))
-
 -- tenths are read back from their bits
 pub tenths-kept : (x : Float) → toZ w32 (ofZ w32 (tenths x)) ≡ tenths x
 unfolding tenths
 tenths-kept x = signed-kept w32 (halfAway binary32 (x ⊗ ten))
+
+-- ---- and back
+
+pub minus-one : (h : ℕ) → negsuc 0 -ℤ pos h ≡ negsuc h
+minus-one zero = refl
+minus-one (suc h) = ap negsuc (omega arith)
+
+pub code-even : (x : ℕ) (z : ℤ) → x % 2 ≡ 0 → x ≡ coded z → pos (x / 2) ≡ z
+unfolding coded
+code-even x (pos n) h e = ap pos (omega arith)
+code-even x (negsuc n) h e = absurd (omega arith)
+
+pub code-odd : (x : ℕ) (z : ℤ) → 0 < x % 2 → x ≡ coded z → negsuc (x / 2) ≡ z
+unfolding coded
+code-odd x (pos n) h e = absurd (omega arith)
+code-odd x (negsuc n) h e = ap negsuc (omega arith)
 
 -- ---- one to one, and `sameCode` is equality
 

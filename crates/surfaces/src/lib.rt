@@ -2,6 +2,7 @@
 ghost use mathlib.Core.Path.{_≡_};
 ghost use Prim.Native.Nat.{_+_, _*_, _/_, _%_, _^_, _≤_, _<_};
 ghost use lib.Ieee.{Float, nan, binary32, ofBits};
+ghost use lib.IntN.{ℤ};
 ghost use lib.ListN.{length, getD, set};
 ghost use Rattle.ieee.specs.Single.{_⊕_, _⊗_, nought};
 ghost use Rattle.table.specs.Rows.{Found};
@@ -30,18 +31,12 @@ fn tenfold(c: f32) -> u64
     floats::bits32(c * 10.0) as u64
 }
 
-// A component in tenths, half away from zero. Below 2^23 they come from the pattern's fields, and the sign is put on last.
+// A component in tenths, half away from zero.
 fn tenths(c: f32) -> i32
     ensures { λ r. ⌜ r ≡ tenthsOf c ⌝ }
 {
-    let b = tenfold(c);
-    let e = b % 0x8000_0000 / 0x80_0000;
-    if e < 150 {
-        let n = rounding::half_size32(e, b % 0x80_0000) as i32;
-        if b < 0x8000_0000 { n } else { -n }
-    } else {
-        floats::to_i32(floats::round32(c * 10.0))
-    }
+    let y = floats::round32(c * 10.0);
+    floats::to_i32(y)
 }
 
 pub fn quantize_normal(nx: f32, ny: f32, nz: f32) -> Key
@@ -107,6 +102,25 @@ fn code_of_normal(nx: f32, ny: f32, nz: f32) -> Code
         x: pattern_code(x),
         y: pattern_code(y),
         z: pattern_code(z),
+    }
+}
+
+// A number by its code: its half, or what is left of that below 0.
+fn decoded(x: u32) -> i32
+    ensures { λ r. ⌜ ((z : ℤ) → x ≡ codedOf z → r ≡ z) ⌝ }
+{
+    let h = (x / 2) as i32;
+    if x % 2 == 0 { h } else { -1 - h }
+}
+
+// The key of a normal by its code.
+fn key_of(l: Code) -> Key
+    ensures { λ r. ⌜ ((x y z : Float) → l ≡ codeOf (keyOf x y z) → r ≡ keyOf x y z) ⌝ }
+{
+    Key {
+        x: decoded(l.x),
+        y: decoded(l.y),
+        z: decoded(l.z),
     }
 }
 
@@ -206,7 +220,7 @@ pub fn put_normal(
     let s = index[r] as usize;
     if s == 0 {
         claim(index, m, r, n, l);
-        new_row(rows, n, quantize_normal(nx, ny, nz), area);
+        new_row(rows, n, key_of(l), area);
         n + 1
     } else {
         grow(rows, 4 * (s - 1), area);

@@ -1,21 +1,18 @@
--- `rows::sort` meets its contract. All three passes keep the rows, counted, and the last leaves them rising: of plain rows of binary32 there is one such list. Assumes nothing.
+-- `rows::sort` meets its contract. All passes keep the rows, counted, and the last leaves them rising: of plain rows of binary32 there is one such list. Assumes nothing.
 use mathlib.Core.Path.{_≡_, sym, ap, _∙_}
 use Prim.Native.Nat.{_*_}
-use native.Mathlib.Omega.{arith}
-use borrow.Author.Needs.{needs}
 use lib.ListN.{length}
 use Rattle.rows.specs.Rows.{flatten, rowsOf}
 use Rattle.rows.proofs.Flat.{length-rows, flat-rows, rows-single}
 use Rattle.rows.proofs.Counts.{same-then}
 use Rattle.rows.proofs.Order.{rising-sorted}
+use native.Mathlib.Omega.{arith}
+use borrow.Author.Needs.{needs}
 use Rattle.rows.proofs.sort.Statement.{statement}
 use Rattle.rows.proofs.sort.Tie as tie
 
-heap-requires : tie.Need-heap-requires
-heap-requires c κs = search needs
-
-unheap-requires : tie.Need-unheap-requires
-unheap-requires c κs = search needs
+presort-requires : tie.Need-presort-requires
+presort-requires c κs = search needs
 
 insertion-requires : tie.Need-insertion-requires
 insertion-requires c κs = search needs
@@ -25,17 +22,15 @@ same-length c = search needs
 
 returns : tie.Need-returns
 returns c =
-    let s = c .before .before .before .before .before .before .before .before .before .before .before .before .before in
+    let s = c .before .before .before .before .before .before .before .before .before in
     let t = s .args .rows .now in
-    let a = c .before .before .before .before .before .before .before .before .before .before .heap .last .0 in
-    let b = c .before .before .before .before .before .before .unheap .last .0 in
+    let a = c .before .before .before .before .before .before .presort .last .0 in
     let u = c .before .before .insertion .last .0 in
     let settled = c .before .before .insertion .ensures in
-    let same = same-then (rowsOf t) (rowsOf b) (rowsOf u) (same-then (rowsOf t) (rowsOf a) (rowsOf b) (c .before .before .before .before .before .before .before .before .before .before .heap .ensures) (c .before .before .before .before .before .before .unheap .ensures)) (settled .same) in
-    let long : length u ≡ 4 * s .args .n = omega (arith, c .before .before .before .before .before .before .before .before .before .before .heap .kept, c .before .before .before .before .before .before .unheap .kept, c .before .before .insertion .kept) in
+    let same = same-then (rowsOf t) (rowsOf a) (rowsOf u) (c .before .before .before .before .before .before .presort .ensures) (settled .same) in
+    let long : length u ≡ 4 * s .args .n = omega (arith, c .before .before .before .before .before .before .presort .kept, c .before .before .insertion .kept) in
     sym (flat-rows u (s .args .n) long)
-    ∙ ap flatten (rising-sorted (rowsOf t) (rowsOf u) (s .pre .2) (rows-single t (c .before .before .before .before .before .before .before .before .before .before .before .before .slice-known .given)) same (λ k h. settled .rising k (omega (arith, length-rows u .0))))
+    ∙ ap flatten (rising-sorted (rowsOf t) (rowsOf u) (s .pre .2) (rows-single t (c .before .before .before .before .before .before .before .before .slice-known .given)) same (λ k h. settled .rising k (omega (arith, length-rows u .0))))
 
 pub sort-spec : {M : Type 1} → statement M
-sort-spec =
-    tie.close (tie.spec heap-requires unheap-requires insertion-requires same-length returns)
+sort-spec = tie.close (tie.spec presort-requires insertion-requires same-length returns)

@@ -55,8 +55,8 @@ module _ (c : tie.After-find) where
 claim-requires : tie.Need-claim-requires
 claim-requires c κs = search needs
 
-quantize-normal-requires : tie.Need-quantize-normal-requires
-quantize-normal-requires c κs = search needs
+key-of-requires : tie.Need-key-of-requires
+key-of-requires c κs = search needs
 
 new-row-requires : tie.Need-new-row-requires
 new-row-requires c κs = search needs
@@ -93,7 +93,7 @@ returns c =
     let w = c .before .before .before .before .before .before .before .claim .last .0 in
     puts-new (a .m) (a .n) (k q) (a .area) (a .index .now) (a .rows .now) (c .before .before .new-row .last .0) (q .find .result) (s .pre .left) (found q) w (c .before .before .before .before .before .before .before .before .before .if1 .taken) (s .pre .room)
     (subst (λ (x : Code). Claimed (a .m) (q .find .result) (a .n) x (a .index .now) w) (c .before .before .before .before .before .before .before .before .before .before .before .before .before .before .before .code-of-normal .ensures) (c .before .before .before .before .before .before .before .claim .ensures))
-    (c .before .before .new-row .ensures ∙ ap (λ (x : Key). withRow (a .rows .now) (a .n) x (a .area)) (c .before .before .before .quantize-normal .ensures))
+    (c .before .before .new-row .ensures ∙ ap (λ (x : Key). withRow (a .rows .now) (a .n) x (a .area)) (c .before .before .before .key-of .ensures (a .nx) (a .ny) (a .nz) (c .before .before .before .before .before .before .before .before .before .before .before .before .before .before .before .code-of-normal .ensures)))
 
 same-length-3 : tie.Need-same-length-3
 same-length-3 c = search needs
@@ -121,7 +121,7 @@ put-normal-spec =
     slice-read-s
     cast-s
     claim-requires
-    quantize-normal-requires
+    key-of-requires
     new-row-requires
     add-result
     sub-grow

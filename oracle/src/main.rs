@@ -67,6 +67,9 @@ a folder with a libcapi.a of its kind when this is built):
   oracle speed compute         milliseconds a record, at an eighth of the most triangles up to all; nanoseconds for small
   oracle speed                 compute and each id routine beside the original on the meshes whose ratios are bounded, with
                                the bound; then how the time grows from a quarter of the most triangles to all
+  oracle repeat ROUTINE MESH TRIANGLES TIMES
+                               calls the port's 'compute' or id routine on a mesh or list that 'speed compute' or 'speed ids'
+                               names, and nothing else: for a profiler
 ";
 
 fn main() -> ExitCode {
@@ -101,6 +104,10 @@ fn main() -> ExitCode {
             ("compute", Ok(n)) => port::run(Run::Compute(n)),
             (_, Ok(n)) => port::run(Run::Moves(n)),
             _ => return usage("N is a whole number from 0 up, or 'all' of floats"),
+        },
+        ["repeat", routine, on, triangles, times] => match (triangles.parse(), times.parse()) {
+            (Ok(triangles), Ok(times)) => port::run(Run::Repeat((*routine).into(), (*on).into(), triangles, times)),
+            _ => return usage("TRIANGLES and TIMES are whole numbers from 0 up"),
         },
         ["speed"] => port::run(Run::Speed),
         ["speed", "floats"] => port::run(Run::SpeedFloats),

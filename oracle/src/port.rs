@@ -12,6 +12,7 @@ pub enum Run {
     Raster(u64),
     Compute(u64),
     Moves(u64),
+    Repeat(String, String, usize, usize),
     Speed,
     SpeedFloats,
     SpeedIds,
@@ -39,6 +40,7 @@ pub fn run(run: Run) -> io::Result<ExitCode> {
         Run::Raster(n) => linked::raster(n),
         Run::Compute(n) => linked::compute(n),
         Run::Moves(n) => linked::moves(n),
+        Run::Repeat(routine, on, triangles, times) => linked::repeat(&routine, &on, triangles, times),
         Run::Speed => linked::speed(),
         Run::SpeedFloats => linked::speed_floats(),
         Run::SpeedIds => linked::speed_ids(),
@@ -166,18 +168,35 @@ mod linked {
         Ok(if differ == 0 { ExitCode::SUCCESS } else { ExitCode::FAILURE })
     }
 
+    pub fn repeat(routine: &str, on: &str, triangles: usize, times: usize) -> io::Result<ExitCode> {
+        match speed::repeat(routine, on, triangles, times) {
+            Some(n) => println!("{routine} on {on}, {n} triangles, {times} times"),
+            None => {
+                eprintln!("oracle: no routine {routine}, or no mesh {on} for it");
+                return Ok(ExitCode::from(2));
+            }
+        }
+        Ok(ExitCode::SUCCESS)
+    }
+
     /// Each row with its bound, and a star where it is above it.
     pub fn speed() -> io::Result<ExitCode> {
         let star = |above: bool| if above { " *" } else { "" };
         let mut out = io::stdout().lock();
-        writeln!(out, "| routine | on | triangles | port, µs | Rust, µs | ratio | at most |\n|---|---|---|---|---|---|---|")?;
+        writeln!(
+            out,
+            "| routine | on | triangles | port, µs | Rust, µs | ratio | at most |\n|---|---|---|---|---|---|---|"
+        )?;
         for row in speed::records().chain(speed::lists()) {
             let (ratio, above) = (row.port / row.rust, row.port > row.most * row.rust);
             let (routine, on, size, port, rust) = (row.routine, &row.on, row.size, 1e6 * row.port, 1e6 * row.rust);
             let bound = format!("{}{}", row.most, star(above));
             writeln!(out, "| `{routine}` | {on} | {size} | {port:.2} | {rust:.2} | {ratio:.2} | {bound} |")?;
         }
-        writeln!(out, "\n| routine | on | n, µs | 2n, µs | 4n, µs | twice the size | at most |\n|---|---|---|---|---|---|---|")?;
+        writeln!(
+            out,
+            "\n| routine | on | n, µs | 2n, µs | 4n, µs | twice the size | at most |\n|---|---|---|---|---|---|---|"
+        )?;
         for row in speed::growth() {
             let [one, two, four] = row.port.map(|t| 1e6 * t);
             let bound = format!("{}{}", speed::GROWTH, star(row.step() > speed::GROWTH));

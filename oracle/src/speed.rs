@@ -1,8 +1,8 @@
 //! `oracle speed`: every routine of the C interface beside the original in one process, on the meshes whose ratios are
 //! bounded. The table stands in docs/PERFORMANCE.md.
 
-use crate::compute::shapes::{boxes, soup, sphere, torus, unwelded, wall, Make, APART, TRIANGLES};
-use crate::compute::speed::race;
+use crate::compute::shapes::{boxes, soup, sphere, torus, unwelded, wall, Make, APART, SHAPES, TRIANGLES};
+use crate::compute::speed::{self as compute, race};
 use crate::ids::routines::{MOST_IDS, ROUTINES};
 use crate::ids::{lists, speed as ids};
 use crate::solids::Shape;
@@ -117,4 +117,20 @@ pub fn growth() -> impl Iterator<Item = Growth> {
         })
     });
     records.chain(lists)
+}
+
+/// Calls the port's routine and nothing else, so that a profiler sees it alone: how many triangles the mesh of that name has, or none
+/// where there is no such routine or mesh.
+pub fn repeat(routine: &str, on: &str, triangles: usize, times: usize) -> Option<usize> {
+    if routine == "compute" {
+        let (_, make, most) = SHAPES.into_iter().find(|(name, ..)| *name == on)?;
+        let shape = make(triangles.min(most));
+        compute::repeat(&shape, times);
+        return Some(shape.triangles());
+    }
+    let routine = ROUTINES.iter().find(|known| known.name == routine)?;
+    let (_, make) = lists::SHAPES.into_iter().find(|(name, _)| *name == on)?;
+    let list = make(triangles.min(TRIANGLES));
+    ids::repeat(routine, &list, times);
+    Some(list.len() / 3)
 }

@@ -1,9 +1,11 @@
 // What the sums of the record are made of: the box, one triangle's part, its slope, and the totals that take it. Internal: `surfaces` and `qto` ask it.
 ghost use mathlib.Core.Path.{_≡_};
 ghost use Prim.Native.Nat.{suc, _≤_, _<_};
-ghost use lib.Ieee.{binary64, ofBits, toBits};
+ghost use lib.Ieee.{binary64, isNan, ofBits, toBits};
 ghost use lib.Dec.{T};
 ghost use lib.ListN.{length};
+ghost use mathlib.Core.Bool.{false};
+ghost use Rattle.ieee.specs.Order.{greatest, least};
 ghost use Rattle.ieee.specs.Root.{root};
 ghost use Rattle.grid.specs.Grid.{extent as extentOf};
 ghost use Rattle.ids.specs.Triangles.{triangle, triangleCount};
@@ -25,6 +27,21 @@ pub struct Bounds {
     pub zmax: f32,
 }
 
+// The lesser and the greater of a bound, which is no NaN, and a coordinate: with one test less than for any two floats.
+fn lower(x: f32, y: f32) -> f32
+    requires { ⌜ isNan x ≡ false ⌝ }
+    ensures { λ r. ⌜ r ≡ least x y ⌝ }
+{
+    if y < x { y } else { x }
+}
+
+fn higher(x: f32, y: f32) -> f32
+    requires { ⌜ isNan x ≡ false ⌝ }
+    ensures { λ r. ⌜ r ≡ greatest x y ⌝ }
+{
+    if x < y { y } else { x }
+}
+
 // The bounds with vertex v.
 fn with_vertex(vertices: &[f32], v: usize, b: Bounds) -> Bounds
     requires { ⌜ (v < vertexCount (now vertices)) × (b ≡ boxTo (now vertices) v) ⌝ }
@@ -35,12 +52,12 @@ fn with_vertex(vertices: &[f32], v: usize, b: Bounds) -> Bounds
     let y = vertices[at + 1];
     let z = vertices[at + 2];
     Bounds {
-        xmin: floats::least32(b.xmin, x),
-        ymin: floats::least32(b.ymin, y),
-        zmin: floats::least32(b.zmin, z),
-        xmax: floats::greatest32(b.xmax, x),
-        ymax: floats::greatest32(b.ymax, y),
-        zmax: floats::greatest32(b.zmax, z),
+        xmin: lower(b.xmin, x),
+        ymin: lower(b.ymin, y),
+        zmin: lower(b.zmin, z),
+        xmax: higher(b.xmax, x),
+        ymax: higher(b.ymax, y),
+        zmax: higher(b.zmax, z),
     }
 }
 

@@ -51,13 +51,7 @@ pub fn small() -> impl Iterator<Item = Row> {
 /// The best of several turns, port and original one after the other.
 pub fn race(on: &'static str, shape: Shape) -> Row {
     let mesh = plain(1.0, &shape.vertices, &shape.ids);
-    let lent = Lent::exactly(mesh.vertices.len(), mesh.ids.len());
-    let (mut work, mut raster, mut surfaces) = (vec![1; lent.work], vec![1; lent.raster], vec![1; lent.surfaces]);
-    let mut record = [0; WORDS];
-    let mut port = |mesh: &MeshFile| {
-        let areas = Areas { work: &mut work, raster: &mut raster, surfaces: &mut surfaces };
-        capi::compute(&Call { mesh, clip: 0, defect: 0 }, areas, &mut record)
-    };
+    let mut port = lent_port(&mesh);
     let rust = |mesh: &MeshFile| qto::compute(&mesh.vertices, &mesh.ids, mesh.unit);
     let mut row = Row { on, triangles: shape.triangles(), port: f64::INFINITY, rust: f64::INFINITY };
     let once = time(1, &mesh, &mut port).min(time(1, &mesh, rust));
@@ -70,6 +64,26 @@ pub fn race(on: &'static str, shape: Shape) -> Row {
         turns += 1;
     }
     row
+}
+
+/// So many calls of the port on a mesh.
+pub fn repeat(shape: &Shape, times: usize) {
+    let mesh = plain(1.0, &shape.vertices, &shape.ids);
+    let mut port = lent_port(&mesh);
+    for _ in 0..times {
+        black_box(port(black_box(&mesh)));
+    }
+}
+
+/// The port with areas of just the size that a mesh needs.
+fn lent_port(mesh: &MeshFile) -> impl FnMut(&MeshFile) -> u32 {
+    let lent = Lent::exactly(mesh.vertices.len(), mesh.ids.len());
+    let (mut work, mut raster, mut surfaces) = (vec![1; lent.work], vec![1; lent.raster], vec![1; lent.surfaces]);
+    let mut record = [0; WORDS];
+    move |mesh| {
+        let areas = Areas { work: &mut work, raster: &mut raster, surfaces: &mut surfaces };
+        capi::compute(&Call { mesh, clip: 0, defect: 0 }, areas, &mut record)
+    }
 }
 
 fn time<T>(calls: usize, mesh: &MeshFile, mut f: impl FnMut(&MeshFile) -> T) -> f64 {

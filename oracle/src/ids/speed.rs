@@ -113,6 +113,14 @@ fn best_of(runs: usize, routine: &Routine, on: String, ids: &[u32]) -> Row {
     row
 }
 
+/// So many calls of the port on a list.
+pub fn repeat(routine: &Routine, ids: &[u32], times: usize) {
+    let mut work = vec![1; (routine.needed)(ids.len())];
+    for _ in 0..times {
+        black_box((routine.port)(black_box(ids), &mut work));
+    }
+}
+
 fn time(mut f: impl FnMut() -> u32) -> f64 {
     let start = Instant::now();
     black_box(f());

@@ -1,6 +1,10 @@
--- `sums::with_vertex` meets its contract. Each bound is taken as the box of one vertex more takes it. Assumes nothing.
+-- `sums::with_vertex` meets its contract. Each bound is taken as the box of one vertex more takes it, and none is a NaN. Assumes nothing.
+use mathlib.Core.Path.{_∙_, ap}
+use lib.Ieee.{isNan}
+use Rattle.sums.specs.declared.Bounds.{Bounds}
+use Rattle.sums.specs.Box.{boxTo}
+use Rattle.sums.proofs.Boxes.{box-next, lowest-number, highest-number}
 use borrow.Author.Needs.{needs}
-use Rattle.sums.proofs.Boxes.{box-next}
 use Rattle.sums.proofs.with_vertex.Statement.{statement}
 use Rattle.sums.proofs.with_vertex.Tie as tie
 
@@ -31,30 +35,34 @@ mul-z c = search needs
 shared-slice-read-z : tie.Need-shared-slice-read-z
 shared-slice-read-z c = search needs
 
-least32-requires : tie.Need-least32-requires
-least32-requires c κs = search needs
+lower-requires : tie.Need-lower-requires
+unfolding boxTo
+lower-requires c κs = ap (λ (b : Bounds). isNan (b .xmin)) (c .before .before .before .before .pre .1) ∙ lowest-number (c .before .before .before .before .args .vertices .now) 0 (c .before .before .before .before .args .v)
 
-least32-requires-2 : tie.Need-least32-requires-2
-least32-requires-2 c κs = search needs
+lower-requires-2 : tie.Need-lower-requires-2
+unfolding boxTo
+lower-requires-2 c κs = ap (λ (b : Bounds). isNan (b .ymin)) (c .before .before .before .before .before .pre .1) ∙ lowest-number (c .before .before .before .before .before .args .vertices .now) 1 (c .before .before .before .before .before .args .v)
 
-least32-requires-3 : tie.Need-least32-requires-3
-least32-requires-3 c κs = search needs
+lower-requires-3 : tie.Need-lower-requires-3
+unfolding boxTo
+lower-requires-3 c κs = ap (λ (b : Bounds). isNan (b .zmin)) (c .before .before .before .before .before .before .pre .1) ∙ lowest-number (c .before .before .before .before .before .before .args .vertices .now) 2 (c .before .before .before .before .before .before .args .v)
 
-greatest32-requires : tie.Need-greatest32-requires
-greatest32-requires c κs = search needs
+higher-requires : tie.Need-higher-requires
+unfolding boxTo
+higher-requires c κs = ap (λ (b : Bounds). isNan (b .xmax)) (c .before .before .before .before .before .before .before .pre .1) ∙ highest-number (c .before .before .before .before .before .before .before .args .vertices .now) 0 (c .before .before .before .before .before .before .before .args .v)
 
-greatest32-requires-2 : tie.Need-greatest32-requires-2
-greatest32-requires-2 c κs = search needs
+higher-requires-2 : tie.Need-higher-requires-2
+unfolding boxTo
+higher-requires-2 c κs = ap (λ (b : Bounds). isNan (b .ymax)) (c .before .before .before .before .before .before .before .before .pre .1) ∙ highest-number (c .before .before .before .before .before .before .before .before .args .vertices .now) 1 (c .before .before .before .before .before .before .before .before .args .v)
 
-greatest32-requires-3 : tie.Need-greatest32-requires-3
-greatest32-requires-3 c κs = search needs
+higher-requires-3 : tie.Need-higher-requires-3
+unfolding boxTo
+higher-requires-3 c κs = ap (λ (b : Bounds). isNan (b .zmax)) (c .before .before .before .before .before .before .before .before .before .pre .1) ∙ highest-number (c .before .before .before .before .before .before .before .before .before .args .vertices .now) 2 (c .before .before .before .before .before .before .before .before .before .args .v)
 
 returns : tie.Need-returns
 returns c =
     let s = c .before .before .before .before .before .before .before .before .before .before in
-    box-next (s .args .vertices .now) (s .args .v) (s .args .b) (s .pre .1)
-    (c .before .before .before .before .before .least32 .ensures) (c .before .before .before .before .least322 .ensures) (c .before .before .before .least323 .ensures)
-    (c .before .before .greatest32 .ensures) (c .before .greatest322 .ensures) (c .greatest323 .ensures)
+    box-next (s .args .vertices .now) (s .args .v) (s .args .b) (s .pre .1) (c .before .before .before .before .before .lower .ensures) (c .before .before .before .before .lower2 .ensures) (c .before .before .before .lower3 .ensures) (c .before .before .higher .ensures) (c .before .higher2 .ensures) (c .higher3 .ensures)
 
 pub with-vertex-spec : {M : Type 1} → statement M
 with-vertex-spec =
@@ -69,10 +77,10 @@ with-vertex-spec =
     add-z
     mul-z
     shared-slice-read-z
-    least32-requires
-    least32-requires-2
-    least32-requires-3
-    greatest32-requires
-    greatest32-requires-2
-    greatest32-requires-3
+    lower-requires
+    lower-requires-2
+    lower-requires-3
+    higher-requires
+    higher-requires-2
+    higher-requires-3
     returns)

@@ -78,49 +78,101 @@ fn ahead(rows: &[f32], i: usize, j: usize) -> bool
     precedes(get(rows, i), get(rows, j))
 }
 
-// ---- a heap sort: quick, and proved to lose and to double no row. Row k has the children 2k + 1 and 2k + 2, and precedes neither.
+// ---- a quick sort, but for parts of 16 rows or fewer: proved to lose and to double no row, which is all that the last pass needs
 
-// 1 where row i precedes row j, else 0: a processor would guess a branch here wrongly every other time.
-fn later(rows: &[f32], i: usize, j: usize) -> usize
-    requires { ⌜ (4 * i + 4 ≤ length (now rows)) × (4 * j + 4 ≤ length (now rows)) ⌝ }
-    ensures { λ r. ⌜ r ≤ 1 ⌝ }
+// Of the first row from a on, the last in front of b and the one half way, the one that comes between the other two.
+fn middle(rows: &[f32], a: usize, b: usize) -> usize
+    requires { ⌜ (a < b) × (b ≤ 32768) × (4 * b ≤ length (now rows)) ⌝ }
+    ensures { λ r. ⌜ (a ≤ r) × (r < b) ⌝ }
 {
-    ahead(rows, i, j) as usize
+    let half = a + (b - a) / 2;
+    let last = b - 1;
+    if ahead(rows, a, half) {
+        if ahead(rows, half, last) {
+            return half;
+        }
+        return if ahead(rows, a, last) { last } else { a };
+    }
+    if ahead(rows, a, last) {
+        return a;
+    }
+    if ahead(rows, half, last) { last } else { half }
 }
 
-// Row start goes down the heap of n rows until it has no child, and each time changes places with the one that comes last; where it ends. Whether it has gone far enough is not asked on the way: it nearly always belongs near the bottom.
-fn descend(rows: &mut [f32], start: usize, n: usize) -> usize
-    requires { ⌜ (start < n) × (n ≤ 32768) × (4 * n ≤ length (now rows)) ⌝ }
-    ensures { λ r. ⌜ (start ≤ r) × (r < n) × SameRows (rowsOf (now (rows .entry))) (rowsOf (now (rows .exit))) ⌝ }
+// 1 where r's row comes before s's, else 0.
+fn before(r: PlanarSurface, s: PlanarSurface) -> usize
+    ensures { λ n. ⌜ n ≤ 1 ⌝ }
 {
-    let mut i = start;
-    while 2 * i + 2 < n {
-        let left = 2 * i + 1;
-        let below = left + later(rows, left, left + 1);
-        swap(rows, i, below);
-        i = below;
-    }
-    let lone = 2 * i + 1;
-    if lone >= n {
-        return i;
-    }
-    swap(rows, i, lone);
-    lone
+    precedes(r, s) as usize
 }
 
-// Row i goes up again, to row start at most, while its parent precedes it: seldom more than a step or two.
-fn climb(rows: &mut [f32], start: usize, i: usize)
-    requires { ⌜ 4 * i + 4 ≤ length (now rows) ⌝ }
+// The rows behind row a and in front of b that precede row a come first of these: where the last of them stands, or a. All change places, whether they precede
+// it or not: a processor would guess a branch here wrongly every other time.
+fn divide(rows: &mut [f32], a: usize, b: usize) -> usize
+    requires { ⌜ (a < b) × (b ≤ 32768) × (4 * b ≤ length (now rows)) ⌝ }
+    ensures { λ r. ⌜ (a ≤ r) × (r < b) × SameRows (rowsOf (now (rows .entry))) (rowsOf (now (rows .exit))) ⌝ }
+{
+    let p = get(rows, a);
+    let mut last = a;
+    let mut i = a + 1;
+    while i < b {
+        let n = before(get(rows, i), p);
+        swap(rows, last + 1, i);
+        last += n;
+        i += 1;
+    }
+    last
+}
+
+// The middle one goes to where it belongs among rows a to b, those that precede it in front of it: where that is.
+fn split(rows: &mut [f32], a: usize, b: usize) -> usize
+    requires { ⌜ (a < b) × (b ≤ 32768) × (4 * b ≤ length (now rows)) ⌝ }
+    ensures { λ r. ⌜ (a ≤ r) × (r < b) × SameRows (rowsOf (now (rows .entry))) (rowsOf (now (rows .exit))) ⌝ }
+{
+    let m = middle(rows, a, b);
+    swap(rows, a, m);
+    let last = divide(rows, a, b);
+    swap(rows, a, last);
+    last
+}
+
+// Splits the rows from a to b, and what is in front and behind, until the parts are small. False where they are not after so many turns.
+fn quick(rows: &mut [f32], a: usize, b: usize, turns: usize) -> bool
+    requires { ⌜ (a ≤ b) × (b ≤ 32768) × (4 * b ≤ length (now rows)) ⌝ }
     ensures { λ _. ⌜ SameRows (rowsOf (now (rows .entry))) (rowsOf (now (rows .exit))) ⌝ }
 {
-    let mut k = i;
-    while k > start {
-        let parent = (k - 1) / 2;
-        if !ahead(rows, parent, k) {
-            return;
-        }
-        swap(rows, parent, k);
-        k = parent;
+    if b - a <= 16 {
+        return true;
+    }
+    if turns == 0 {
+        return false;
+    }
+    let p = split(rows, a, b);
+    if !quick(rows, a, p, turns - 1) {
+        return false;
+    }
+    quick(rows, p + 1, b, turns - 1)
+}
+
+// ---- a heap sort for rows that are split badly every time, so that no rows take the square of their number. Row k has the children 2k + 1 and 2k + 2, and precedes neither.
+
+// Of the children of row i in a heap of n rows the one that comes last; n where it has none.
+fn child(rows: &[f32], i: usize, n: usize) -> usize
+    requires { ⌜ (i < n) × (n ≤ 32768) × (4 * n ≤ length (now rows)) ⌝ }
+    ensures { λ r. ⌜ (i < r) × (r ≤ n) ⌝ }
+{
+    let left = 2 * i + 1;
+    if left >= n {
+        return n;
+    }
+    let right = left + 1;
+    if right >= n {
+        return left;
+    }
+    if ahead(rows, left, right) {
+        right
+    } else {
+        left
     }
 }
 
@@ -129,8 +181,18 @@ fn sink(rows: &mut [f32], start: usize, n: usize)
     requires { ⌜ (start < n) × (n ≤ 32768) × (4 * n ≤ length (now rows)) ⌝ }
     ensures { λ _. ⌜ SameRows (rowsOf (now (rows .entry))) (rowsOf (now (rows .exit))) ⌝ }
 {
-    let end = descend(rows, start, n);
-    climb(rows, start, end);
+    let mut i = start;
+    while i < n {
+        let below = child(rows, i, n);
+        if below >= n {
+            return;
+        }
+        if !ahead(rows, i, below) {
+            return;
+        }
+        swap(rows, i, below);
+        i = below;
+    }
 }
 
 // The first n rows become a heap.
@@ -158,19 +220,19 @@ fn unheap(rows: &mut [f32], n: usize)
     }
 }
 
-// So few rows are put in order quicker by the last pass alone.
+// Puts the rows in order, but for what the last pass does.
 fn presort(rows: &mut [f32], n: usize)
     requires { ⌜ (n ≤ 32768) × (4 * n ≤ length (now rows)) ⌝ }
     ensures { λ _. ⌜ SameRows (rowsOf (now (rows .entry))) (rowsOf (now (rows .exit))) ⌝ }
 {
-    if n <= 24 {
+    if quick(rows, 0, n, 32) {
         return;
     }
     heap(rows, n);
     unheap(rows, n);
 }
 
-// ---- a last pass, which has little to move then: what proves the order
+// ---- a last pass, which moves a row by a few places: what proves the order
 
 // Row i goes among those in front of it, which are in order.
 fn settle(rows: &mut [f32], i: usize)

@@ -1,9 +1,15 @@
--- `rows::presort` meets its contract: nothing, or two passes that keep the rows. Assumes nothing.
+-- `rows::presort` meets its contract: each part of it keeps the rows. Assumes nothing.
 use Rattle.rows.specs.Rows.{rowsOf}
 use Rattle.rows.proofs.Counts.{same-then}
 use borrow.Author.Needs.{needs}
 use Rattle.rows.proofs.presort.Statement.{statement}
 use Rattle.rows.proofs.presort.Tie as tie
+
+quick-requires : tie.Need-quick-requires
+quick-requires c κs = search needs
+
+same-length : tie.Need-same-length
+same-length c = search needs
 
 returns : tie.Need-returns
 returns c = search needs
@@ -14,11 +20,24 @@ heap-requires c κs = search needs
 unheap-requires : tie.Need-unheap-requires
 unheap-requires c κs = search needs
 
-same-length : tie.Need-same-length
-same-length c = search needs
+same-length-2 : tie.Need-same-length-2
+same-length-2 c = search needs
 
 returns-2 : tie.Need-returns-2
-returns-2 c = same-then (rowsOf (c .before .before .before .before .before .before .before .before .before .before .args .rows .now)) (rowsOf (c .before .before .before .before .before .before .heap .last .0)) _ (c .before .before .before .before .before .before .heap .ensures) (c .before .before .unheap .ensures)
+returns-2 c =
+    let t = rowsOf (c .before .before .before .before .before .before .before .before .before .before .before .before .before .before .args .rows .now) in
+    let split = rowsOf (c .before .before .before .before .before .before .before .before .before .before .before .quick .last .0) in
+    let heap = rowsOf (c .before .before .before .before .before .before .heap .last .0) in
+    same-then t heap _ (same-then t split heap (c .before .before .before .before .before .before .before .before .before .before .before .quick .ensures) (c .before .before .before .before .before .before .heap .ensures)) (c .before .before .unheap .ensures)
 
 pub presort-spec : {M : Type 1} → statement M
-presort-spec = tie.close (tie.spec returns heap-requires unheap-requires same-length returns-2)
+presort-spec =
+    tie.close
+    (tie.spec
+    quick-requires
+    same-length
+    returns
+    heap-requires
+    unheap-requires
+    same-length-2
+    returns-2)

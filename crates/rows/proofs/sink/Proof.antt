@@ -1,21 +1,81 @@
--- `rows::sink` meets its contract: it goes down and up again by swaps only. Assumes nothing.
+-- `rows::sink` meets its contract. The loop only swaps; i goes down the heap to a child, which is larger. Assumes nothing.
+use mathlib.Core.Path.{_≡_, refl}
+use Prim.Native.Nat.{_-_, _≤_}
+use native.Mathlib.Omega.{arith}
 use borrow.Author.Needs.{needs}
+use lib.ListN.{length}
 use Rattle.rows.specs.Rows.{rowsOf}
-use Rattle.rows.proofs.Counts.{same-then}
+use Rattle.rows.specs.Sorting.{SameRows}
+use Rattle.rows.proofs.Counts.{same-rows}
+use Rattle.rows.proofs.Sinking.{same-swap}
+use Rattle.rows.proofs.Flat.{row-inside}
 use Rattle.rows.proofs.sink.Statement.{statement}
 use Rattle.rows.proofs.sink.Tie as tie
 
-descend-requires : tie.Need-descend-requires
-descend-requires c κs = search needs
+abbrev Inv-loop : tie.InvT-loop
+Inv-loop rows₀ start n i₀ rows i = (i ≤ n) × (length rows ≡ length rows₀) × SameRows (rowsOf rows₀) (rowsOf rows)
 
-climb-requires : tie.Need-climb-requires
-climb-requires c κs = search needs
+abbrev μ-loop : tie.MeasureT-loop
+μ-loop rows₀ start n i₀ rows i = n - i
 
-same-length : tie.Need-same-length
+loop-holds : tie.Need-loop-holds Inv-loop μ-loop
+loop-holds c = (omega arith, refl, same-rows (rowsOf (c .before .args .rows .now)))
+
+child-requires : tie.Need-child-requires Inv-loop μ-loop
+child-requires c κs = search needs
+
+same-length : tie.Need-same-length Inv-loop μ-loop
 same-length c = search needs
 
-returns : tie.Need-returns
-returns c = same-then (rowsOf (c .before .before .before .before .before .before .before .before .before .args .rows .now)) (rowsOf (c .before .before .before .before .before .before .descend .last .0)) _ (c .before .before .before .before .before .before .descend .ensures .2) (c .before .before .climb .ensures)
+returns : tie.Need-returns Inv-loop μ-loop
+returns c = c .before .before .before .before .loop .inv .2
+
+ahead-requires : tie.Need-ahead-requires Inv-loop μ-loop
+ahead-requires c κs = search needs
+
+same-length-2 : tie.Need-same-length-2 Inv-loop μ-loop
+same-length-2 c = search needs
+
+returns-2 : tie.Need-returns-2 Inv-loop μ-loop
+returns-2 c = c .before .before .before .before .before .before .before .loop .inv .2
+
+swap-requires : tie.Need-swap-requires Inv-loop μ-loop
+swap-requires c κs = search needs
+
+loop-less : tie.Need-loop-less Inv-loop μ-loop
+loop-less c = search needs
+
+loop-again : tie.Need-loop-again Inv-loop μ-loop
+loop-again c =
+    let t = c .before .before .before .before .before .before .before .before .before .before .before .before .before .args .rows .now in
+    let l = c .before .before .before .before .before .before .before .before .before .before .before .loop in
+    let below = c .before .before .before .before .before .before .before .before .child .result in (
+      omega arith,
+      omega (arith, c .before .before .swap .kept),
+      same-swap (rowsOf t) (rowsOf (l .rows)) _ (l .i) below (l .inv .2) (c .before .before .swap .ensures) (row-inside (l .rows) (l .i) (omega arith)) (row-inside (l .rows) below (omega arith)),
+    )
+
+same-length-3 : tie.Need-same-length-3 Inv-loop μ-loop
+same-length-3 c = search needs
+
+returns-3 : tie.Need-returns-3 Inv-loop μ-loop
+returns-3 c = c .before .loop .inv .2
 
 pub sink-spec : {M : Type 1} → statement M
-sink-spec = tie.close (tie.spec descend-requires climb-requires same-length returns)
+sink-spec =
+    tie.close
+    (tie.spec
+    Inv-loop
+    μ-loop
+    loop-holds
+    child-requires
+    same-length
+    returns
+    ahead-requires
+    same-length-2
+    returns-2
+    swap-requires
+    loop-less
+    loop-again
+    same-length-3
+    returns-3)

@@ -4,6 +4,7 @@
 use mowfrost_oracle::compute::areas::{Areas, WORDS};
 use mowfrost_oracle::compute::compare::{is_zero_record, on_chance, on_large, on_limits, Call, Count, Port};
 use mowfrost_oracle::compute::meshes::{by_chance, kinds, large, limits};
+use mowfrost_oracle::compute::split::{bad_places, is_bad, split_badly};
 use mowfrost_oracle::file::{Flags, MeshFile};
 use mowfrost_oracle::record::{original, Lent, Record, FARTHEST, MOST, RASTER_BYTES};
 
@@ -246,4 +247,9 @@ fn the_meshes_have_what_they_are_for() {
     let rows = |m: &MeshFile| original(&m.vertices, &m.ids, m.unit).rows.len();
     assert!(large.iter().any(|m| rows(m) > 1000) && large.iter().any(|m| rows(m) == 6));
     assert!(limits().any(|m| m.vertices.len() > MOST && m.ids.len() < 3), "1 and the zero record");
+
+    let places = bad_places(500);
+    assert!(is_bad(&places) && !is_bad(&(0..500).collect::<Vec<_>>()));
+    let shape = split_badly(500);
+    assert!(original(&shape.vertices, &shape.ids, 1.0).rows.len() == 500);
 }

@@ -3,3 +3,4 @@ pub mod Triangles
 pub mod Tally
 mod Gathering
 mod Behind
+mod Pairs

@@ -133,27 +133,19 @@ fn one_crowded(uses: u32) -> usize
     if 2 < uses { 1 } else { 0 }
 }
 
+// No branch here and below: which rows are used is as by chance, and a processor would guess wrongly.
 fn one_unpaired(uses: u32, ups: u32) -> usize
     ensures { λ r. ⌜ (r ≡ gate uses (bit (unpaired uses (magnitude uses ups)))) × (r ≤ 1) ⌝ }
 {
-    if uses == 0 {
-        return 0;
-    }
-    if uses == 2 {
-        if ups == 1 {
-            return 0;
-        }
-    }
-    1
+    let paired = (uses == 2) & (ups == 1);
+    ((0 < uses) & !paired) as usize
 }
 
 fn one_incoherent(uses: u32, ups: u32) -> usize
     ensures { λ r. ⌜ (r ≡ gate uses (bit (incoherent uses (magnitude uses ups)))) × (r ≤ 1) ⌝ }
 {
-    if uses == 1 {
-        return 0;
-    }
-    one_unpaired(uses, ups)
+    let paired = (uses == 2) & (ups == 1);
+    ((1 < uses) & !paired) as usize
 }
 
 // 1 if a row with this word is used and passes the test, else 0.

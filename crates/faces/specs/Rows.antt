@@ -33,7 +33,7 @@ put t r named word = set (set t (2 * r) named) (2 * r + 1) word
 
 -- the hash of a face, below 2^32, and the row at which a search for it starts
 unfoldable pub hashOf : Face → ℕ
-hashOf f = (f .low * 1640531527 + f .mid * 1052792407 + f .high * 779470673) % 4294967296
+hashOf f = ((f .low * 1014252765 % 4294967296 + f .mid * 2645834705) % 4294967296 + f .high * 1973868335) % 4294967296
 
 unfoldable pub homeOf : ℕ → Face → ℕ
 homeOf n f = homeRow n (hashOf f)

@@ -53,8 +53,9 @@ fn weight(ids: &[u32], t: usize) -> u32
 fn hash(low: u32, mid: u32, high: u32) -> u32
     ensures { λ r. ⌜ r ≡ hashOf (record { low = low; mid = mid; high = high }) ⌝ }
 {
-    ((low as u64 * 1640531527 + mid as u64 * 1052792407 + high as u64 * 779470673)
-        % 0x1_0000_0000) as u32
+    let part = low as u64 * 1014252765 % 0x1_0000_0000;
+    let more = (part + mid as u64 * 2645834705) % 0x1_0000_0000;
+    ((more + high as u64 * 1973868335) % 0x1_0000_0000) as u32
 }
 
 // Is the face of triangle t the one with these ids?

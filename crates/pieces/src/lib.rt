@@ -36,7 +36,7 @@ fn key(ids: &[u32], c: usize) -> u32
 fn odd_of(from: usize) -> u32
     requires { ⌜ from ≤ 98304 ⌝ }
 {
-    ((0x9e37_79b1 + 0x85eb_ca6a * from as u64) % 0x1_0000_0000) as u32
+    ((3008513259 + 3416884090 * from as u64) % 0x1_0000_0000) as u32
 }
 
 // How many rows a search looks at, of n: all, if there are few.

@@ -17,11 +17,12 @@ fn weight(u: u32, v: u32) -> u32
     if u < v { 65536 } else { 1 }
 }
 
-// The hash of an edge. The two factors were chosen so that the edges of grids, strips and mirrored rims spread.
+// The hash of an edge. The two factors were chosen so that the edges of grids, fans, boxes, strips and mirrored rims spread about as well at every size.
 fn hash(low: u32, high: u32) -> u32
     ensures { λ r. ⌜ r ≡ hashOf (record { low = low; high = high }) ⌝ }
 {
-    ((low as u64 * 2447445413 + high as u64 * 1052792407) % 0x1_0000_0000) as u32
+    let part = low as u64 * 3560471991 % 0x1_0000_0000;
+    ((part + high as u64 * 1750231481) % 0x1_0000_0000) as u32
 }
 
 // The first row, from `start` on and round, that holds the edge or is free.

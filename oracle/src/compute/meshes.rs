@@ -1,6 +1,7 @@
 //! Meshes to ask `compute` about: the kinds that program files have, kinds that they cannot hold, and large ones.
 
 use super::shapes::{self, boxes, sphere, SHAPES};
+use super::split::split_badly;
 use crate::file::{read, Flags, MeshFile};
 use crate::kinds::KINDS;
 use crate::mesh::qto::probe;
@@ -333,6 +334,7 @@ pub fn large() -> Vec<(&'static str, MeshFile)> {
         plain(1.0, &[soup_at_most(), vec![9.0; 6]].concat(), &[count(32_766), vec![7; 65_538]].concat()),
     ));
     all.push(("one id", plain(1.0, &lattice, &vec![5; MOST])));
+    all.push(("rows that the sort splits badly", of(1.0, split_badly(500))));
     all
 }
 

@@ -9,3 +9,4 @@ pub mod meshes;
 pub mod shapes;
 #[cfg(port)]
 pub mod speed;
+pub mod split;

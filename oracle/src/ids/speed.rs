@@ -7,7 +7,9 @@ use crate::random::Random;
 use std::hint::black_box;
 use std::time::Instant;
 
+/// At least so many turns, and for so many seconds.
 const BEST_OF: usize = 15;
+const ENOUGH: f64 = 0.1;
 
 pub struct Row {
     pub name: &'static str,
@@ -50,7 +52,7 @@ pub fn worst() -> Vec<Row> {
         ("pieces", "ids against every pass's hash", against_every_pass()),
     ];
     let named = |name: &str| ROUTINES.iter().find(|routine| routine.name == name).expect("a routine of that name");
-    lists.iter().map(|(name, on, ids)| best_of(1, named(name), (*on).into(), ids)).collect()
+    lists.iter().map(|(name, on, ids)| best_of(1, 0.0, named(name), (*on).into(), ids)).collect()
 }
 
 /// x with x * odd = 1 among the numbers below 2^32.
@@ -60,8 +62,9 @@ fn inverse(odd: u32) -> u32 {
 
 /// Triangles whose edges all start their search within some rows of each other.
 fn against_edges() -> Vec<u32> {
-    let (low, high) = (2_447_445_413u32, 1_052_792_407u32);
-    let step = inverse(low.wrapping_add(high) >> 2 | 1);
+    let (low, high) = (3_560_471_991u32, 1_750_231_481u32);
+    let both = low.wrapping_add(high);
+    let step = inverse(both >> both.trailing_zeros());
     let (to_b, to_c) = (inverse(low), inverse(high));
     let mut ids = Vec::with_capacity(MOST_IDS);
     let mut a = 0u32;
@@ -78,7 +81,7 @@ fn against_edges() -> Vec<u32> {
 
 /// The odd number of a pass of the piece count from a corner on.
 fn odd_of(from: usize) -> u32 {
-    0x85eb_ca6a_u32.wrapping_mul(from as u32).wrapping_add(0x9e37_79b1)
+    3_416_884_090_u32.wrapping_mul(from as u32).wrapping_add(3_008_513_259)
 }
 
 /// Ids that all start at one row in the first pass.
@@ -99,16 +102,19 @@ fn against_every_pass() -> Vec<u32> {
 }
 
 pub fn race(routine: &Routine, on: String, ids: &[u32]) -> Row {
-    best_of(BEST_OF, routine, on, ids)
+    best_of(BEST_OF, ENOUGH, routine, on, ids)
 }
 
 /// Milliseconds, the best of several runs that take turns.
-fn best_of(runs: usize, routine: &Routine, on: String, ids: &[u32]) -> Row {
+fn best_of(runs: usize, enough: f64, routine: &Routine, on: String, ids: &[u32]) -> Row {
     let mut work = vec![1; (routine.needed)(ids.len())];
     let mut row = Row { name: routine.name, on, ids: ids.len(), port: f64::INFINITY, rust: f64::INFINITY };
-    for _ in 0..runs {
+    let begun = Instant::now();
+    let mut done = 0;
+    while done < runs || begun.elapsed().as_secs_f64() < enough {
         row.port = row.port.min(time(|| (routine.port)(ids, &mut work)));
         row.rust = row.rust.min(time(|| (routine.rust)(ids)));
+        done += 1;
     }
     row
 }

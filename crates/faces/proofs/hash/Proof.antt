@@ -1,24 +1,24 @@
 -- `faces::hash` meets its contract: it computes `hashOf` in 64 bits, where nothing wraps. Assumes nothing.
 use mathlib.Core.Path.{refl}
-use borrow.Author.Needs.{needs}
 use Rattle.faces.specs.Rows.{hashOf}
+use borrow.Author.Needs.{needs}
 use Rattle.faces.proofs.hash.Statement.{statement}
 use Rattle.faces.proofs.hash.Tie as tie
+
+mul-part : tie.Need-mul-part
+mul-part c = search needs
+
+mul-more : tie.Need-mul-more
+mul-more c = search needs
+
+add-more : tie.Need-add-more
+add-more c = search needs
 
 mul-result : tie.Need-mul-result
 mul-result c = search needs
 
-mul-result-2 : tie.Need-mul-result-2
-mul-result-2 c = search needs
-
 add-result : tie.Need-add-result
 add-result c = search needs
-
-mul-result-3 : tie.Need-mul-result-3
-mul-result-3 c = search needs
-
-add-result-2 : tie.Need-add-result-2
-add-result-2 c = search needs
 
 cast-result : tie.Need-cast-result
 cast-result c = search needs
@@ -29,5 +29,4 @@ returns c = refl
 
 pub hash-spec : {M : Type 1} → statement M
 hash-spec =
-    tie.close
-    (tie.spec mul-result mul-result-2 add-result mul-result-3 add-result-2 cast-result returns)
+    tie.close (tie.spec mul-part mul-more add-more mul-result add-result cast-result returns)

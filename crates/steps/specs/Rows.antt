@@ -26,7 +26,7 @@ put t r low high word = set (set (set t (3 * r) low) (3 * r + 1) high) (3 * r + 
 
 -- the hash of an edge, below 2^32, and the row at which a search for it starts
 unfoldable pub hashOf : Edge → ℕ
-hashOf e = (e .low * 3560471991 % 4294967296 + e .high * 1750231481) % 4294967296
+hashOf e = (e .low * 517785211 + e .high * 3599898067) % 4294967296
 
 unfoldable pub homeOf : ℕ → Edge → ℕ
 homeOf n e = homeRow n (hashOf e)

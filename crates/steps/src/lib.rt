@@ -21,8 +21,7 @@ fn weight(u: u32, v: u32) -> u32
 fn hash(low: u32, high: u32) -> u32
     ensures { λ r. ⌜ r ≡ hashOf (record { low = low; high = high }) ⌝ }
 {
-    let part = low as u64 * 3560471991 % 0x1_0000_0000;
-    ((part + high as u64 * 1750231481) % 0x1_0000_0000) as u32
+    ((low as u64 * 517785211 + high as u64 * 3599898067) % 0x1_0000_0000) as u32
 }
 
 // The first row, from `start` on and round, that holds the edge or is free.

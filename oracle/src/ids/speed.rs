@@ -62,7 +62,7 @@ fn inverse(odd: u32) -> u32 {
 
 /// Triangles whose edges all start their search within some rows of each other.
 fn against_edges() -> Vec<u32> {
-    let (low, high) = (3_560_471_991u32, 1_750_231_481u32);
+    let (low, high) = (517_785_211u32, 3_599_898_067u32);
     let both = low.wrapping_add(high);
     let step = inverse(both >> both.trailing_zeros());
     let (to_b, to_c) = (inverse(low), inverse(high));

@@ -17,20 +17,18 @@ fn unit_fits(unit: f32) -> bool
     (unit >= 0.00000095367431640625) & (unit <= 16.0)
 }
 
-// Is every float finite, and at most 2^33 in magnitude?
+// Is every float finite, and at most 2^33 in magnitude? All are looked at whatever the first ones are: a processor then does several at a time.
 fn all_fine(vertices: &[f32]) -> bool
     ensures { λ r. ⌜ r ≡ allFine (now (vertices .entry)) ⌝ }
 {
+    let mut fine = true;
     let mut i = 0;
     while i < vertices.len() {
         let size = floats::magnitude32(vertices[i]);
-        if size <= 8589934592.0 {
-            i += 1;
-        } else {
-            return false;
-        }
+        fine = fine & (size <= 8589934592.0);
+        i += 1;
     }
-    true
+    fine
 }
 
 // How many work words f floats and i ids need.

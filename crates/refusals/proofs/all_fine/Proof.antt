@@ -1,20 +1,21 @@
--- `refusals::all_fine` meets its contract: the floats before i are fine, so the answer is that for the rest. Assumes nothing.
-use Rattle.refusals.proofs.Scan.{fine-next, fine-not, fine-end}
-use mathlib.Core.Path.{_≡_, refl, sym, _∙_, ap}
+-- `refusals::all_fine` meets its contract: what is found of the floats before i, and the rest, make up the answer. Assumes nothing.
+use mathlib.Core.Path.{_≡_, refl, ap}
+use mathlib.Core.Bool.{_&&_}
 use Prim.Native.Nat.{_-_, _≤_}
 use lib.ListN.{length, drop}
 use lib.Ieee.{Float, binary32, le, ofBits}
 use Rattle.sums.specs.Fine.{allFine}
+use Rattle.refusals.proofs.Scan.{fine-next, fine-end}
 use borrow.Author.Needs.{needs}
 use native.Mathlib.Omega.{arith}
 use Rattle.refusals.proofs.all_fine.Statement.{statement}
 use Rattle.refusals.proofs.all_fine.Tie as tie
 
 abbrev Inv-loop : tie.InvT-loop
-Inv-loop vertices i₀ i = (i ≤ length vertices) × (allFine (drop i vertices) ≡ allFine vertices)
+Inv-loop vertices fine₀ i₀ fine i = (i ≤ length vertices) × ((fine && allFine (drop i vertices)) ≡ allFine vertices)
 
 abbrev μ-loop : tie.MeasureT-loop
-μ-loop vertices i₀ i = length vertices - i
+μ-loop vertices fine₀ i₀ fine i = length vertices - i
 
 loop-holds : tie.Need-loop-holds Inv-loop μ-loop
 loop-holds c = (omega arith, refl)
@@ -34,14 +35,13 @@ add-i c = search needs
 loop-less : tie.Need-loop-less Inv-loop μ-loop
 loop-less c = search needs
 
-returns : tie.Need-returns Inv-loop μ-loop
-returns c = fine-not (c .before .before .before .before .before .before .args .vertices .now) (c .before .before .before .before .loop .i) _ (omega arith) (ap (λ (y : Float). le y (ofBits binary32 0x5000_0000)) (sym (c .before .magnitude32 .ensures)) ∙ c .if1 .left) (c .before .before .before .before .loop .inv .1)
-
 loop-again : tie.Need-loop-again Inv-loop μ-loop
-loop-again c = (omega arith, fine-next (c .before .before .before .before .before .before .args .vertices .now) (c .before .before .before .before .loop .i) _ (omega arith) (ap (λ (y : Float). le y (ofBits binary32 0x5000_0000)) (sym (c .before .magnitude32 .ensures)) ∙ c .if1 .taken) (c .before .before .before .before .loop .inv .1))
+loop-again c =
+    let l = c .before .before .before .loop in
+    (omega arith, fine-next (c .before .before .before .before .before .args .vertices .now) (l .i) (l .fine) _ _ (omega arith) (ap (λ (y : Float). le y (ofBits binary32 0x5000_0000)) (c .magnitude32 .ensures)) (l .inv .1))
 
-returns-2 : tie.Need-returns-2 Inv-loop μ-loop
-returns-2 c = fine-end (c .before .before .before .args .vertices .now) (c .before .loop .i) _ (omega arith) (c .before .loop .inv .1)
+returns : tie.Need-returns Inv-loop μ-loop
+returns c = fine-end (c .before .before .before .args .vertices .now) (c .before .loop .i) (c .before .loop .fine) _ (omega arith) (c .before .loop .inv .1)
 
 pub all-fine-spec : {M : Type 1} → statement M
 all-fine-spec =
@@ -56,5 +56,4 @@ all-fine-spec =
     add-i
     loop-less
     loop-again
-    returns
-    returns-2)
+    returns)

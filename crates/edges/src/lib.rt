@@ -115,41 +115,41 @@ pub const INCOHERENT: u8 = 4;
 
 // One function a test: 1 for a used row whose edge passes it, else 0, by how often the edge is used, upwards and downwards.
 
-fn one_present(uses: u32) -> usize
+fn one_present(uses: u32) -> u32
     ensures { λ r. ⌜ (r ≡ gate uses (bit (present uses 0))) × (r ≤ 1) ⌝ }
 {
     if uses == 0 { 0 } else { 1 }
 }
 
-fn one_unbalanced(ups: u32, downs: u32) -> usize
+fn one_unbalanced(ups: u32, downs: u32) -> u32
     ensures { λ r. ⌜ (r ≡ gate (ups + downs) (bit (unbalanced (ups + downs) (magnitude (ups + downs) ups)))) × (r ≤ 1) ⌝ }
 {
     if ups == downs { 0 } else { 1 }
 }
 
-fn one_crowded(uses: u32) -> usize
+fn one_crowded(uses: u32) -> u32
     ensures { λ r. ⌜ (r ≡ gate uses (bit (crowded uses 0))) × (r ≤ 1) ⌝ }
 {
     if 2 < uses { 1 } else { 0 }
 }
 
 // No branch here and below: which rows are used is as by chance, and a processor would guess wrongly.
-fn one_unpaired(uses: u32, ups: u32) -> usize
+fn one_unpaired(uses: u32, ups: u32) -> u32
     ensures { λ r. ⌜ (r ≡ gate uses (bit (unpaired uses (magnitude uses ups)))) × (r ≤ 1) ⌝ }
 {
     let paired = (uses == 2) & (ups == 1);
-    ((0 < uses) & !paired) as usize
+    ((0 < uses) & !paired) as u32
 }
 
-fn one_incoherent(uses: u32, ups: u32) -> usize
+fn one_incoherent(uses: u32, ups: u32) -> u32
     ensures { λ r. ⌜ (r ≡ gate uses (bit (incoherent uses (magnitude uses ups)))) × (r ≤ 1) ⌝ }
 {
     let paired = (uses == 2) & (ups == 1);
-    ((1 < uses) & !paired) as usize
+    ((1 < uses) & !paired) as u32
 }
 
 // 1 if a row with this word is used and passes the test, else 0.
-fn passes(word: u32, test: u8) -> usize
+fn passes(word: u32, test: u8) -> u32
     ensures { λ r. ⌜ (r ≡ gate (usesIn word) (bit (testOf test (usesIn word) (magnitude (usesIn word) (upsIn word))))) × (r ≤ 1) ⌝ }
 {
     let ups = word / 65536;
@@ -170,12 +170,12 @@ fn passes(word: u32, test: u8) -> usize
     one_incoherent(uses, ups)
 }
 
-// How many edges pass a test.
-pub fn count(work: &[u32], n: usize, test: u8) -> usize
+// How many edges pass a test. The sums have 32 bits, so that a processor can add several rows at a time.
+pub fn count(work: &[u32], n: usize, test: u8) -> u32
     requires { ⌜ (n ≤ 131072) × (3 * n ≤ length (now work)) ⌝ }
     ensures { λ r. ⌜ (r ≡ sumTo (rowBit (testOf test) (now (work .entry))) n) × (r ≤ n) ⌝ }
 {
-    let mut total = 0;
+    let mut total: u32 = 0;
     let mut i = 0;
     while i < n {
         total += passes(work[3 * i + 2], test);
@@ -186,9 +186,9 @@ pub fn count(work: &[u32], n: usize, test: u8) -> usize
 
 // How many edges pass each of three tests, in one pass over the rows.
 pub struct Survey {
-    pub present: usize,
-    pub unbalanced: usize,
-    pub crowded: usize,
+    pub present: u32,
+    pub unbalanced: u32,
+    pub crowded: u32,
 }
 
 pub fn survey_rows(work: &[u32], n: usize) -> Survey
@@ -196,9 +196,9 @@ pub fn survey_rows(work: &[u32], n: usize) -> Survey
     ensures { λ r. ⌜ (r .present ≡ sumTo (rowBit present (now (work .entry))) n) × (r .unbalanced ≡ sumTo (rowBit unbalanced (now (work .entry))) n)
         × (r .crowded ≡ sumTo (rowBit crowded (now (work .entry))) n) ⌝ }
 {
-    let mut present = 0;
-    let mut unbalanced = 0;
-    let mut crowded = 0;
+    let mut present: u32 = 0;
+    let mut unbalanced: u32 = 0;
+    let mut crowded: u32 = 0;
     let mut i = 0;
     while i < n {
         let word = work[3 * i + 2];

@@ -213,7 +213,7 @@ fn size(word: u32) -> u32
 // The largest magnitude of a row's sum, and the number of rows whose sum is not 0.
 pub struct Sums {
     pub max_abs: u32,
-    pub off: usize,
+    pub off: u32,
 }
 
 pub fn net(work: &[u32], n: usize) -> Sums
@@ -221,13 +221,13 @@ pub fn net(work: &[u32], n: usize) -> Sums
     ensures { λ r. ⌜ (r .«max_abs» ≡ maxTo (rowSize (now (work .entry))) n) × (r .off ≡ sumTo (rowOff (now (work .entry))) n) ⌝ }
 {
     let mut most = 0;
-    let mut off = 0;
+    let mut off: u32 = 0;
     let mut i = 0;
     while i < n {
         let at = 2 * i;
         let s = size(work[at + 1]);
         most = table::greater(most, s);
-        off += (0 < s) as usize;
+        off += (0 < s) as u32;
         i += 1;
     }
     Sums { max_abs: most, off }

@@ -1,7 +1,7 @@
 -- Two uses of an edge have the sum 0 just where one of them is upwards: what `unpaired` and `incoherent` say of a row, as the code tests it without a
 -- branch. Assumes nothing.
 use mathlib.Core.Path.{_≡_, refl}
-use mathlib.Core.Bool.{Bool, true, false, not, _&&_}
+use mathlib.Core.Bool.{Bool, not, _&&_}
 use mir.Val.{boolByte}
 use Prim.Native.Nat.{ℕ, zero, suc, _≤_}
 use native.Mathlib.Decide.{ℕ-discrete}
@@ -10,6 +10,7 @@ use borrow.Author.Tests.{eq-eqb, ne-eqb, lt-ltb}
 use lib.Dec.{eqb, ltb}
 use Rattle.ids.specs.Uses.{bit}
 use Rattle.ids.specs.EdgeChain.{unpaired, incoherent}
+use Rattle.ids.proofs.Bits.{byte-bit, byte-small}
 use Rattle.table.specs.Counts.{magnitude}
 use Rattle.table.specs.Table.{gate}
 
@@ -26,15 +27,6 @@ paired-sum u p = go (ℕ-discrete u 2) (ℕ-discrete p 1)
     go (yes e) (yes q) = rw (eq-eqb u 2 e, eq-eqb p 1 q, eq-eqb (magnitude u p) 0 (omega arith)) refl
     go (yes e) (no q) = rw (eq-eqb u 2 e, ne-eqb p 1 q, ne-eqb (magnitude u p) 0 (λ z. omega arith)) refl
 
-byte-bit : (b : Bool) → boolByte b ≡ bit b
-unfolding bit
-byte-bit true = refl
-byte-bit false = refl
-
-byte-le : (b : Bool) → boolByte b ≤ 1
-byte-le true = omega arith
-byte-le false = omega arith
-
 unpaired-byte : (u p : ℕ) → boolByte (ltb 0 u && not (paired u p)) ≡ gate u (bit (unpaired u (magnitude u p)))
 unfolding gate unpaired
 unpaired-byte zero p = refl
@@ -47,7 +39,7 @@ incoherent-byte (suc zero) p = refl
 incoherent-byte (suc (suc u)) p = rw (paired-sum (suc (suc u)) p, lt-ltb 1 (suc (suc u)) (omega arith), ne-eqb (suc (suc u)) 1 (λ z. omega arith)) (byte-bit (not (paired (suc (suc u)) p)))
 
 pub unpaired-one : (u p : ℕ) → (boolByte (ltb 0 u && not (paired u p)) ≡ gate u (bit (unpaired u (magnitude u p)))) × (boolByte (ltb 0 u && not (paired u p)) ≤ 1)
-unpaired-one u p = (unpaired-byte u p, byte-le (ltb 0 u && not (paired u p)))
+unpaired-one u p = (unpaired-byte u p, byte-small (ltb 0 u && not (paired u p)))
 
 pub incoherent-one : (u p : ℕ) → (boolByte (ltb 1 u && not (paired u p)) ≡ gate u (bit (incoherent u (magnitude u p)))) × (boolByte (ltb 1 u && not (paired u p)) ≤ 1)
-incoherent-one u p = (incoherent-byte u p, byte-le (ltb 1 u && not (paired u p)))
+incoherent-one u p = (incoherent-byte u p, byte-small (ltb 1 u && not (paired u p)))

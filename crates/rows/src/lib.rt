@@ -110,7 +110,7 @@ fn middle(rows: &[f32], a: usize, b: usize) -> usize
 fn before(r: PlanarSurface, s: PlanarSurface) -> usize
     ensures { λ n. ⌜ n ≤ 1 ⌝ }
 {
-    precedes(r, s) as usize
+    if precedes(r, s) { 1 } else { 0 }
 }
 
 // The rows behind row a and in front of b that precede row a come first of these: where the last of them stands, or a. All change places, whether they precede

@@ -9,7 +9,7 @@ const SMALL: usize = 16;
 const TURNS: usize = 32;
 
 /// A quick sort as the port's: whether its turns sufficed. `ahead` says which of two items comes first.
-pub fn quick(items: &mut [usize], turns: usize, ahead: &mut impl FnMut(usize, usize) -> bool) -> bool {
+fn quick(items: &mut [usize], turns: usize, ahead: &mut impl FnMut(usize, usize) -> bool) -> bool {
     if items.len() <= SMALL {
         return true;
     }

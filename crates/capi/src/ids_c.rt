@@ -16,10 +16,7 @@ fn edge_chain_number(answer: EdgeChain) -> u32
     ensures { λ r. ⌜ r ≡ edgeChainNumber answer ⌝ }
 {
     match answer {
-        EdgeChain::Answer {
-            boundary_free,
-            over_incident,
-        } => boundary_free as u32 + 2 * over_incident as u32,
+        EdgeChain::Answer(said) => said.boundary_free as u32 + 2 * said.over_incident as u32,
         EdgeChain::Refused(n) => REFUSED + n as u32,
     }
 }
@@ -29,10 +26,7 @@ fn face_net_number(answer: FaceNet) -> u32
     ensures { λ r. ⌜ r ≡ faceNetNumber answer ⌝ }
 {
     match answer {
-        FaceNet::Answer {
-            max_abs,
-            all_cancel,
-        } => 2 * max_abs + all_cancel as u32,
+        FaceNet::Answer(said) => 2 * said.max_abs + said.all_cancel as u32,
         FaceNet::Refused(n) => REFUSED + n as u32,
     }
 }

@@ -7,17 +7,17 @@ use native.Mathlib.Decide.{decLe}
 use borrow.Author.Tests.{lt-ltb}
 use lib.ListN.{length}
 use Rattle.ids.specs.Triangles.{triangleCount}
-use Rattle.ids.specs.FaceNet.{maxAbs, allCancel}
+use Rattle.ids.specs.FaceNet.{maxAbs}
 use Rattle.ids.specs.Lent.{refusal, unlessRefused}
 use Rattle.ids.proofs.Uses.{max-abs-below}
-use Rattle.chain.specs.Answers.{FaceNetGiven}
+use Rattle.chain.specs.Answers.{netOf, FaceNetGiven}
 use Rattle.chain.specs.Numbers.{Small}
 use Rattle.chain.specs.declared.FaceNet.{FaceNet}
 use Rattle.chain.specs.declared.FaceNet.the-variants.{Answer, Refused}
 
 module _ (ids area : List ℕ) where
   abbrev answer : ℕ → FaceNet
-  answer k = unlessRefused k Refused (Answer (maxAbs ids) (allCancel ids))
+  answer k = unlessRefused k Refused (Answer (netOf ids))
 
   -- refused, it has no magnitude
   refused-small : (k : ℕ) → 0 < k → Small (answer k)

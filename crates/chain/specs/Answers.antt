@@ -7,6 +7,8 @@ use Rattle.ids.specs.Triangles.{triangleCount}
 use Rattle.ids.specs.EdgeChain.{boundaryFree, overIncident, closedManifold, windingCoherent}
 use Rattle.ids.specs.FaceNet.{maxAbs, allCancel}
 use Rattle.ids.specs.Lent.{Gives}
+use Rattle.tally.specs.declared.Incidence.{Incidence}
+use Rattle.tally.specs.declared.Net.{Net}
 use Rattle.chain.specs.declared.EdgeChain.{EdgeChain}
 use Rattle.chain.specs.declared.EdgeChain.the-variants as edge-chain
 use Rattle.chain.specs.declared.FaceNet.{FaceNet}
@@ -14,11 +16,18 @@ use Rattle.chain.specs.declared.FaceNet.the-variants as face-net
 use Rattle.chain.specs.declared.Verdict.{Verdict}
 use Rattle.chain.specs.declared.Verdict.the-variants as verdict
 
+-- what the edge chain and the face net answer, each part by its name
+abbrev pub incidenceOf : List ℕ → Incidence
+incidenceOf ids = record { «boundary_free» = boundaryFree ids; «over_incident» = overIncident ids }
+
+abbrev pub netOf : List ℕ → Net
+netOf ids = record { «max_abs» = maxAbs ids; «all_cancel» = allCancel ids }
+
 abbrev pub EdgeChainGiven : List ℕ → List ℕ → EdgeChain → List ℕ → Type 0
-EdgeChainGiven ids area r after = Gives (4 * length ids) edge-chain.Refused (edge-chain.Answer (boundaryFree ids) (overIncident ids)) ids area r after
+EdgeChainGiven ids area r after = Gives (4 * length ids) edge-chain.Refused (edge-chain.Answer (incidenceOf ids)) ids area r after
 
 abbrev pub FaceNetGiven : List ℕ → List ℕ → FaceNet → List ℕ → Type 0
-FaceNetGiven ids area r after = Gives (4 * triangleCount ids) face-net.Refused (face-net.Answer (maxAbs ids) (allCancel ids)) ids area r after
+FaceNetGiven ids area r after = Gives (4 * triangleCount ids) face-net.Refused (face-net.Answer (netOf ids)) ids area r after
 
 -- of a routine that answers yes or no
 abbrev pub VerdictGiven : (List ℕ → Bool) → List ℕ → List ℕ → Verdict → List ℕ → Type 0

@@ -5,9 +5,9 @@ use mathlib.Core.List.{List}
 use lib.ListN.{length}
 use Rattle.ids.specs.Triangles.{triangleCount}
 use Rattle.ids.specs.Uses.{bit}
-use Rattle.ids.specs.EdgeChain.{boundaryFree, overIncident, closedManifold, windingCoherent}
-use Rattle.ids.specs.FaceNet.{maxAbs, allCancel}
+use Rattle.ids.specs.EdgeChain.{closedManifold, windingCoherent}
 use Rattle.ids.specs.Lent.{Gives}
+use Rattle.chain.specs.Answers.{incidenceOf, netOf}
 use Rattle.chain.specs.declared.EdgeChain.{EdgeChain}
 use Rattle.chain.specs.declared.EdgeChain.the-variants as edge-chain
 use Rattle.chain.specs.declared.FaceNet.{FaceNet}
@@ -16,11 +16,11 @@ use Rattle.chain.specs.declared.Verdict.{Verdict}
 use Rattle.chain.specs.declared.Verdict.the-variants as verdict
 
 unfoldable pub edgeChainNumber : EdgeChain → ℕ
-edgeChainNumber (edge-chain.Answer boundary-free over-incident) = bit boundary-free + 2 * bit over-incident
+edgeChainNumber (edge-chain.Answer said) = bit (said .«boundary_free») + 2 * bit (said .«over_incident»)
 edgeChainNumber (edge-chain.Refused n) = 2147483648 + n
 
 unfoldable pub faceNetNumber : FaceNet → ℕ
-faceNetNumber (face-net.Answer max-abs all-cancel) = 2 * max-abs + bit all-cancel
+faceNetNumber (face-net.Answer said) = 2 * said .«max_abs» + bit (said .«all_cancel»)
 faceNetNumber (face-net.Refused n) = 2147483648 + n
 
 unfoldable pub verdictNumber : Verdict → ℕ
@@ -29,18 +29,18 @@ verdictNumber (verdict.Refused n) = 2147483648 + n
 
 -- a largest magnitude that leaves room for the number
 unfoldable pub Small : FaceNet → Type 0
-Small (face-net.Answer max-abs all-cancel) = max-abs ≤ 98304
+Small (face-net.Answer said) = said .«max_abs» ≤ 98304
 Small (face-net.Refused n) = Unit {0}
 
 -- ---- the contracts of the C forms: the same routines, their answers as numbers
 
 abbrev pub EdgeChainNumbered : List ℕ → List ℕ → ℕ → List ℕ → Type 0
 EdgeChainNumbered ids area r after =
-    Gives (4 * length ids) (λ n. edgeChainNumber (edge-chain.Refused n)) (edgeChainNumber (edge-chain.Answer (boundaryFree ids) (overIncident ids))) ids area r after
+    Gives (4 * length ids) (λ n. edgeChainNumber (edge-chain.Refused n)) (edgeChainNumber (edge-chain.Answer (incidenceOf ids))) ids area r after
 
 abbrev pub FaceNetNumbered : List ℕ → List ℕ → ℕ → List ℕ → Type 0
 FaceNetNumbered ids area r after =
-    Gives (4 * triangleCount ids) (λ n. faceNetNumber (face-net.Refused n)) (faceNetNumber (face-net.Answer (maxAbs ids) (allCancel ids))) ids area r after
+    Gives (4 * triangleCount ids) (λ n. faceNetNumber (face-net.Refused n)) (faceNetNumber (face-net.Answer (netOf ids))) ids area r after
 
 abbrev pub VerdictNumbered : (List ℕ → Bool) → List ℕ → List ℕ → ℕ → List ℕ → Type 0
 VerdictNumbered holds ids area r after = Gives (4 * length ids) (λ n. verdictNumber (verdict.Refused n)) (verdictNumber (verdict.Answer (holds ids))) ids area r after

@@ -5,23 +5,21 @@ ghost use Prim.Native.Nat.{_*_, _≤_};
 ghost use lib.ListN.{length, replicate};
 ghost use mathlib.Core.List.{[]};
 ghost use Rattle.ids.specs.Triangles.{triangleCount};
-ghost use Rattle.ids.specs.EdgeChain.{chain, boundaryFree, overIncident, closedManifold, windingCoherent};
-ghost use Rattle.ids.specs.FaceNet.{maxAbs, allCancel};
+ghost use Rattle.ids.specs.EdgeChain.{chain, closedManifold, windingCoherent};
 ghost use Rattle.steps.specs.Rows.{EdgeTable};
-ghost use Rattle.chain.specs.Answers.{EdgeChainGiven, FaceNetGiven, ClosedManifoldGiven, WindingCoherentGiven};
+ghost use Rattle.chain.specs.Answers.{incidenceOf, netOf, EdgeChainGiven, FaceNetGiven, ClosedManifoldGiven, WindingCoherentGiven};
+pub use tally::Incidence;
+pub use tally::Net;
 
-// What the edge chain answers.
+// What the edge chain answers: boundary-free and over-incident, by name.
 pub enum EdgeChain {
-    Answer {
-        boundary_free: bool,
-        over_incident: bool,
-    },
+    Answer(Incidence),
     Refused(u8),
 }
 
 // What the face net answers: the largest magnitude of a face's sum, and whether all sums are 0.
 pub enum FaceNet {
-    Answer { max_abs: u32, all_cancel: bool },
+    Answer(Net),
     Refused(u8),
 }
 
@@ -45,9 +43,9 @@ fn gather_chain(ids: &[u32], part: &mut [u32], n: usize)
 }
 
 // Makes the chain and reads it.
-fn chain_in(ids: &[u32], part: &mut [u32]) -> EdgeChain
+fn chain_in(ids: &[u32], part: &mut [u32]) -> Incidence
     requires { ⌜ (length (now ids) ≤ 98304) × (length (now part) ≡ 4 * length (now ids)) ⌝ }
-    ensures { λ r. ⌜ (r ≡ EdgeChain.Answer (boundaryFree (now (ids .entry))) (overIncident (now (ids .entry))))
+    ensures { λ r. ⌜ (r ≡ incidenceOf (now (ids .entry)))
         × (now (part .exit) ≡ replicate (4 * length (now (ids .entry))) 0) ⌝ }
 {
     let m = 4 * ids.len();
@@ -56,10 +54,7 @@ fn chain_in(ids: &[u32], part: &mut [u32]) -> EdgeChain
     gather_chain(ids, part, n);
     let said = tally::tally_edges(part, n);
     table::clear(part, m);
-    EdgeChain::Answer {
-        boundary_free: said.boundary_free,
-        over_incident: said.over_incident,
-    }
+    said
 }
 
 // Counts the edges that are not used twice, once each way.
@@ -92,9 +87,9 @@ fn coherent_in(ids: &[u32], part: &mut [u32]) -> bool
 }
 
 // Sums the faces.
-fn net_in(ids: &[u32], part: &mut [u32]) -> FaceNet
+fn net_in(ids: &[u32], part: &mut [u32]) -> Net
     requires { ⌜ (length (now ids) ≤ 98304) × (length (now part) ≡ 4 * triangleCount (now ids)) ⌝ }
-    ensures { λ r. ⌜ (r ≡ FaceNet.Answer (maxAbs (now (ids .entry))) (allCancel (now (ids .entry))))
+    ensures { λ r. ⌜ (r ≡ netOf (now (ids .entry)))
         × (now (part .exit) ≡ replicate (4 * triangleCount (now (ids .entry))) 0) ⌝ }
 {
     let n = 2 * (ids.len() / 3);
@@ -103,10 +98,7 @@ fn net_in(ids: &[u32], part: &mut [u32]) -> FaceNet
     faces::gather(ids, part, n);
     let said = tally::tally_faces(part, n);
     table::clear(part, m);
-    FaceNet::Answer {
-        max_abs: said.max_abs,
-        all_cancel: said.all_cancel,
-    }
+    said
 }
 
 // ---- the public routines
@@ -120,7 +112,7 @@ pub fn edge_chain(ids: &[u32], work: &mut [u32]) -> EdgeChain
     if 0 < refusal {
         return EdgeChain::Refused(refusal);
     }
-    chain_in(ids, &mut work[0..m])
+    EdgeChain::Answer(chain_in(ids, &mut work[0..m]))
 }
 
 // Is each edge used twice, once each way?
@@ -156,5 +148,5 @@ pub fn face_net(ids: &[u32], work: &mut [u32]) -> FaceNet
     if 0 < refusal {
         return FaceNet::Refused(refusal);
     }
-    net_in(ids, &mut work[0..m])
+    FaceNet::Answer(net_in(ids, &mut work[0..m]))
 }

@@ -25,12 +25,9 @@ fn print_bit(label: &[u8], yes: bool) {
 fn print_chain(ids: &[u32], work: &mut [u32]) {
     let answer = chain::edge_chain(ids, work);
     match answer {
-        EdgeChain::Answer {
-            boundary_free,
-            over_incident,
-        } => {
-            print_bit(b"chain ", boundary_free);
-            print_bit(b" ", over_incident);
+        EdgeChain::Answer(said) => {
+            print_bit(b"chain ", said.boundary_free);
+            print_bit(b" ", said.over_incident);
         }
         EdgeChain::Refused(n) => print_count(b"chain refused ", n as u64),
     }
@@ -39,12 +36,9 @@ fn print_chain(ids: &[u32], work: &mut [u32]) {
 fn print_net(ids: &[u32], work: &mut [u32]) {
     let answer = chain::face_net(ids, work);
     match answer {
-        FaceNet::Answer {
-            max_abs,
-            all_cancel,
-        } => {
-            print_count(b" net ", max_abs as u64);
-            print_bit(b" ", all_cancel);
+        FaceNet::Answer(said) => {
+            print_count(b" net ", said.max_abs as u64);
+            print_bit(b" ", said.all_cancel);
         }
         FaceNet::Refused(n) => print_count(b" net refused ", n as u64),
     }

@@ -1,10 +1,11 @@
 -- `chain::edge_chain` meets its contract: it gives the one refusal, or the answer over the words lent. Assumes nothing.
-use mathlib.Core.Path.{_∙_}
+use mathlib.Core.Path.{_∙_, ap}
 use Prim.Native.Nat.{_*_}
 use lib.ListN.{length}
 use borrow.Rule.Slice.PartMut.{post-is}
 use Rattle.ids.specs.Lent.{cleared}
 use Rattle.ids.proofs.Lent.{refusal-none, gives-refusal, gives-answer}
+use Rattle.chain.specs.declared.EdgeChain.the-variants.{Answer}
 use native.Mathlib.Omega.{arith}
 use borrow.Author.Needs.{needs}
 use Rattle.chain.proofs.edge_chain.Statement.{statement}
@@ -42,7 +43,7 @@ returns-2 c =
     let t = s .args .work .now in
     let k = c .before .before .chain-in in
     let a = gives-answer (4 * length ids) _ _ ids t _ (c .before .before .before .before .before .refusal .ensures) (c .before .before .before .before .if1 .left) in
-    record { answers = k .ensures .0 ∙ a .answers; leaves = rw (k .ensures .1, post-is 0 (4 * length ids) t (omega arith)) (a .leaves) }
+    record { answers = ap Answer (k .ensures .0) ∙ a .answers; leaves = rw (k .ensures .1, post-is 0 (4 * length ids) t (omega arith)) (a .leaves) }
 
 pub edge-chain-spec : {M : Type 1} → statement M
 edge-chain-spec =

@@ -16,10 +16,10 @@ cast-result-2 : tie.Need-cast-result-2
 cast-result-2 c = search needs
 
 mul-result : tie.Need-mul-result
-mul-result c = omega (arith, byte-small (c .before .answer .given .0 .1 .0))
+mul-result c = omega (arith, byte-small (c .before .before .before .answer .given .0 .0 .«over_incident»))
 
 add-result : tie.Need-add-result
-add-result c = omega (arith, byte-small (c .before .answer .given .0 .0), byte-small (c .before .answer .given .0 .1 .0))
+add-result c = omega (arith, byte-small (c .before .before .before .answer .given .0 .0 .«boundary_free»), byte-small (c .before .before .before .answer .given .0 .0 .«over_incident»))
 
 enum-known-answer-2 : tie.Need-enum-known-answer-2
 enum-known-answer-2 c = search needs
@@ -32,7 +32,7 @@ add-result-2 c = search needs
 
 returns : tie.Need-returns
 unfolding edgeChainNumber
-returns c = rw (c .before .answer .given .1, byte-bit (c .before .answer .given .0 .0), byte-bit (c .before .answer .given .0 .1 .0))
+returns c = rw (c .before .before .before .answer .given .1, byte-bit (c .before .before .before .answer .given .0 .0 .«boundary_free»), byte-bit (c .before .before .before .answer .given .0 .0 .«over_incident»))
 
 returns-2 : tie.Need-returns-2
 unfolding edgeChainNumber

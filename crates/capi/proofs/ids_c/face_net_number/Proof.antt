@@ -12,18 +12,18 @@ use Rattle.capi.proofs.ids_c.face_net_number.Lts as lts
 enum-known-answer : tie.Need-enum-known-answer
 enum-known-answer c = search needs
 
-small : (c : lts.After-known-told reads.Pre reads.Post) → c .before .answer .given .0 .0 ≤ 98304
+small : (c : lts.After-known-told reads.Pre reads.Post) → c .before .answer .given .0 .0 .«max_abs» ≤ 98304
 unfolding Small
 small c = rw (c .before .answer .given .1) at (c .before .before .before .pre)
 
 mul-result : tie.Need-mul-result
-mul-result c = omega (arith, small c)
+mul-result c = omega (arith, small (c .before))
 
 cast-result : tie.Need-cast-result
 cast-result c = search needs
 
 add-result : tie.Need-add-result
-add-result c = omega (arith, small c, byte-small (c .before .answer .given .0 .1 .0))
+add-result c = omega (arith, small (c .before .before), byte-small (c .before .before .before .answer .given .0 .0 .«all_cancel»))
 
 enum-known-answer-2 : tie.Need-enum-known-answer-2
 enum-known-answer-2 c = search needs
@@ -36,7 +36,7 @@ add-result-2 c = search needs
 
 returns : tie.Need-returns
 unfolding faceNetNumber
-returns c = rw (c .before .answer .given .1, byte-bit (c .before .answer .given .0 .1 .0))
+returns c = rw (c .before .before .before .answer .given .1, byte-bit (c .before .before .before .answer .given .0 .0 .«all_cancel»))
 
 returns-2 : tie.Need-returns-2
 unfolding faceNetNumber

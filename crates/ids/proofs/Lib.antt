@@ -6,7 +6,10 @@ pub mod Uses
 pub mod Same
 pub mod Bits
 pub mod Keys
+pub mod Times
 pub mod Meaning
+pub mod Winding
+pub mod Answers
 pub mod Examples
 pub mod Groups
 pub mod Shared

@@ -16,7 +16,7 @@ use Rattle.ids.proofs.Same.{both, edge-eq, edge-refl, face-eq, face-ref
 use Rattle.ids.proofs.Keys.{none-each, each-none, some-key, max-each, max-reached, unused-zero}
 
 -- a sum whose magnitude is 0 is 0
-abs-zero : (z : ℤ) → natAbs z ≡ 0 → z ≡ pos 0
+pub abs-zero : (z : ℤ) → natAbs z ≡ 0 → z ≡ pos 0
 abs-zero (pos zero) e = refl
 abs-zero (pos (suc n)) e = absurd (omega arith)
 abs-zero (negsuc n) e = absurd (omega arith)
@@ -26,7 +26,7 @@ unfolding bit
 bit-none true e = absurd (omega arith)
 bit-none false e = refl
 
-bit-some : (b : Bool) → 0 < bit b → b ≡ true
+pub bit-some : (b : Bool) → 0 < bit b → b ≡ true
 unfolding bit
 bit-some true l = refl
 bit-some false l = absurd (omega arith)
@@ -35,10 +35,10 @@ none-bit : (b : Bool) → b ≡ false → bit b ≡ 0
 unfolding bit
 none-bit b e = rw e
 
-above : (n : ℕ) → ltb 0 n ≡ true → 0 < n
+pub above : (n : ℕ) → ltb 0 n ≡ true → 0 < n
 above n e = elim (decLt 0 n) [ yes l ↦ l | no l ↦ absurd (false≢true (sym (le-ltb 0 n (omega arith)) ∙ e)) ]
 
-and-true : (a b : Bool) → a ≡ true → b ≡ true → a && b ≡ true
+pub and-true : (a b : Bool) → a ≡ true → b ≡ true → a && b ≡ true
 and-true a b p q = rw (p, q)
 
 not-false : (b : Bool) → not b ≡ false → b ≡ true

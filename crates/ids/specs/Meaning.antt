@@ -1,13 +1,13 @@
--- What the answers say of every edge and every face, in the words of document 01. `proofs/Meaning.antt` shows that each answer is yes exactly where this holds.
+-- What the answers say of every edge and every face, in the words of document 01, and the one statement that each answer is yes exactly where this holds.
 use mathlib.Core.Path.{_≡_}
 use mathlib.Core.Bool.{Bool, true}
 use mathlib.Core.List.{List}
-use Prim.Native.Nat.{ℕ, _≤_, _<_}
+use Prim.Native.Nat.{ℕ, _*_, _≤_, _<_}
 use lib.IntN.{pos, natAbs}
 use lib.ListN.{length}
-use Rattle.ids.specs.Uses.{uses, signed}
-use Rattle.ids.specs.EdgeChain.{Edge, sameEdge, chain, enough, properEdges}
-use Rattle.ids.specs.FaceNet.{Face, sameFace, faces}
+use Rattle.ids.specs.Uses.{times, uses, signed}
+use Rattle.ids.specs.EdgeChain.{Edge, sameEdge, chain, enough, properEdges, boundaryFree, overIncident, closedManifold, windingCoherent}
+use Rattle.ids.specs.FaceNet.{Face, sameFace, faces, maxAbs, allCancel}
 
 -- yes exactly where P holds
 pub record Tells (answer : Bool) (P : Type 0) : Type 0 where
@@ -37,3 +37,35 @@ AllCancel ids = (f : Face) → signed sameFace f (faces ids) ≡ pos 0
 pub record LargestFaceSum (ids : List ℕ) (m : ℕ) : Type 0 where
   pub above : (f : Face) → natAbs (signed sameFace f (faces ids)) ≤ m
   pub reached : 0 < m → (f : Face) × (natAbs (signed sameFace f (faces ids)) ≡ m)
+
+-- ---- `winding_coherent`
+
+-- a list of just the edges of which P holds, each once
+pub record EachOnce (P : Edge → Type 0) (edges : List Edge) : Type 0 where
+  pub once : (e : Edge) → P e → times sameEdge e edges ≡ 1
+  pub only : (e : Edge) → 0 < times sameEdge e edges → P e
+
+-- used neither once nor twice, once each way
+pub record Incoherent (ids : List ℕ) (e : Edge) : Type 0 where
+  pub used : 0 < uses sameEdge e (properEdges ids)
+  pub not-once : uses sameEdge e (properEdges ids) ≡ 1 → ⊥
+  pub not-paired : uses sameEdge e (properEdges ids) ≡ 2 → signed sameEdge e (properEdges ids) ≡ pos 0 → ⊥
+
+-- some edge exists, and at most one in fifty is incoherent
+pub record WindingCoherent (ids : List ℕ) : Type 0 where
+  pub long-enough : enough (length ids) ≡ true
+  pub edges : List Edge
+  pub bad : List Edge
+  pub all-edges : EachOnce (λ e. 0 < uses sameEdge e (properEdges ids)) edges
+  pub all-bad : EachOnce (Incoherent ids) bad
+  pub some : 0 < length edges
+  pub few : 50 * length bad ≤ length edges
+
+-- ---- each answer is yes exactly where the above holds (`answers-mean`)
+pub record AnswersMean (ids : List ℕ) : Type 0 where
+  pub boundary-free : Tells (boundaryFree ids) (BoundaryFree ids)
+  pub over-incident : Tells (overIncident ids) (OverIncident ids)
+  pub closed-manifold : Tells (closedManifold ids) (ClosedManifold ids)
+  pub winding-coherent : Tells (windingCoherent ids) (WindingCoherent ids)
+  pub all-cancel : Tells (allCancel ids) (AllCancel ids)
+  pub max-abs : LargestFaceSum ids (maxAbs ids)

@@ -1,4 +1,4 @@
--- What the contracts of `floats` cite, one idea a file, over both formats; `Nearest` and the records of `Integral` say what that is worth to a
+-- What the contracts of `floats` cite, one idea a file, over both formats; `Nearest`, `Integer` and the records of `Integral` say what that is worth to a
 -- reader, `Answers` that it leaves no choice, and `Examples` tries each on a few values. `WholeNumber` says what the laws on whole numbers suppose.
 -- A conversion to an integer is the model's own `toSigned` or `toUnsigned`, a pattern its `toBits` and `ofBits`.
 pub mod Magnitude
@@ -6,6 +6,7 @@ pub mod Order
 pub mod Integral
 pub mod Rounded
 pub mod Root
+pub mod Integer
 pub mod WholeNumber
 pub mod Nearest
 pub mod Cube

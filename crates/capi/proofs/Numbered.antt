@@ -16,7 +16,7 @@ use Rattle.refusals.specs.Refusals.{checkOf, first, workWords, rasterBytes}
 use Rattle.qto.specs.declared.Answer.{Answer}
 use Rattle.qto.specs.Full.{recordOf, surfacesAfter}
 use Rattle.qto.specs.Compute.{answerAt, areaAt, Computes}
-use Rattle.qto.specs.Numbers.{wordsOf, withFlags, numberAt, wordsAt, checkFlags, ComputesNumbered}
+use Rattle.qto.specs.Numbers.{wordsOf, withFlags, numberAt, wordsAt, checkFlags, ComputesNumbered, ComputeNumberedOne}
 
 -- ---- an answer as a number and as words
 
@@ -92,10 +92,7 @@ module _ (vs : List Float) (ids : List ℕ) (u : Float) (clip defect : ℕ) (w r
     refused n ha = numbered (0x8000_0000 + n) words (sym (ap answerNumber ha)) (sym (ap (answerWords clip defect words) ha))
 
 -- any two numbers that the contract allows are equal, and so is what is left in the record's words and in the areas
-pub compute-numbered-one : (vs : List Float) (ids : List ℕ) (u : Float) (clip defect : ℕ) (w r : List ℕ) (s : List Float) (words : List ℕ)
-    (n m : ℕ) (w₁ w₂ r₁ r₂ : List ℕ) (s₁ s₂ : List Float) (words₁ words₂ : List ℕ)
-    → ComputesNumbered vs ids u clip defect w r s words n w₁ r₁ s₁ words₁ → ComputesNumbered vs ids u clip defect w r s words m w₂ r₂ s₂ words₂
-    → (n ≡ m) × (words₁ ≡ words₂) × (w₁ ≡ w₂) × (r₁ ≡ r₂) × (s₁ ≡ s₂)
+pub compute-numbered-one : ComputeNumberedOne
 compute-numbered-one vs ids u clip defect w r s words n m w₁ w₂ r₁ r₂ s₁ s₂ words₁ words₂ x y =
     (x .number ∙ sym (y .number), x .record-words ∙ sym (y .record-words), x .work ∙ sym (y .work), x .raster ∙ sym (y .raster), x .surfaces ∙ sym (y .surfaces))
 

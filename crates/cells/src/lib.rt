@@ -1,4 +1,4 @@
-// The cells of a weld: which cell a vertex is in, and a table in lent words of the first vertex in each. Internal: `weld` asks it.
+// The cells of a weld: which cell a vertex is in, and a table in lent words of the first vertex in each. Internal: `weld` asks it; `surfaces` has an integer as an unsigned number from here.
 ghost use mathlib.Core.Path.{_≡_};
 ghost use Prim.Native.Nat.{_+_, _-_, _*_, _/_, _%_, _^_, _≤_, _<_, min};
 ghost use lib.ListN.{length, getD, set};

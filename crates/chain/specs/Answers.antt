@@ -6,7 +6,7 @@ use lib.ListN.{length}
 use Rattle.ids.specs.Triangles.{triangleCount}
 use Rattle.ids.specs.EdgeChain.{boundaryFree, overIncident, closedManifold, windingCoherent}
 use Rattle.ids.specs.FaceNet.{maxAbs, allCancel}
-use Rattle.ids.specs.Lent.{Gives}
+use Rattle.ids.specs.Lent.{Gives, OneGiven}
 use Rattle.tally.specs.declared.Incidence.{Incidence}
 use Rattle.tally.specs.declared.Net.{Net}
 use Rattle.chain.specs.declared.EdgeChain.{EdgeChain}
@@ -38,3 +38,17 @@ ClosedManifoldGiven = VerdictGiven closedManifold
 
 abbrev pub WindingCoherentGiven : List ℕ → List ℕ → Verdict → List ℕ → Type 0
 WindingCoherentGiven = VerdictGiven windingCoherent
+
+-- ---- each leaves one answer and one area (`edge-chain-one`, `face-net-one`, `closed-manifold-one`, `winding-coherent-one`)
+
+abbrev pub EdgeChainOne : Type 0
+EdgeChainOne = OneGiven EdgeChainGiven
+
+abbrev pub FaceNetOne : Type 0
+FaceNetOne = OneGiven FaceNetGiven
+
+abbrev pub ClosedManifoldOne : Type 0
+ClosedManifoldOne = OneGiven ClosedManifoldGiven
+
+abbrev pub WindingCoherentOne : Type 0
+WindingCoherentOne = OneGiven WindingCoherentGiven

@@ -1,4 +1,4 @@
-// The faces of the triangles of a list of ids, counted in a table in lent words. Internal: `chain` asks it.
+// The faces of the triangles of a list of ids, counted in a table in lent words. Internal: `chain` and `tally` ask it.
 ghost use mathlib.Core.Path.{_≡_};
 ghost use mathlib.Core.Bool.{cond};
 ghost use mathlib.Core.List.{List, [], _∷_, _++_};

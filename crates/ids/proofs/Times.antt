@@ -8,17 +8,17 @@ use lib.ListN.{length}
 use Rattle.ids.specs.Uses.{bit, sumBy, times}
 
 -- those that pass
-unfoldable pub those : {K : Type 0} → (K → Bool) → List K → List K
-those p [] = []
-those p (k ∷ ks) = cond (p k) (k ∷ those p ks) (those p ks)
+unfoldable pub passing : {K : Type 0} → (K → Bool) → List K → List K
+passing p [] = []
+passing p (k ∷ ks) = cond (p k) (k ∷ passing p ks) (passing p ks)
 
 -- how many pass, as a sum
-pub those-length : {K : Type 0} (p : K → Bool) (ks : List K) → length (those p ks) ≡ sumBy (λ k. bit (p k)) ks
-unfolding sumBy bit those
-those-length p [] = refl
-those-length p (k ∷ ks) = go (p k) (those-length p ks)
+pub passing-length : {K : Type 0} (p : K → Bool) (ks : List K) → length (passing p ks) ≡ sumBy (λ k. bit (p k)) ks
+unfolding sumBy bit passing
+passing-length p [] = refl
+passing-length p (k ∷ ks) = go (p k) (passing-length p ks)
   where
-    go : (b : Bool) → length (those p ks) ≡ sumBy (λ j. bit (p j)) ks → length (cond b (k ∷ those p ks) (those p ks)) ≡ bit b + sumBy (λ j. bit (p j)) ks
+    go : (b : Bool) → length (passing p ks) ≡ sumBy (λ j. bit (p j)) ks → length (cond b (k ∷ passing p ks) (passing p ks)) ≡ bit b + sumBy (λ j. bit (p j)) ks
     go true ih = omega (arith, ih)
     go false ih = omega (arith, ih)
 
@@ -29,13 +29,13 @@ ones-length p (k ∷ ks) h = let one : bit (p k) ≡ 1 = rw (h k) refl in omega 
 
 module _ {K : Type 0} (same : K → K → Bool) (same-eq : (a b : K) → same a b ≡ true → a ≡ b) (same-refl : (a : K) → same a a ≡ true) where
   -- a key that passes stands as often among those that pass, and one that does not never
-  pub those-times : (p : K → Bool) (k : K) (ks : List K) → times same k (those p ks) ≡ bit (p k) * times same k ks
-  unfolding times sumBy bit those
-  those-times p k [] = omega arith
-  those-times p k (j ∷ ks) = go (same k j) refl (p j) refl (those-times p k ks)
+  pub passing-times : (p : K → Bool) (k : K) (ks : List K) → times same k (passing p ks) ≡ bit (p k) * times same k ks
+  unfolding times sumBy bit passing
+  passing-times p k [] = omega arith
+  passing-times p k (j ∷ ks) = go (same k j) refl (p j) refl (passing-times p k ks)
     where
-      go : (s : Bool) → same k j ≡ s → (q : Bool) → p j ≡ q → times same k (those p ks) ≡ bit (p k) * times same k ks
-          → times same k (cond q (j ∷ those p ks) (those p ks)) ≡ bit (p k) * (bit s + times same k ks)
+      go : (s : Bool) → same k j ≡ s → (q : Bool) → p j ≡ q → times same k (passing p ks) ≡ bit (p k) * times same k ks
+          → times same k (cond q (j ∷ passing p ks) (passing p ks)) ≡ bit (p k) * (bit s + times same k ks)
       go true hs true hq ih = let one : bit (p k) ≡ 1 = ap bit (ap p (same-eq k j hs) ∙ hq) in rw (hs, one) (omega (arith, rw one at ih))
       go true hs false hq ih = let none : bit (p k) ≡ 0 = ap bit (ap p (same-eq k j hs) ∙ hq) in rw none (omega (arith, rw none at ih))
       go false hs true hq ih = rw hs (omega (arith, ih))

@@ -14,7 +14,7 @@ use Rattle.ids.specs.EdgeChain.{Edge, sameEdge, edgesThat, present, inco
 use Rattle.ids.specs.Meaning.{Tells, EachOnce, Incoherent, WindingCoherent}
 use Rattle.ids.proofs.Same.{both, edge-eq, edge-refl}
 use Rattle.ids.proofs.Keys.{keys-once}
-use Rattle.ids.proofs.Times.{those, those-length, those-times, ones-length, same-length}
+use Rattle.ids.proofs.Times.{passing, passing-length, passing-times, ones-length, same-length}
 use Rattle.ids.proofs.Meaning.{abs-zero, bit-some, above, and-true}
 
 -- ---- used neither once nor twice, once each way
@@ -61,7 +61,7 @@ module _ (ids : List ℕ) where
   isBad e = incoherent (usesOf e) (natAbs (signed sameEdge e (properEdges ids)))
 
   abbrev bad : List Edge
-  bad = those isBad edges
+  bad = passing isBad edges
 
   edges-count : present-edges ≡ length edges
   unfolding keysThat present
@@ -69,7 +69,7 @@ module _ (ids : List ℕ) where
 
   bad-count : bad-edges ≡ length bad
   unfolding keysThat
-  bad-count = sym (those-length isBad edges)
+  bad-count = sym (passing-length isBad edges)
 
   edge-times : (e : Edge) → times sameEdge e edges ≡ bit (ltb 0 (usesOf e))
   unfolding times
@@ -83,7 +83,7 @@ module _ (ids : List ℕ) where
   }
 
   bad-times : (e : Edge) → times sameEdge e bad ≡ bit (isBad e) * bit (ltb 0 (usesOf e))
-  bad-times e = those-times sameEdge edge-eq edge-refl isBad e edges ∙ ap (λ n. bit (isBad e) * n) (edge-times e)
+  bad-times e = passing-times sameEdge edge-eq edge-refl isBad e edges ∙ ap (λ n. bit (isBad e) * n) (edge-times e)
 
   is-bad : (e : Edge) → Incoherent ids e → isBad e ≡ true
   is-bad e h = incoherent-told _ _ (h .not-once) (λ two none. h .not-paired two (abs-zero _ none))

@@ -27,10 +27,11 @@ sorted t = record {
 unfoldable pub falls : Triangle → ℕ
 falls t = bit (ltb (t .b) (t .a)) + (bit (ltb (t .c) (t .b)) + bit (ltb (t .c) (t .a)))
 
--- the use that a triangle makes: none if it repeats an id
+-- the use that a triangle of three distinct ids makes
 unfoldable pub faceUse : Triangle → Use Face
 faceUse t = record { key = sorted t; up = eqb (falls t % 2) 0 }
 
+-- none if it repeats an id
 unfoldable pub face : Triangle → List (Use Face)
 face t = cond (distinct t) (faceUse t ∷ []) []
 

@@ -29,3 +29,9 @@ areaAfter (suc n) needed area = area
 pub record Gives {A : Type 0} (needed : ℕ) (refused : ℕ → A) (answer : A) (ids area : List ℕ) (r : A) (after : List ℕ) : Type 0 where
   pub answers : r ≡ unlessRefused (refusal (length ids) needed (length area)) refused answer
   pub leaves : after ≡ areaAfter (refusal (length ids) needed (length area)) needed area
+
+-- ---- a contract leaves one answer and one area (`gives-one`)
+
+-- any two answers that a contract allows are equal, and so is what is left in the area
+abbrev pub OneGiven : {A : Type 0} → (List ℕ → List ℕ → A → List ℕ → Type 0) → Type 0
+OneGiven {A} Given = (ids area : List ℕ) (r r′ : A) (after after′ : List ℕ) → Given ids area r after → Given ids area r′ after′ → (r ≡ r′) × (after ≡ after′)

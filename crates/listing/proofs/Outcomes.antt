@@ -11,7 +11,7 @@ use lib.Ieee.{Float}
 use Rattle.record.specs.declared.MeshQto.{MeshQto}
 use Rattle.listing.specs.declared.Listed.{Listed}
 use Rattle.listing.specs.Listing.{refusedLine}
-use Rattle.listing.specs.Lists.{textBytes, areasShort, listedAs, areaWith, listingFor, Lists, ListsRefusal}
+use Rattle.listing.specs.Lists.{textBytes, areasShort, listedAs, areaWith, listingFor, Lists, ListsRefusal, ListOne, ListRefusalOne}
 use Rattle.spelling.specs.Steps.{written, Puts}
 
 -- ---- too short, or not
@@ -55,9 +55,8 @@ module _ (n : ℕ) (area : List ℕ) where
 
 -- ---- any two answers that the contract allows are equal, and so is what is left in the area
 
-pub list-one : (q : MeshQto) (s : List Float) (pieces : ℕ) (area : List ℕ) (r₁ r₂ : Listed) (area₁ area₂ : List ℕ) → Lists q s pieces area r₁ area₁ → Lists q s pieces area r₂ area₂
-    → (r₁ ≡ r₂) × (area₁ ≡ area₂)
+pub list-one : ListOne
 list-one q s pieces area r₁ r₂ area₁ area₂ x y = (x .answers ∙ sym (y .answers), x .text ∙ sym (y .text))
 
-pub list-refusal-one : (n : ℕ) (area : List ℕ) (r₁ r₂ : Listed) (area₁ area₂ : List ℕ) → ListsRefusal n area r₁ area₁ → ListsRefusal n area r₂ area₂ → (r₁ ≡ r₂) × (area₁ ≡ area₂)
+pub list-refusal-one : ListRefusalOne
 list-refusal-one n area r₁ r₂ area₁ area₂ x y = (x .answers ∙ sym (y .answers), x .text ∙ sym (y .text))

@@ -42,3 +42,12 @@ pub record Lists (q : MeshQto) (s : List Float) (pieces : ℕ) (area : List ℕ)
 pub record ListsRefusal (n : ℕ) (area : List ℕ) (r : Listed) (area′ : List ℕ) : Type 0 where
   pub answers : r ≡ listedAs (ltb (length area) (textBytes 0)) (refusedLine n)
   pub text : area′ ≡ areaWith (ltb (length area) (textBytes 0)) (refusedLine n) area
+
+-- any two answers that a contract allows are equal, and so is the later area (`list-one`, `list-refusal-one`)
+abbrev pub ListOne : Type 0
+ListOne = (q : MeshQto) (s : List Float) (pieces : ℕ) (area : List ℕ) (r₁ r₂ : Listed) (area₁ area₂ : List ℕ)
+    → Lists q s pieces area r₁ area₁ → Lists q s pieces area r₂ area₂ → (r₁ ≡ r₂) × (area₁ ≡ area₂)
+
+abbrev pub ListRefusalOne : Type 0
+ListRefusalOne = (n : ℕ) (area : List ℕ) (r₁ r₂ : Listed) (area₁ area₂ : List ℕ)
+    → ListsRefusal n area r₁ area₁ → ListsRefusal n area r₂ area₂ → (r₁ ≡ r₂) × (area₁ ≡ area₂)

@@ -14,11 +14,9 @@ use Rattle.meshfile.specs.declared.Ending.{Ending}
 use Rattle.meshfile.specs.declared.MeshFile.{MeshFile}
 use Rattle.meshfile.specs.declared.Reading.{Reading}
 use Rattle.meshfile.specs.Format.{byte, half, word, most, lengthFits, File, faultIf, frontOf, flagsIn, endingOf, ended, idsIn, verticesIn, unitIn, fileOf}
-use Rattle.meshfile.specs.Reading.{areasShort, meshFile, unlessShort, readingOf, floatsAfter, idsAfter, Reads, Refuses, RefusesBy356, RefusalsWriteNothing}
+use Rattle.meshfile.specs.Reading.{areasShort, meshFile, unlessShort, readingOf, floatsAfter, idsAfter, Reads, Refuses, RefusesBy356, RefusalsWriteNothing, ReadOne}
 
--- any two answers that the contract allows are equal, and so is what is left in the areas
-pub read-one : (bytes : List ℕ) (vs : List Float) (ids : List ℕ) (r r′ : Reading) (vs₁ vs₂ : List Float) (ids₁ ids₂ : List ℕ) → Reads bytes vs ids r vs₁ ids₁
-    → Reads bytes vs ids r′ vs₂ ids₂ → (r ≡ r′) × (vs₁ ≡ vs₂) × (ids₁ ≡ ids₂)
+pub read-one : ReadOne
 read-one bytes vs ids r r′ vs₁ vs₂ ids₁ ids₂ x y = (x .answers ∙ sym (y .answers), x .floats ∙ sym (y .floats), x .ids-after ∙ sym (y .ids-after))
 
 -- ---- a fault is 5 or 6

@@ -59,3 +59,8 @@ RefusesBy356 = (bytes : List ℕ) (vs : List Float) (ids : List ℕ) (r : Readin
 abbrev pub RefusalsWriteNothing : Type 0
 RefusalsWriteNothing = (bytes : List ℕ) (vs : List Float) (ids : List ℕ) (n : ℕ) (vs′ : List Float) (ids′ : List ℕ)
     → Reads bytes vs ids (Reading.Refused n) vs′ ids′ → (vs′ ≡ vs) × (ids′ ≡ ids)
+
+-- Any two answers that the contract allows are equal, and so is what is left in the areas. (`read-one`)
+abbrev pub ReadOne : Type 0
+ReadOne = (bytes : List ℕ) (vs : List Float) (ids : List ℕ) (r r′ : Reading) (vs₁ vs₂ : List Float) (ids₁ ids₂ : List ℕ)
+    → Reads bytes vs ids r vs₁ ids₁ → Reads bytes vs ids r′ vs₂ ids₂ → (r ≡ r′) × (vs₁ ≡ vs₂) × (ids₁ ≡ ids₂)

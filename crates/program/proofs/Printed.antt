@@ -10,7 +10,7 @@ use Rattle.meshfile.specs.Format.{Contents, File, fileOf}
 use Rattle.meshfile.proofs.Bounds.{files-are-short, front-decides as file-front-decides}
 use Rattle.meshfile.proofs.One.{File56, file-56}
 use Rattle.listing.specs.Listing.{refusedLine}
-use Rattle.program.specs.Program.{textFor, textOf, Prints}
+use Rattle.program.specs.Program.{textFor, textOf, Prints, RunOne}
 use Rattle.program.specs.Promises.{FrontDecides, LongRefused}
 
 module _ (text area : List ℕ) (r : ℕ) (area′ : List ℕ) (printed : Prints text area r area′) where
@@ -20,8 +20,7 @@ module _ (text area : List ℕ) (r : ℕ) (area′ : List ℕ) (printed : Prints
   pub prints-front : r ≡ length (take r area′)
   prints-front = sym (length-take-le r area′ prints-inside)
 
--- any two answers that the contract of `run` allows are equal, and so is what stands in the area
-pub run-one : (bytes area : List ℕ) (r₁ r₂ : ℕ) (area₁ area₂ : List ℕ) → Prints (textOf bytes) area r₁ area₁ → Prints (textOf bytes) area r₂ area₂ → (r₁ ≡ r₂) × (area₁ ≡ area₂)
+pub run-one : RunOne
 run-one bytes area r₁ r₂ area₁ area₂ x y = (x .answers ∙ sym (y .answers), x .later ∙ sym (y .later))
 
 -- ---- input that is longer than any file

@@ -40,7 +40,7 @@ use Rattle.refusals.specs.Refusals.{Passes, checkOf}
 use Rattle.refusals.proofs.Checks.{admitted}
 use Rattle.qto.specs.declared.Answer.{Answer}
 use Rattle.qto.specs.Compute.{Computes, answerAt}
-use Rattle.qto.specs.Domain.{FiniteBound, FiniteRecord, FiniteRows}
+use Rattle.qto.specs.Domain.{FiniteBound, FiniteRecord, FiniteRows, ComputesFinite, RowsFinite}
 use Rattle.qto.specs.Full.{square, cube, totals, volumeOf, surfaceOf, buckets, surfaceRows, measuresFrom, measures, verdict, best, recordFrom, recordBy, recordOf}
 use Rattle.qto.proofs.FinitePrism.{prism-finite}
 use Rattle.qto.proofs.Measured.{unit-ends}
@@ -163,9 +163,9 @@ module _ (vs : List Float) (ids : List ℕ) (u : Float) (p : Passes vs ids u) wh
   few : triangleCount ids ≤ 32768
   few = omega (arith, p .ids-most)
 
-  pub rows-finite : FiniteRows (surfaceRows vs ids u)
+  rows-all-finite : FiniteRows (surfaceRows vs ids u)
   unfolding surfaceRows buckets
-  rows-finite =
+  rows-all-finite =
       sorted-finite (scaled (square u) (rows (buckets vs ids)))
       (scaled-finite (triangleCount ids) few (square u) (square-within u (ends .0) (ends .1)) (buckets vs ids) (buckets-within vs ids (triangleCount ids) (p .fine) few))
 
@@ -198,12 +198,14 @@ module _ (vs : List Float) (ids : List ℕ) (u : Float) (p : Passes vs ids u) wh
       }
 
 -- ---- what comes back
+pub rows-finite : RowsFinite
+rows-finite vs ids u p = rows-all-finite vs ids u p
+
 zero-finite : FiniteRecord zeroRecord
 unfolding ofBits
 zero-finite = record { volume = tt; aabb = tt; surface = tt; top = tt; bottom = tt; side = tt; inclined = tt; largest = tt; smallest = tt; best = tt; prism = tt }
 
-pub computes-finite : (vs : List Float) (ids : List ℕ) (u : Float) (w r : List ℕ) (s : List Float) (a : Answer) (w′ r′ : List ℕ) (s′ : List Float) (q : MeshQto)
-    → Computes vs ids u w r s a w′ r′ s′ → a ≡ Answer.Record q → FiniteRecord q
+pub computes-finite : ComputesFinite
 unfolding answerAt
 computes-finite vs ids u w r s a w′ r′ s′ q c e = go (checkOf vs ids u (length w) (length r) (length s)) refl (sym (c .answers) ∙ e)
   where

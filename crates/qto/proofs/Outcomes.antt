@@ -11,7 +11,7 @@ use Rattle.refusals.specs.declared.Check.{Check}
 use Rattle.refusals.specs.Refusals.{checkOf, workWords, rasterBytes}
 use Rattle.qto.specs.declared.Answer.{Answer}
 use Rattle.qto.specs.Full.{recordOf, surfacesAfter}
-use Rattle.qto.specs.Compute.{answerAt, areaAt, Computes}
+use Rattle.qto.specs.Compute.{answerAt, areaAt, Computes, ComputeOne}
 
 module _ (vs : List Float) (ids : List ℕ) (u : Float) (w r : List ℕ) (s : List Float) where
   abbrev said : Check
@@ -48,8 +48,6 @@ module _ (vs : List Float) (ids : List ℕ) (u : Float) (w r : List ℕ) (s : Li
         surfaces = hs ∙ ap (λ (c : Check). areaAt c (surfacesAfter vs ids u s) s) (sym h ∙ e);
       }
 
--- any two answers that the contract allows are equal, and so is what is left in the areas
-pub compute-one : (vs : List Float) (ids : List ℕ) (u : Float) (w r : List ℕ) (s : List Float) (a a′ : Answer) (w₁ w₂ r₁ r₂ : List ℕ) (s₁ s₂ : List Float)
-    → Computes vs ids u w r s a w₁ r₁ s₁ → Computes vs ids u w r s a′ w₂ r₂ s₂ → (a ≡ a′) × (w₁ ≡ w₂) × (r₁ ≡ r₂) × (s₁ ≡ s₂)
+pub compute-one : ComputeOne
 compute-one vs ids u w r s a a′ w₁ w₂ r₁ r₂ s₁ s₂ x y =
     (x .answers ∙ sym (y .answers), x .work ∙ sym (y .work), x .raster ∙ sym (y .raster), x .surfaces ∙ sym (y .surfaces))

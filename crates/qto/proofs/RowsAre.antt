@@ -1,19 +1,15 @@
 -- The surface rows are in order, and exactly the keys' sums.
-use mathlib.Core.List.{List}
-use Prim.Native.Nat.{ℕ}
-use lib.Ieee.{Float}
 use Rattle.ids.specs.Triangles.{triangleCount}
 use Rattle.sums.specs.Box.{box, origin}
 use Rattle.rows.specs.Rows.{scaled}
 use Rattle.rows.proofs.Order.{sorted-in-order, sorted-same}
 use Rattle.surfaces.specs.Surfaces.{rows}
 use Rattle.walk.proofs.Worth.{buckets-sums, buckets-keys, buckets-apart, buckets-plain}
-use Rattle.refusals.specs.Refusals.{Passes}
 use Rattle.qto.specs.Full.{square, buckets, surfaceRows}
-use Rattle.qto.specs.Surfaces.{RowsAre}
+use Rattle.qto.specs.Surfaces.{SurfaceRowsAre}
 use Rattle.qto.proofs.Measured.{unit-square}
 
-pub rows-are : (vs : List Float) (ids : List ℕ) (u : Float) → Passes vs ids u → RowsAre vs ids u
+pub rows-are : SurfaceRowsAre
 unfolding surfaceRows buckets
 rows-are vs ids u p =
     record {

@@ -30,3 +30,9 @@ pub record Computes (vs : List Float) (ids : List ℕ) (u : Float) (w r : List �
   pub work : w′ ≡ areaAt (checkOf vs ids u (length w) (length r) (length s)) (cleared (workWords (length vs) (length ids)) w) w
   pub raster : r′ ≡ areaAt (checkOf vs ids u (length w) (length r) (length s)) (cleared rasterBytes r) r
   pub surfaces : s′ ≡ areaAt (checkOf vs ids u (length w) (length r) (length s)) (surfacesAfter vs ids u s) s
+
+-- any two answers that the contract allows are equal, and so is what is left in the areas (`compute-one`)
+abbrev pub ComputeOne : Type 0
+ComputeOne =
+    (vs : List Float) (ids : List ℕ) (u : Float) (w r : List ℕ) (s : List Float) (a a′ : Answer) (w₁ w₂ r₁ r₂ : List ℕ) (s₁ s₂ : List Float)
+    → Computes vs ids u w r s a w₁ r₁ s₁ → Computes vs ids u w r s a′ w₂ r₂ s₂ → (a ≡ a′) × (w₁ ≡ w₂) × (r₁ ≡ r₂) × (s₁ ≡ s₂)

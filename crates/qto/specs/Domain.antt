@@ -1,10 +1,17 @@
--- Domain (01): no sum overflows. What the numbers of a record are for a mesh of the domain (`computes-finite`, `rows-finite`).
+-- Domain (01): no sum overflows. What the numbers of a record are for a mesh of the domain. (`computes-finite`, `rows-finite`)
+use mathlib.Core.Path.{_≡_}
 use mathlib.Core.List.{List, [], _∷_}
+use Prim.Native.Nat.{ℕ}
 use lib.Dec.{T}
+use lib.Ieee.{Float}
 use lib.Ieee.Scale.{finite}
 use Rattle.rows.specs.declared.PlanarSurface.{PlanarSurface}
 use Rattle.volume.specs.declared.PrismBound.{PrismBound}
 use Rattle.record.specs.declared.MeshQto.{MeshQto}
+use Rattle.refusals.specs.Refusals.{Passes}
+use Rattle.qto.specs.declared.Answer.{Answer}
+use Rattle.qto.specs.Full.{surfaceRows}
+use Rattle.qto.specs.Compute.{Computes}
 
 abbrev pub FiniteBound : PrismBound → Type 0
 FiniteBound PrismBound.NotComputed = Unit {0}
@@ -28,3 +35,13 @@ pub record FiniteRecord (q : MeshQto) : Type 0 where
 unfoldable pub FiniteRows : List PlanarSurface → Type 0
 FiniteRows [] = Unit {0}
 FiniteRows (r ∷ rs) = T (finite (r .area)) × FiniteRows rs
+
+-- ---- every record that the contract allows, and the rows of every mesh that gets a full one
+
+abbrev pub ComputesFinite : Type 0
+ComputesFinite =
+    (vs : List Float) (ids : List ℕ) (u : Float) (w r : List ℕ) (s : List Float) (a : Answer) (w′ r′ : List ℕ) (s′ : List Float) (q : MeshQto)
+    → Computes vs ids u w r s a w′ r′ s′ → a ≡ Answer.Record q → FiniteRecord q
+
+abbrev pub RowsFinite : Type 0
+RowsFinite = (vs : List Float) (ids : List ℕ) (u : Float) → Passes vs ids u → FiniteRows (surfaceRows vs ids u)

@@ -66,3 +66,11 @@ pub record ComputesNumbered (vs : List Float) (ids : List ℕ) (u : Float) (clip
   pub work : w′ ≡ areaAt (checkAll vs ids u clip defect w r s) (cleared (workWords (length vs) (length ids)) w) w
   pub raster : r′ ≡ areaAt (checkAll vs ids u clip defect w r s) (cleared rasterBytes r) r
   pub surfaces : s′ ≡ areaAt (checkAll vs ids u clip defect w r s) (surfacesAfter vs ids u s) s
+
+-- any two outcomes that it allows are equal (`compute-numbered-one`)
+abbrev pub ComputeNumberedOne : Type 0
+ComputeNumberedOne =
+    (vs : List Float) (ids : List ℕ) (u : Float) (clip defect : ℕ) (w r : List ℕ) (s : List Float) (words : List ℕ)
+    (n m : ℕ) (w₁ w₂ r₁ r₂ : List ℕ) (s₁ s₂ : List Float) (words₁ words₂ : List ℕ)
+    → ComputesNumbered vs ids u clip defect w r s words n w₁ r₁ s₁ words₁ → ComputesNumbered vs ids u clip defect w r s words m w₂ r₂ s₂ words₂
+    → (n ≡ m) × (words₁ ≡ words₂) × (w₁ ≡ w₂) × (r₁ ≡ r₂) × (s₁ ≡ s₂)

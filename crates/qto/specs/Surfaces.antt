@@ -10,6 +10,7 @@ use Rattle.rows.specs.Sorting.{InOrder, SameRows}
 use Rattle.surfaces.specs.declared.Key.{Key}
 use Rattle.surfaces.specs.Surfaces.{areaFor, hasKey, Apart, rows}
 use Rattle.walk.specs.Walk.{sumFor, keyAmong}
+use Rattle.refusals.specs.Refusals.{Passes}
 use Rattle.qto.specs.Full.{square, buckets, surfaceRows}
 
 pub record RowsAre (vs : List Float) (ids : List ℕ) (u : Float) : Type 0 where
@@ -23,3 +24,6 @@ pub record RowsAre (vs : List Float) (ids : List ℕ) (u : Float) : Type 0 where
   pub keys : (k : Key) → hasKey k (buckets vs ids) ≡ keyAmong vs (origin (box vs)) ids k (triangleCount ids)
   -- and its area is the sum of the areas of these triangles, in their order
   pub sums : (k : Key) → areaFor k (buckets vs ids) ≡ sumFor vs (origin (box vs)) ids k (triangleCount ids)
+
+abbrev pub SurfaceRowsAre : Type 0
+SurfaceRowsAre = (vs : List Float) (ids : List ℕ) (u : Float) → Passes vs ids u → RowsAre vs ids u

@@ -1,4 +1,4 @@
--- Document 01's numbers for the cases of each enum, as the C interface has them.
+-- The numbers of the cases of each enum: those of clip and defect are document 01's (kind 4 of a file), all others the C interface's alone.
 use Prim.Native.Nat.{ℕ, zero, suc}
 use mathlib.Core.Bool.{Bool, _&&_}
 use lib.Dec.{leb}

@@ -1,4 +1,4 @@
-// What the sums of the record are made of: the box, one triangle's part, its slope, and the totals that take it. Internal: `surfaces` and `qto` ask it.
+// What the sums of the record are made of: the box, one triangle's part, its slope, and the totals that take it. Internal: `walk`, `volume` and `qto` ask it.
 ghost use mathlib.Core.Path.{_≡_};
 ghost use Prim.Native.Nat.{suc, _≤_, _<_};
 ghost use lib.Ieee.{binary64, isNan, ofBits, toBits};

@@ -20,12 +20,13 @@ pub sumTo-next : (f : ℕ → ℕ) (n : ℕ) → sumTo f (n + 1) ≡ sumTo f n +
 unfolding sumTo
 sumTo-next f n = rw add-one
 
--- a sum in which one term is d more is d more
+-- equal terms, equal sums
 pub sumTo-same : (f g : ℕ → ℕ) (n : ℕ) → ((i : ℕ) → i < n → g i ≡ f i) → sumTo g n ≡ sumTo f n
 unfolding sumTo
 sumTo-same f g zero h = refl
 sumTo-same f g (suc n) h = omega (arith, sumTo-same f g n (λ i l. h i (omega arith)), h n (omega arith))
 
+-- a sum in which one term is d more is d more
 pub sumTo-more : (f g : ℕ → ℕ) (n r d : ℕ) → r < n → ((i : ℕ) → i < n → i ≢ r → g i ≡ f i) → g r ≡ f r + d → sumTo g n ≡ sumTo f n + d
 unfolding sumTo
 sumTo-more f g zero r d l h e = omega arith

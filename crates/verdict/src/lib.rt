@@ -1,4 +1,4 @@
-// `classify_mesh_quality`: closed, open shell or degenerate. Internal: `qto` asks it.
+// `classify_mesh_quality`: closed, open shell or degenerate. Internal: `qto` asks it; the record has its enum.
 ghost use mathlib.Core.Path.{_≡_};
 ghost use Prim.Native.Nat.{_+_, _*_, _/_, _≤_};
 ghost use lib.ListN.{length, drop, replicate};

@@ -1,4 +1,4 @@
-// Which ids name a vertex. Internal: `paint` asks it.
+// Which ids name a vertex. Internal: `paint` and `sums` ask it.
 ghost use mathlib.Core.Path.{_≡_};
 ghost use Rattle.vertices.specs.Vertices.{inRange, cornersInRange};
 

@@ -1,4 +1,4 @@
-// The best volume of a mesh, by its quality: the mesh's own where that is to be trusted, else the prism. Internal: `qto` asks it.
+// The best volume of a mesh, by its quality: the mesh's own where that is to be trusted, else the prism. Internal: `qto` asks it; the record has its enums.
 ghost use mathlib.Core.Path.{_≡_};
 ghost use lib.ListN.{length, replicate};
 ghost use Rattle.raster.specs.Footprint.{axisNumber};

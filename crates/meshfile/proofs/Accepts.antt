@@ -13,7 +13,7 @@ use lib.Seq.{drop-drop, take-append-seam, drop-append-seam}
 use Rattle.record.specs.Numbers.{flagsFit}
 use Rattle.meshfile.specs.declared.Front.{Front}
 use Rattle.meshfile.specs.declared.Ending.{Ending}
-use Rattle.meshfile.specs.Format.{half, word, most, lengthFits, frontOf, flagsIn, endingOf, ended, idsIn, verticesIn, unitIn, fileOf, Contents, File}
+use Rattle.meshfile.specs.Format.{flagValues, half, word, most, lengthFits, frontOf, flagsIn, endingOf, ended, idsIn, verticesIn, unitIn, fileOf, Contents, File}
 use Rattle.meshfile.specs.Written.{bytesOf, allBytes, recordOf, plain, withFlags, Below, Proper, IsFileOf, Accepts}
 use Rattle.meshfile.proofs.Fronts.{Record, front-is}
 use Rattle.meshfile.proofs.Bytes.{four-of, length-all, words-all}
@@ -51,7 +51,7 @@ module _ (kind : ℕ) (p : eqb kind 1 ≡ false) (q : eqb kind 4 ≡ false) (ws 
 
 -- ---- the records in their order
 
-ids-written : (u : ℕ) (vs is tail : List ℕ) (c d : ℕ) → Below (2 ^ 32) is → length is ≤ most → endingOf tail ≡ Ending.Flags c d
+ids-written : (u : ℕ) (vs is tail : List ℕ) (c d : ℕ) → Below (2 ^ 32) is → length is ≤ most → endingOf tail ≡ Ending.Flags (flagValues c d)
     → idsIn u vs (frontOf 3 (recordOf 3 (allBytes is) ++ tail)) (recordOf 3 (allBytes is) ++ tail) ≡ File.Holds (record { unit = u; vertices = vs; ids = is; clip = c; defect = d })
 unfolding idsIn ended
 ids-written u vs is tail c d b few e =
@@ -81,14 +81,14 @@ unit-written u rest x h e = rw (unit-front u rest, unit-word u rest h, unit-behi
 
 -- ---- the end
 
-flags-written : (c d : ℕ) → T (flagsFit c d) → endingOf (recordOf 4 (c ∷ d ∷ [])) ≡ Ending.Flags c d
+flags-written : (c d : ℕ) → T (flagsFit c d) → endingOf (recordOf 4 (c ∷ d ∷ [])) ≡ Ending.Flags (flagValues c d)
 unfolding endingOf recordOf bytesOf flagsIn frontOf half word lengthFits
 flags-written c d h = rw (is-true (flagsFit c d) h)
 
 pub appended : (a b c t : List ℕ) → (a ++ (b ++ c)) ++ t ≡ a ++ (b ++ (c ++ t))
 appended a b c t = simp append-assoc
 
-file-written : (m : Contents) (tail : List ℕ) → Proper m → endingOf tail ≡ Ending.Flags (m .clip) (m .defect) → fileOf (plain m ++ tail) ≡ File.Holds m
+file-written : (m : Contents) (tail : List ℕ) → Proper m → endingOf tail ≡ Ending.Flags (flagValues (m .clip) (m .defect)) → fileOf (plain m ++ tail) ≡ File.Holds m
 unfolding plain
 file-written m tail p e =
     rw (appended (recordOf 1 (bytesOf (m .unit))) (recordOf 2 (allBytes (m .vertices))) (recordOf 3 (allBytes (m .ids))) tail)

@@ -1,5 +1,5 @@
 -- What stands behind the ids: nothing, or kind 4 with known values and nothing behind it. Assumes nothing.
-use mathlib.Core.Path.{_≡_, refl, sym}
+use mathlib.Core.Path.{_≡_, refl, sym, ap}
 use mathlib.Core.Bool.{Bool, true, false, cond}
 use mathlib.Core.List.{List, [], _∷_}
 use Prim.Native.Nat.{ℕ, _+_, _≤_, _<_}
@@ -10,7 +10,8 @@ use lib.ListN.{length}
 use Rattle.record.specs.Numbers.{flagsFit}
 use Rattle.meshfile.specs.declared.Front.{Front}
 use Rattle.meshfile.specs.declared.Ending.{Ending}
-use Rattle.meshfile.specs.Format.{byte, frontOf, flagsIn, endingOf}
+use Rattle.meshfile.specs.declared.FlagValues.{FlagValues}
+use Rattle.meshfile.specs.Format.{flagValues, byte, frontOf, flagsIn, endingOf}
 use Rattle.meshfile.proofs.Fronts.{Record, record-of, two-bytes}
 
 pub flags-front : (n : ℕ) (bytes : List ℕ) → frontOf 4 bytes ≡ Front.Payload n → (n ≡ 2) × (8 ≤ length bytes)
@@ -19,7 +20,7 @@ flags-front n bytes h =
     let two = two-bytes n (r .fits) in
     (two, omega (arith, r .room))
 
-pub ending-none : (bytes : List ℕ) → length bytes ≡ 0 → Ending.Flags 0 0 ≡ endingOf bytes
+pub ending-none : (bytes : List ℕ) → length bytes ≡ 0 → Ending.Flags (flagValues 0 0) ≡ endingOf bytes
 unfolding endingOf
 ending-none [] h = refl
 ending-none (b ∷ bytes) h = absurd (omega arith)
@@ -39,7 +40,7 @@ module _ (n c d : ℕ) (bytes : List ℕ) (clip : c ≡ byte bytes 6) (defect : 
   unfolding flagsIn
   bytes-behind h r = rw (← clip, ← defect, h, lt-ltb (6 + n) (length bytes) r)
 
-  pub flags-last : flagsFit c d ≡ true → length bytes ≤ 6 + n → Ending.Flags c d ≡ flagsIn (Front.Payload n) bytes
+  pub flags-last : flagsFit c d ≡ true → length bytes ≤ 6 + n → Ending.Flags (flagValues c d) ≡ flagsIn (Front.Payload n) bytes
   unfolding flagsIn
   flags-last h r = rw (← clip, ← defect, h, le-ltb (6 + n) (length bytes) r)
 
@@ -56,11 +57,11 @@ pub data Ends (c d : ℕ) : List ℕ → Type 0 where
   plain : c ≡ 0 → d ≡ 0 → Ends c d []
   flags : (b : ℕ) (l : List ℕ) → Flags c d (b ∷ l) → Ends c d (b ∷ l)
 
-same-flags : (a b c d : ℕ) → Ending.Flags a b ≡ Ending.Flags c d → (a ≡ c) × (b ≡ d)
-same-flags a b c d h = (cc, cc)
+same-flags : (a b c d : ℕ) → Ending.Flags (flagValues a b) ≡ Ending.Flags (flagValues c d) → (a ≡ c) × (b ≡ d)
+same-flags a b c d h = let e : flagValues a b ≡ flagValues c d = cc in (ap (λ (v : FlagValues). v .clip) e, ap (λ (v : FlagValues). v .defect) e)
 
 flags-by : (x y : Bool) (c d : ℕ) (bytes : List ℕ) → Record 4 2 bytes → flagsFit (byte bytes 6) (byte bytes 7) ≡ x → ltb 8 (length bytes) ≡ y
-    → cond x (cond y (Ending.Fault 5) (Ending.Flags (byte bytes 6) (byte bytes 7))) (Ending.Fault 5) ≡ Ending.Flags c d → Flags c d bytes
+    → cond x (cond y (Ending.Fault 5) (Ending.Flags (flagValues (byte bytes 6) (byte bytes 7)))) (Ending.Fault 5) ≡ Ending.Flags (flagValues c d) → Flags c d bytes
 flags-by true true c d bytes r e f h = let y : _≡_ {A = ℕ} 0 1 = cc in absurd (omega arith)
 flags-by true false c d bytes r e f h =
     let s = same-flags _ _ c d h in
@@ -68,7 +69,7 @@ flags-by true false c d bytes r e f h =
     record { record-is = r; exact = omega (arith, r .room); clip = s .0; defect = s .1; known = rw (s .0, s .1) at e }
 flags-by false y c d bytes r e f h = let y : _≡_ {A = ℕ} 0 1 = cc in absurd (omega arith)
 
-flags-of : (k : Front) (c d : ℕ) (bytes : List ℕ) → frontOf 4 bytes ≡ k → flagsIn k bytes ≡ Ending.Flags c d → Flags c d bytes
+flags-of : (k : Front) (c d : ℕ) (bytes : List ℕ) → frontOf 4 bytes ≡ k → flagsIn k bytes ≡ Ending.Flags (flagValues c d) → Flags c d bytes
 unfolding flagsIn
 flags-of (Front.Fault n) c d bytes e h = let y : _≡_ {A = ℕ} 0 1 = cc in absurd (omega arith)
 flags-of (Front.Payload n) c d bytes e h =
@@ -76,7 +77,7 @@ flags-of (Front.Payload n) c d bytes e h =
     let two = two-bytes n (r .fits) in
     flags-by _ _ c d bytes (rw two at r) refl refl (rw two at h)
 
-pub ends : (c d : ℕ) (bytes : List ℕ) → endingOf bytes ≡ Ending.Flags c d → Ends c d bytes
+pub ends : (c d : ℕ) (bytes : List ℕ) → endingOf bytes ≡ Ending.Flags (flagValues c d) → Ends c d bytes
 unfolding endingOf
 ends c d [] h =
     let s = same-flags 0 0 c d h in

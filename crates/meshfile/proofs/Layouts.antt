@@ -9,7 +9,7 @@ use Rattle.meshfile.specs.declared.Front.{Front}
 use Rattle.meshfile.specs.declared.Ending.{Ending}
 use Rattle.meshfile.specs.declared.Layout.{Layout}
 use Rattle.meshfile.specs.declared.Parts.{Parts}
-use Rattle.meshfile.specs.Format.{word, words, frontOf, endingOf, ended, idsIn, verticesIn, unitIn, fileOf, Contents, File}
+use Rattle.meshfile.specs.Format.{flagValues, word, words, frontOf, endingOf, ended, idsIn, verticesIn, unitIn, fileOf, Contents, File}
 use Rattle.meshfile.specs.Steps.{partsBy, idsFrom, verticesFrom, unitFrom, layoutOf, contentsAt, fileAt}
 use Rattle.meshfile.proofs.Fronts.{Record, record-of, four-bytes, whole-words}
 
@@ -25,7 +25,7 @@ module _ (bytes : List ℕ) where
     pub unit : Record 1 4 bytes
     pub floats : Record 2 (4 * p .floats) (drop 10 bytes)
     pub ids : Record 3 (4 * p .ids) (drop (16 + 4 * p .floats) bytes)
-    pub end : endingOf (drop (22 + 4 * p .floats + 4 * p .ids) bytes) ≡ Ending.Flags (p .clip) (p .defect)
+    pub end : endingOf (drop (22 + 4 * p .floats + 4 * p .ids) bytes) ≡ Ending.Flags (flagValues (p .clip) (p .defect))
 
   pub laid-inside : (p : Parts) → Laid p → 22 + 4 * p .floats + 4 * p .ids ≤ length bytes
   laid-inside p laid =
@@ -48,7 +48,7 @@ module _ (bytes : List ℕ) where
           → Agrees (ended (word bytes 6) (floatsAt f) (words (take (4 * i) (drop (22 + 4 * f) bytes))) e) (partsBy f i e)
       unfolding ended partsBy fileAt contentsAt Stands
       ending i ids (Ending.Fault n) h = (refl, tt)
-      ending i ids (Ending.Flags c d) h = (refl, record { unit = unit; floats = floats; ids = ids; end = h })
+      ending i ids (Ending.Flags flags) h = (refl, record { unit = unit; floats = floats; ids = ids; end = h })
 
       abbrev FromIds : Front → Type 0
       FromIds k = Agrees (idsIn (word bytes 6) (floatsAt f) k (drop (16 + 4 * f) bytes)) (idsFrom f k (drop (16 + 4 * f) bytes))

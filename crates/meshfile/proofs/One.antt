@@ -13,7 +13,7 @@ use Rattle.meshfile.specs.declared.Front.{Front}
 use Rattle.meshfile.specs.declared.Ending.{Ending}
 use Rattle.meshfile.specs.declared.MeshFile.{MeshFile}
 use Rattle.meshfile.specs.declared.Reading.{Reading}
-use Rattle.meshfile.specs.Format.{byte, half, word, most, lengthFits, File, faultIf, frontOf, flagsIn, endingOf, ended, idsIn, verticesIn, unitIn, fileOf}
+use Rattle.meshfile.specs.Format.{flagValues, byte, half, word, most, lengthFits, File, faultIf, frontOf, flagsIn, endingOf, ended, idsIn, verticesIn, unitIn, fileOf}
 use Rattle.meshfile.specs.Reading.{areasShort, meshFile, unlessShort, readingOf, floatsAfter, idsAfter, Reads, Refuses, RefusesBy356, RefusalsWriteNothing, ReadOne}
 
 pub read-one : ReadOne
@@ -30,7 +30,7 @@ Front56 (Front.Payload n) = Unit {0}
 
 abbrev Ending56 : Ending → Type 0
 Ending56 (Ending.Fault n) = FiveOrSix n
-Ending56 (Ending.Flags c d) = Unit {0}
+Ending56 (Ending.Flags flags) = Unit {0}
 
 abbrev pub File56 : File → Type 0
 File56 (File.Refused n) = FiveOrSix n
@@ -50,7 +50,7 @@ front-56 kind bytes =
     let n = word bytes 0 in
     tests-56 (ltb (length bytes) 6) (not (eqb (half bytes 4) kind)) (not (lengthFits kind n)) (ltb most (n / 4)) (ltb (length bytes) (6 + n)) n
 
-values-56 : (a b : Bool) (c d : ℕ) → Ending56 (cond a (cond b (Ending.Fault 5) (Ending.Flags c d)) (Ending.Fault 5))
+values-56 : (a b : Bool) (c d : ℕ) → Ending56 (cond a (cond b (Ending.Fault 5) (Ending.Flags (flagValues c d))) (Ending.Fault 5))
 values-56 true true c d = inl refl
 values-56 true false c d = tt
 values-56 false b c d = inl refl
@@ -68,7 +68,7 @@ ending-56 (b ∷ bytes) = flags-56 (frontOf 4 (b ∷ bytes)) (b ∷ bytes) (fron
 ended-56 : (u : ℕ) (vs is : List ℕ) (e : Ending) → Ending56 e → File56 (ended u vs is e)
 unfolding ended
 ended-56 u vs is (Ending.Fault n) h = h
-ended-56 u vs is (Ending.Flags c d) h = tt
+ended-56 u vs is (Ending.Flags flags) h = tt
 
 ids-56 : (u : ℕ) (vs : List ℕ) (k : Front) (bytes : List ℕ) → Front56 k → File56 (idsIn u vs k bytes)
 unfolding idsIn

@@ -7,6 +7,7 @@ use lib.ListN.{length, getD, take, drop}
 use Rattle.record.specs.Numbers.{flagsFit}
 use Rattle.meshfile.specs.declared.Front.{Front}
 use Rattle.meshfile.specs.declared.Ending.{Ending}
+use Rattle.meshfile.specs.declared.FlagValues.{FlagValues}
 
 -- ---- numbers, little-endian
 
@@ -73,19 +74,22 @@ pub data File : Type 0 where
   Refused : ℕ → File
   Holds : Contents → File
 
+abbrev pub flagValues : ℕ → ℕ → FlagValues
+flagValues c d = record { clip = c; defect = d }
+
 -- behind the ids: the end, or kind 4 with known values and then the end
 unfoldable pub flagsIn : Front → List ℕ → Ending
 flagsIn (Front.Fault n) bytes = Ending.Fault n
 flagsIn (Front.Payload n) bytes =
-    cond (flagsFit (byte bytes 6) (byte bytes 7)) (cond (ltb (6 + n) (length bytes)) (Ending.Fault 5) (Ending.Flags (byte bytes 6) (byte bytes 7))) (Ending.Fault 5)
+    cond (flagsFit (byte bytes 6) (byte bytes 7)) (cond (ltb (6 + n) (length bytes)) (Ending.Fault 5) (Ending.Flags (flagValues (byte bytes 6) (byte bytes 7)))) (Ending.Fault 5)
 
 unfoldable pub endingOf : List ℕ → Ending
-endingOf [] = Ending.Flags 0 0
+endingOf [] = Ending.Flags (flagValues 0 0)
 endingOf (b ∷ bytes) = flagsIn (frontOf 4 (b ∷ bytes)) (b ∷ bytes)
 
 unfoldable pub ended : ℕ → List ℕ → List ℕ → Ending → File
 ended u vs is (Ending.Fault n) = Refused n
-ended u vs is (Ending.Flags c d) = Holds (record { unit = u; vertices = vs; ids = is; clip = c; defect = d })
+ended u vs is (Ending.Flags flags) = Holds (record { unit = u; vertices = vs; ids = is; clip = flags .clip; defect = flags .defect })
 
 -- kind 3: ids
 unfoldable pub idsIn : ℕ → List ℕ → Front → List ℕ → File

@@ -14,7 +14,7 @@ use Rattle.meshfile.specs.Reading.{floatsOf, meshFile}
 
 unfoldable pub partsBy : ℕ → ℕ → Ending → Layout
 partsBy f i (Ending.Fault n) = Layout.Fault n
-partsBy f i (Ending.Flags c d) = Layout.Whole (record { floats = f; ids = i; clip = c; defect = d })
+partsBy f i (Ending.Flags flags) = Layout.Whole (record { floats = f; ids = i; clip = flags .clip; defect = flags .defect })
 
 unfoldable pub idsFrom : ℕ → Front → List ℕ → Layout
 idsFrom f (Front.Fault n) bytes = Layout.Fault n

@@ -99,10 +99,16 @@ fn front_of(bytes: &[u8], kind: u32) -> Front
 
 // ---- the records in their order
 
+// The values of the flags, as kind 4 has them.
+pub struct FlagValues {
+    pub clip: u32,
+    pub defect: u32,
+}
+
 // What stands behind the ids.
 pub enum Ending {
     Fault(u8),
-    Flags(u32, u32),
+    Flags(FlagValues),
 }
 
 // Where everything stands: how many floats and ids, and the values of the flags.
@@ -131,7 +137,7 @@ fn flags_in(bytes: &[u8], n: usize) -> Ending
     if 6 + n < bytes.len() {
         return Ending::Fault(5);
     }
-    Ending::Flags(clip, defect)
+    Ending::Flags(FlagValues { clip, defect })
 }
 
 // The end, or kind 4.
@@ -139,7 +145,7 @@ fn ending_of(bytes: &[u8]) -> Ending
     ensures { λ r. ⌜ r ≡ endingOf (now (bytes .entry)) ⌝ }
 {
     if bytes.len() == 0 {
-        return Ending::Flags(0, 0);
+        return Ending::Flags(FlagValues { clip: 0, defect: 0 });
     }
     let found = front_of(bytes, 4);
     match found {
@@ -153,11 +159,11 @@ fn parts_by(floats: usize, ids: usize, end: Ending) -> Layout
 {
     match end {
         Ending::Fault(n) => Layout::Fault(n),
-        Ending::Flags(clip, defect) => Layout::Whole(Parts {
+        Ending::Flags(flags) => Layout::Whole(Parts {
             floats,
             ids,
-            clip,
-            defect,
+            clip: flags.clip,
+            defect: flags.defect,
         }),
     }
 }

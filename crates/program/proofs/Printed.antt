@@ -4,14 +4,15 @@ use mathlib.Core.Logic.{_⊎_}
 use Prim.Native.Nat.{ℕ, _≤_}
 use mathlib.Core.List.{List}
 use native.Mathlib.Omega.{arith}
+use native.Mathlib.Decide.{decLe}
 use lib.ListN.{length, take, drop, length-append}
-use lib.Seq.{length-take-le}
+use lib.Seq.{length-take-le, take-all}
 use Rattle.meshfile.specs.Format.{Contents, File, fileOf}
 use Rattle.meshfile.proofs.Bounds.{files-are-short, front-decides as file-front-decides}
 use Rattle.meshfile.proofs.One.{File56, file-56}
 use Rattle.listing.specs.Listing.{refusedLine}
 use Rattle.program.specs.Program.{textFor, textOf, Prints, RunOne}
-use Rattle.program.specs.Promises.{FrontDecides, LongRefused}
+use Rattle.program.specs.Promises.{kept, FrontDecides, LongRefused, PrintsFront}
 
 module _ (text area : List ℕ) (r : ℕ) (area′ : List ℕ) (printed : Prints text area r area′) where
   pub prints-inside : r ≤ length area′
@@ -28,6 +29,24 @@ run-one bytes area r₁ r₂ area₁ area₂ x y = (x .answers ∙ sym (y .answe
 pub front-decides : FrontDecides
 unfolding textOf
 front-decides bytes h = ap textFor (file-front-decides bytes h)
+
+-- the first bytes decide, be they all of the input or as many as are kept
+pub decided : (bytes : List ℕ) (n : ℕ) → length bytes ≡ kept → (input : List ℕ) → take n bytes ≡ take (length bytes) input → textOf (take n bytes) ≡ textOf input
+decided bytes n full input same =
+    let e : take n bytes ≡ take kept input = rw full at same in
+    elim (decLe (length input) 12318) [
+      | yes l ↦ ap textOf (e ∙ take-all kept input (omega arith))
+      | no l ↦ ap textOf e ∙ front-decides input (omega arith)
+    ]
+
+pub prints-first : (bytes : List ℕ) (n : ℕ) (area : List ℕ) (r : ℕ) (area′ : List ℕ) → length bytes ≡ kept
+    → Prints (textOf (take n bytes)) area r area′ → PrintsFront bytes n area r area′
+prints-first bytes n area r area′ full h = record { prints = h; decides = decided bytes n full }
+
+-- all of them, where n is not below their number
+pub prints-all : (bytes : List ℕ) (n : ℕ) (area : List ℕ) (r : ℕ) (area′ : List ℕ) → length bytes ≡ kept → length bytes ≤ n
+    → Prints (textOf bytes) area r area′ → PrintsFront bytes n area r area′
+prints-all bytes n area r area′ full l h = prints-first bytes n area r area′ full (rw (take-all n bytes l) h)
 
 refused-text : (f : File) → File56 f → ((m : Contents) → f ≡ File.Holds m → ⊥) → (n : ℕ) × ((n ≡ 5) ⊎ (n ≡ 6)) × (textFor f ≡ refusedLine n)
 unfolding textFor

@@ -11,7 +11,7 @@ use Rattle.sums.specs.Fine.{fine, allFine}
 use Rattle.refusals.specs.declared.Check.{Check}
 use Rattle.refusals.specs.Refusals.{first, unitFits, checkOf}
 use Rattle.listing.specs.Listing.{refusedLine}
-use Rattle.program.specs.Program.{textOf}
+use Rattle.program.specs.Program.{textOf, Prints}
 
 -- the rows of 01's table that a file can meet: it is never too large, and no area is too short (`areas-suffice`)
 unfoldable pub checkFile : List Float → List ℕ → Float → Check
@@ -28,10 +28,20 @@ AreasSuffice = (vs : List Float) (ids : List ℕ) (u : Float) → length vs ≤ 
 abbrev pub NotFiniteRefused : Type 0
 NotFiniteRefused = (w : ℕ) → 0x7f80_0000 ≤ w % 2 ^ 31 → fine (ofBits binary32 w) ≡ false
 
--- Of input that is longer than any file the first 12,319 bytes decide, so the program needs to keep no more.
+-- How many bytes of its input the program keeps: one more than the longest file has.
+abbrev pub kept : ℕ
+kept = 12319
+
+-- Of input that is longer than any file these decide, so it needs to keep no more.
 abbrev pub FrontDecides : Type 0
-FrontDecides = (bytes : List ℕ) → 12318 < length bytes → textOf (take 12319 bytes) ≡ textOf bytes
+FrontDecides = (bytes : List ℕ) → 12318 < length bytes → textOf (take kept bytes) ≡ textOf bytes
 
 -- and it is refused
 abbrev pub LongRefused : Type 0
 LongRefused = (bytes : List ℕ) → 12318 < length bytes → (n : ℕ) × ((n ≡ 5) ⊎ (n ≡ 6)) × (textOf bytes ≡ refusedLine n)
+
+-- The complete contract of `run_front`, of an area of bytes and a number n: the text of the first n bytes is printed, and that is the text of every input that
+-- begins with them, whether they are all of it or as many as the area holds. So what a program need not keep does not matter.
+pub record PrintsFront (bytes : List ℕ) (n : ℕ) (area : List ℕ) (r : ℕ) (area′ : List ℕ) : Type 0 where
+  pub prints : Prints (textOf (take n bytes)) area r area′
+  pub decides : (input : List ℕ) → take n bytes ≡ take (length bytes) input → textOf (take n bytes) ≡ textOf input

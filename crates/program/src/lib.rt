@@ -7,12 +7,16 @@ ghost use Rattle.rows.specs.Rows.{rowsOf};
 ghost use Rattle.record.specs.Flags.{flagged};
 ghost use Rattle.listing.specs.Listing.{listingOf, refusedLine};
 ghost use Rattle.program.specs.Program.{meshText, textOf, Prints};
+ghost use Rattle.program.specs.Promises.{PrintsFront};
 use listing::Listed;
 use meshfile::MeshFile;
 use meshfile::Reading;
 use pieces::PieceCount;
 use qto::Answer;
 use record::MeshQto;
+
+// How many bytes of its input a program keeps. The longest file has one byte less, so these decide about all input (`PrintsFront`).
+pub const KEPT: usize = 12319;
 
 // The number of pieces: with this work area it is never refused.
 fn pieces_of(ids: &[u32], work: &mut [u32]) -> u32
@@ -79,5 +83,17 @@ pub fn run(bytes: &[u8], text: &mut [u8; 18752]) -> usize
     match found {
         Reading::Refused(n) => print_refusal(n, text),
         Reading::File(m) => print_mesh(m, &vertices[..m.floats], &ids[..m.ids], text),
+    }
+}
+
+// What the program prints for an input of which it has kept the first n bytes: all of it, or as many as the area holds.
+pub fn run_front(bytes: &[u8; KEPT], n: usize, text: &mut [u8; 18752]) -> usize
+    ensures { λ r. ⌜ PrintsFront (now (bytes .entry)) n (now (text .entry)) r (now (text .exit)) ⌝ }
+{
+    let all: &[u8] = bytes;
+    if n < all.len() {
+        run(&all[..n], text)
+    } else {
+        run(all, text)
     }
 }

@@ -1,15 +1,43 @@
-// The program `takeoff`: reads a mesh file from standard input to its end and prints its listing, or `refused N`. What it prints is `program::run`'s.
-ghost use Rattle.io.specs.Counts.{Counts};
+// The program `takeoff`: reads a mesh file from standard input to its end and prints its listing, or `refused N`. What it prints is `program::run_front`'s.
+ghost use Prim.Native.Nat.{_+_, _≤_};
+ghost use mathlib.Core.Path.{_≡_};
+ghost use lib.ListN.{length, take};
 use libc::STDIN_FILENO;
 use libc::STDOUT_FILENO;
 
-// One read to the front of the area: how many bytes came, 0 at the end of the input, or -1, and then it says why.
-fn read_some(area: &mut [u8]) -> isize {
+// What one read did: whether it failed, and how many bytes came, 0 at the end of the input.
+struct Turn {
+    failed: bool,
+    came: usize,
+}
+
+// What was read: whether a read failed, and how many bytes there are.
+struct Input {
+    failed: bool,
+    n: usize,
+}
+
+// One read to the front of the area. Where it fails it says why.
+fn read_some(area: &mut [u8]) -> Turn
+    ensures { λ r. ⌜ r .came ≤ length (now (area .entry)) ⌝ }
+{
     let got = libc::read(STDIN_FILENO, area);
     if got < 0 {
         os::fail(b"standard input");
     }
-    got
+    let came = io::count(got, area);
+    Turn {
+        failed: got < 0,
+        came,
+    }
+}
+
+// One read behind the n bytes that are there: these stay as they are, and so many came behind them.
+fn read_behind(bytes: &mut [u8], n: usize) -> Turn
+    requires { ⌜ n ≤ length (now bytes) ⌝ }
+    ensures { λ r. ⌜ (take n (now (bytes .exit)) ≡ take n (now (bytes .entry))) × (n + r .came ≤ length (now (bytes .entry))) ⌝ }
+{
+    read_some(&mut bytes[n..])
 }
 
 // Reads on and keeps nothing.
@@ -27,38 +55,51 @@ fn skip_rest() {
     }
 }
 
-// Reads the input to its end, and keeps as much as the area holds. Where a read fails it answers 0: what came before is no whole file, even where it looks like one.
-fn read_input(bytes: &mut [u8]) -> usize
-    ensures { λ r. ⌜ Counts r (now (bytes .exit)) ⌝ }
+// Reads behind the n bytes that are there to the end of the input, and keeps as much as the area holds. The n bytes stay as they are, and are counted.
+fn read_input(bytes: &mut [u8], n: usize) -> Input
+    requires { ⌜ n ≤ length (now bytes) ⌝ }
+    ensures { λ r. ⌜ (take n (now (bytes .exit)) ≡ take n (now (bytes .entry))) × (n ≤ r .n) × (r .n ≤ length (now (bytes .exit))) ⌝ }
 {
-    let mut n = 0;
-    while n < bytes.len() {
-        let got = read_some(&mut bytes[n..]);
-        if got < 0 {
-            return 0;
+    let mut have = n;
+    while have < bytes.len() {
+        let turn = read_behind(bytes, have);
+        if turn.failed {
+            return Input {
+                failed: true,
+                n: have,
+            };
         }
-        let more = io::count(got, &bytes[n..]);
-        if more == 0 {
-            return n;
+        if turn.came == 0 {
+            return Input {
+                failed: false,
+                n: have,
+            };
         }
-        n += more;
+        have += turn.came;
     }
     skip_rest();
-    n
+    Input {
+        failed: false,
+        n: have,
+    }
 }
 
-// Prints what a file's bytes are worth.
-fn print(bytes: &[u8]) {
+// Prints what the first n bytes of an input are worth.
+fn print(bytes: &[u8; program::KEPT], n: usize) {
     let mut text = [0u8; 18752];
-    let end = program::run(bytes, &mut text);
+    let end = program::run_front(bytes, n, &mut text);
     if !io::write_all(STDOUT_FILENO, &text[..end]) {
         os::fail(b"standard output");
     }
 }
 
-// The longest file has 12,318 bytes: one byte more decides about all that is longer.
+// Where a read fails what came before is no whole file, even where it looks like one: then nothing of it counts.
 fn main() {
-    let mut bytes = [0u8; 12319];
-    let n = read_input(&mut bytes);
-    print(&bytes[..n]);
+    let mut bytes = [0u8; program::KEPT];
+    let input = read_input(&mut bytes, 0);
+    if input.failed {
+        print(&bytes, 0);
+    } else {
+        print(&bytes, input.n);
+    }
 }

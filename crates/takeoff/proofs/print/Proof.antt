@@ -4,14 +4,14 @@ use borrow.Author.Needs.{needs}
 use Rattle.takeoff.proofs.print.Statement.{statement}
 use Rattle.takeoff.proofs.print.Tie as tie
 
-run-requires : tie.Need-run-requires
-run-requires c κs = search needs
+run-front-requires : tie.Need-run-front-requires
+run-front-requires c κs = search needs
 
 array-share-prefix-text : tie.Need-array-share-prefix-text
-array-share-prefix-text c = prints-inside _ _ _ _ (c .run .ensures)
+array-share-prefix-text c = prints-inside _ _ _ _ (c .run-front .ensures .prints)
 
 slice-aggregate-write-all : tie.Need-slice-aggregate-write-all
-slice-aggregate-write-all c = prints-front _ _ _ _ (c .before .run .ensures)
+slice-aggregate-write-all c = prints-front _ _ _ _ (c .before .run-front .ensures .prints)
 
 write-all-requires : tie.Need-write-all-requires
 write-all-requires c κs = search needs
@@ -32,7 +32,7 @@ pub print-spec : {M : Type 1} → statement M
 print-spec =
     tie.close
     (tie.spec
-    run-requires
+    run-front-requires
     array-share-prefix-text
     slice-aggregate-write-all
     write-all-requires

@@ -1,65 +1,61 @@
--- `takeoff::read_input` meets its contract: each turn but the last reads at least one byte. Assumes nothing.
+-- `takeoff::read_input` meets its contract: each turn but the last reads at least one byte behind those that are there. Assumes nothing.
 use Prim.Native.Nat.{_-_, _≤_}
 use mathlib.Core.Path.{_≡_}
-use lib.ListN.{length}
-use Rattle.io.proofs.Counting.{counts}
+use lib.ListN.{length, take}
+use native.Mathlib.Omega.{arith}
 use borrow.Author.Needs.{needs}
+use Rattle.takeoff.proofs.Kept.{sooner}
 use Rattle.takeoff.proofs.read_input.Statement.{statement}
 use Rattle.takeoff.proofs.read_input.Tie as tie
 
 abbrev Inv-loop : tie.InvT-loop
-Inv-loop bytes₀ n₀ bytes n = (length bytes ≡ length bytes₀) × (n ≤ length bytes)
+Inv-loop bytes₀ n have₀ bytes have = (length bytes ≡ length bytes₀) × (n ≤ have) × (have ≤ length bytes) × (take n bytes ≡ take n bytes₀)
 
 abbrev μ-loop : tie.MeasureT-loop
-μ-loop bytes₀ n₀ bytes n = length bytes - n
+μ-loop bytes₀ n have₀ bytes have = length bytes - have
 
 loop-holds : tie.Need-loop-holds Inv-loop μ-loop
 loop-holds c = search needs
 
-sub-read-some : tie.Need-sub-read-some Inv-loop μ-loop
-sub-read-some c = search needs
-
-part-read-some-start : tie.Need-part-read-some-start Inv-loop μ-loop
-part-read-some-start c = search needs
-
-part-read-some-end : tie.Need-part-read-some-end Inv-loop μ-loop
-part-read-some-end c = search needs
-
-read-some-requires : tie.Need-read-some-requires Inv-loop μ-loop
-read-some-requires c κs = search needs
+read-behind-requires : tie.Need-read-behind-requires Inv-loop μ-loop
+read-behind-requires c κs = search needs
 
 same-length : tie.Need-same-length Inv-loop μ-loop
 same-length c = search needs
 
 returns : tie.Need-returns Inv-loop μ-loop
-returns c = search needs
-
-sub-count : tie.Need-sub-count Inv-loop μ-loop
-sub-count c = search needs
-
-part-count-start : tie.Need-part-count-start Inv-loop μ-loop
-part-count-start c = search needs
-
-part-count-end : tie.Need-part-count-end Inv-loop μ-loop
-part-count-end c = search needs
-
-count-requires : tie.Need-count-requires Inv-loop μ-loop
-count-requires c κs = search needs
+returns c =
+    let s = c .before .before .before .before .before .before .before .before in
+    let l = c .before .before .before .before .before .before .loop in
+    let b = c .before .before .before .read-behind in
+    (sooner (s .args .n) (l .have) (l .bytes) (b .last .0) (s .args .bytes .now) (l .inv .1) (b .ensures .0) (l .inv .3), l .inv .1, omega (arith, l .inv .2, b .kept))
 
 same-length-2 : tie.Need-same-length-2 Inv-loop μ-loop
 same-length-2 c = search needs
 
 returns-2 : tie.Need-returns-2 Inv-loop μ-loop
-returns-2 c = counts _ _ (search needs)
+returns-2 c =
+    let s = c .before .before .before .before .before .before .before .before .before .before in
+    let l = c .before .before .before .before .before .before .before .before .loop in
+    let b = c .before .before .before .before .before .read-behind in
+    (sooner (s .args .n) (l .have) (l .bytes) (b .last .0) (s .args .bytes .now) (l .inv .1) (b .ensures .0) (l .inv .3), l .inv .1, omega (arith, l .inv .2, b .kept))
 
-add-n : tie.Need-add-n Inv-loop μ-loop
-add-n c = search needs
+add-have : tie.Need-add-have Inv-loop μ-loop
+add-have c = search needs
 
 loop-less : tie.Need-loop-less Inv-loop μ-loop
-loop-less c = search needs
+loop-less c =
+    let s = c .before .before .before .before .before .before .before .before .before .before .before in
+    let l = c .before .before .before .before .before .before .before .before .before .loop in
+    let b = c .before .before .before .before .before .before .read-behind in
+    omega (arith, b .kept, b .ensures .1, c .before .if2 .left, l .inv .2)
 
 loop-again : tie.Need-loop-again Inv-loop μ-loop
-loop-again c = search needs
+loop-again c =
+    let s = c .before .before .before .before .before .before .before .before .before .before .before in
+    let l = c .before .before .before .before .before .before .before .before .before .loop in
+    let b = c .before .before .before .before .before .before .read-behind in
+    (omega (arith, b .kept, l .inv .0), omega (arith, b .ensures .1, l .inv .1), omega (arith, b .ensures .1, b .kept), sooner (s .args .n) (l .have) (l .bytes) (b .last .0) (s .args .bytes .now) (l .inv .1) (b .ensures .0) (l .inv .3))
 
 skip-rest-requires : tie.Need-skip-rest-requires Inv-loop μ-loop
 skip-rest-requires c κs = search needs
@@ -68,7 +64,9 @@ same-length-3 : tie.Need-same-length-3 Inv-loop μ-loop
 same-length-3 c = search needs
 
 returns-3 : tie.Need-returns-3 Inv-loop μ-loop
-returns-3 c = search (needs, counts)
+returns-3 c =
+    let l = c .before .before .loop in
+    (l .inv .3, l .inv .1, l .inv .2)
 
 pub read-input-spec : {M : Type 1} → statement M
 read-input-spec =
@@ -77,19 +75,12 @@ read-input-spec =
     Inv-loop
     μ-loop
     loop-holds
-    sub-read-some
-    part-read-some-start
-    part-read-some-end
-    read-some-requires
+    read-behind-requires
     same-length
     returns
-    sub-count
-    part-count-start
-    part-count-end
-    count-requires
     same-length-2
     returns-2
-    add-n
+    add-have
     loop-less
     loop-again
     skip-rest-requires

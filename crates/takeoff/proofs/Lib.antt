@@ -1,0 +1,2 @@
+-- What the proofs of reading share.
+mod Kept

@@ -1,0 +1,42 @@
+-- `takeoff::read_behind` meets its contract: only what stands behind the n bytes was lent. Assumes nothing.
+use Prim.Native.Nat.{_-_}
+use native.Mathlib.Omega.{arith}
+use lib.ListN.{length}
+use borrow.Rule.Slice.PartMut.{mid-len, take-put}
+use borrow.Author.Needs.{needs}
+use Rattle.takeoff.proofs.read_behind.Statement.{statement}
+use Rattle.takeoff.proofs.read_behind.Tie as tie
+
+sub-read-some : tie.Need-sub-read-some
+sub-read-some c = search needs
+
+part-read-some-start : tie.Need-part-read-some-start
+part-read-some-start c = search needs
+
+part-read-some-end : tie.Need-part-read-some-end
+part-read-some-end c = search needs
+
+read-some-requires : tie.Need-read-some-requires
+read-some-requires c κs = search needs
+
+same-length : tie.Need-same-length
+same-length c = search needs
+
+returns : tie.Need-returns
+returns c =
+    let s = c .before .before .before .before .before in
+    let k = c .before .before .read-some in
+    let b = s .args .bytes .now in
+    let n = s .args .n in
+    (take-put n (length b - n) b (k .last .0) (s .pre), omega (arith, k .ensures, mid-len n (length b) b (omega arith)))
+
+pub read-behind-spec : {M : Type 1} → statement M
+read-behind-spec =
+    tie.close
+    (tie.spec
+    sub-read-some
+    part-read-some-start
+    part-read-some-end
+    read-some-requires
+    same-length
+    returns)

@@ -11,7 +11,8 @@ from mowfrost.listing import NotAListing, Refused, parse
 DESCRIPTION = "Shows a listing of takeoff in square and cubic metres and in words."
 
 EPILOG = """\
-Each number is the shortest decimal that names the same f32. m2 and m3 are square and cubic metres.
+Each number is the shortest decimal that names the same f32. m2 and m3 are square and cubic metres. The volume of an
+open shell depends on where it is measured from, also where the listing says 'reliable 1'.
 
 example:
   takeoff foot.mesh | show_listing.py
@@ -19,11 +20,10 @@ example:
 exit status: 0 shown, also for a refusal; 1 not a listing; 2 wrong usage, or a file that cannot be used
 """
 
-VERDICTS = {
-    "closed": "closed. No edge is left open, so the mesh encloses a volume.",
-    "open_shell": "open shell. The faces do not close round a solid, as when one is missing, doubled or turned.",
-    "degenerate": "degenerate. There is no solid: the mesh is empty, its box has no volume, or its faces cancel.",
-}
+CLOSED = "closed. No edge is left open, so the mesh encloses a volume."
+OPEN = "open shell. The mesh does not close, as when a face is missing, doubled or turned."
+# Of an open mesh the volume is the sum of cones from a point to its faces, and another point gives another sum.
+OPEN_TOO = "So its volume depends on where it is measured from, whatever 'reliable' says."
 METHODS = {
     "mesh": "the volume that the mesh encloses",
     "mesh_open": "the volume summed over the open mesh, which keeps within its bounds",
@@ -32,6 +32,7 @@ METHODS = {
     "mesh_profile_invalid": "the volume of the mesh, which was made from a profile with a defect",
 }
 RELIABLE = {"0": "not to be relied on", "1": "to be relied on"}
+OPEN_RELIABLE = {"0": RELIABLE["0"], "1": "reliable only in that it keeps within its bounds"}
 PROFILES = {
     "self_intersecting": "its edges cross each other",
     "degenerate": "it has collapsed to a line",
@@ -55,6 +56,41 @@ def number(bits: str) -> str:
     return f32.shortest(int(bits, 16))
 
 
+def is_zero(bits: str) -> bool:
+    """Whether the bits are 0 or -0."""
+    return number(bits) == "0"
+
+
+def verdict(values: dict[str, str]) -> str:
+    """The verdict, and for a mesh without a solid why there is none, as far as the listing tells."""
+    if values["quality"] == "closed":
+        return CLOSED
+    if values["quality"] == "open_shell":
+        return OPEN
+    if not is_zero(values["aabb"]):
+        why = "its faces cancel each other"
+    elif not is_zero(values["surface"]):
+        why = "it is flat, its box has no volume"
+    else:
+        why = "it is empty, or no triangle of it has an area"
+    return f"degenerate. The mesh has no solid: {why}."
+
+
+def best(values: dict[str, str]) -> str:
+    """The best volume and what to think of it. The 0 of a degenerate mesh measures nothing."""
+    reliable = OPEN_RELIABLE if values["quality"] == "open_shell" else RELIABLE
+    none = ": there is no volume that can be taken off" if values["quality"] == "degenerate" else ""
+    return f"{number(values['best'])} m3, {reliable[values['reliable']]}{none}"
+
+
+def method(values: dict[str, str]) -> str:
+    """Which volume the best one is."""
+    name = values["method"]
+    if values["quality"] == "degenerate":
+        return f"{name}: here no volume at all, neither the mesh's nor a prism's"
+    return f"{name}: {METHODS[name]}"
+
+
 def signed_volume(bits: str) -> str:
     """The volume with its sign, and what a minus says."""
     text = number(bits)
@@ -67,11 +103,13 @@ def smallest(bits: str) -> str:
     return "none above 0.000001 m2" if text == "0" else f"{text} m2"
 
 
-def prism(value: str) -> str:
+def prism(values: dict[str, str]) -> str:
     """The prism bound, where it was computed."""
-    if value == "none":
+    if values["prism"] == "none":
         return "not computed; only an open shell needs it"
-    return f"{number(value)} m3 (least footprint times extent)"
+    is_set = values["quality"] == "degenerate"
+    how = "set so for a degenerate mesh, not computed" if is_set else "least footprint times extent"
+    return f"{number(values['prism'])} m3 ({how})"
 
 
 def profile(value: str) -> str:
@@ -81,10 +119,12 @@ def profile(value: str) -> str:
 
 def heading(values: dict[str, str]) -> list[tuple[str, str]]:
     """What a person asks first."""
+    too = [("", OPEN_TOO)] if values["quality"] == "open_shell" else []
     return [
-        ("Verdict", VERDICTS[values["quality"]]),
-        ("Best volume", f"{number(values['best'])} m3, {RELIABLE[values['reliable']]}"),
-        ("  method", f"{values['method']}: {METHODS[values['method']]}"),
+        ("Verdict", verdict(values)),
+        *too,
+        ("Best volume", best(values)),
+        ("  method", method(values)),
         ("  profile", profile(values["profile"])),
         ("Pieces", values["pieces"]),
     ]
@@ -97,7 +137,7 @@ def amounts(values: dict[str, str]) -> list[tuple[str, str]]:
     return [
         ("Signed volume", signed_volume(values["volume"])),
         ("Box volume", f"{number(values['aabb'])} m3"),
-        ("Prism bound", prism(values["prism"])),
+        ("Prism bound", prism(values)),
         ("Surface area", areas["surface"]),
         ("  top", areas["top"]),
         ("  bottom", areas["bottom"]),
@@ -109,8 +149,8 @@ def amounts(values: dict[str, str]) -> list[tuple[str, str]]:
 
 
 def labelled(pairs: list[tuple[str, str]]) -> list[str]:
-    """A line for each name and its text, the texts under each other."""
-    return [f"{name}:".ljust(18) + text for name, text in pairs]
+    """A line for each name and its text, the texts under each other; no name where a text goes on."""
+    return [(f"{name}:" if name else "").ljust(18) + text for name, text in pairs]
 
 
 def table(rows: list[list[str]]) -> list[str]:

@@ -1,1 +1,1 @@
-"""What the tools for people are made of: f32 numbers, OBJ files, mesh files, listings and the console."""
+"""What the tools for people are made of: f32 numbers, OBJ files, polygons, mesh files, listings and the console."""

@@ -36,11 +36,17 @@ def run(tool: str, main: Callable[[], None]) -> None:
 
 def end(tool: str, status: int, *messages: str) -> None:
     """Writes the messages and exits; what standard output would not take is dropped, lest Python try again."""
-    for message in messages:
-        print(f"{tool}: {message}", file=sys.stderr)
+    tell(tool, *messages)
     if sys.stdout is not None:
         os.dup2(os.open(os.devnull, os.O_WRONLY), sys.stdout.fileno())
     sys.exit(status)
+
+
+def tell(tool: str, *messages: str) -> None:
+    """Writes to standard error; where that is closed, nowhere: print would turn to standard output and its bytes."""
+    if sys.stderr is not None:
+        for message in messages:
+            print(f"{tool}: {message}", file=sys.stderr)
 
 
 def read_input(name: str) -> bytes:

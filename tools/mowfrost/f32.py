@@ -17,8 +17,8 @@ INFINITE = 0x7F800000
 
 NUMBER = re.compile(r"([+-]?)(?=\.?[0-9])([0-9]*)(?:\.([0-9]*))?(?:[eE]([+-]?[0-9]+))?")
 
-# Half-way points between two f32 have at most 113 digits, so of a longer number only 'something follows' matters.
-DIGITS_KEPT = 120
+# Outside these powers of ten every f32 is 0, or there is none: so an exponent of many digits costs nothing.
+LEAST_POWER, GREATEST_POWER = -45, 39
 
 
 def is_number(text: str) -> bool:
@@ -26,31 +26,34 @@ def is_number(text: str) -> bool:
     return NUMBER.fullmatch(text) is not None
 
 
-def from_text(text: str) -> int:
-    """The bits of the f32 nearest to a decimal number, ties to even; a ValueError says why there is none."""
+def exact(text: str) -> Fraction:
+    """The decimal number itself, or 0 where it is far below all f32; a ValueError says why there is none."""
     match = NUMBER.fullmatch(text)
     if match is None:
         raise ValueError(f"{quoted(text)} is not a number")
-    sign, before, behind, exponent = match.groups(default="")
-    size = nearest(before + behind, whole(exponent) - len(behind))
-    if size == INFINITE:
+    _, before, behind, exponent = match.groups(default="")
+    digits = (before + behind).lstrip("0")
+    above = len(digits) + whole(exponent) - len(behind)  # below 10 to this power, and not below a tenth of that
+    if not digits or above < LEAST_POWER:
+        return Fraction(0)
+    if above > GREATEST_POWER:
         raise ValueError(f"{quoted(text)} is too large for an f32")
-    return size | SIGN if sign == "-" else size
+    return Fraction(Decimal(text))
 
 
-def nearest(digits: str, exponent: int) -> int:
-    """The bits of the f32 nearest to digits times 10 to the exponent, ties to even; INFINITE where it is too large."""
-    digits = digits.lstrip("0")
-    above = len(digits) + exponent  # the number is below 10 to this power, and not below a tenth of that
-    if not digits or above < -45:
-        return 0
-    if above > 39:
-        return INFINITE
-    if len(digits) > DIGITS_KEPT:
-        rest = "1" if digits[DIGITS_KEPT:].strip("0") else "0"
-        exponent += len(digits) - DIGITS_KEPT - 1
-        digits = digits[:DIGITS_KEPT] + rest
-    return nearest_ratio(int(digits) * 10 ** max(exponent, 0), 10 ** max(-exponent, 0))
+def from_text(text: str, less: int = 0) -> int:
+    """The bits of the f32 nearest to a decimal number less a whole one, ties to even; a ValueError says why none."""
+    number = exact(text) - less
+    size = nearest(abs(number))
+    if size == INFINITE:
+        raise ValueError(f"{quoted(text)}{f' less {less}' if less else ''} is too large for an f32")
+    # What is rounded to zero keeps its sign, and so does a zero that nothing is taken off.
+    return size | SIGN if number < 0 or (less == 0 and text.startswith("-")) else size
+
+
+def nearest(number: Fraction) -> int:
+    """The bits of the f32 nearest to a number that is not below zero, ties to even; INFINITE where it is too large."""
+    return nearest_ratio(number.numerator, number.denominator) if number else 0
 
 
 def nearest_ratio(top: int, bottom: int) -> int:
@@ -102,8 +105,7 @@ def shortest(bits: int) -> str:
 
 def from_decimal(number: Decimal) -> int:
     """The bits of the f32 nearest to a decimal that is not below zero."""
-    _, digits, exponent = number.as_tuple()
-    return nearest("".join(map(str, digits)), int(exponent))
+    return nearest(Fraction(number))
 
 
 def written(number: Decimal) -> str:

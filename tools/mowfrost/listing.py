@@ -8,7 +8,7 @@ from typing import Callable
 
 from mowfrost import f32
 from mowfrost.meshfile import DEFECTS
-from mowfrost.text import quoted
+from mowfrost.text import quoted, unmarked
 
 BITS = re.compile(r"[0-9a-f]{8}")
 COUNT = re.compile(r"0|[1-9][0-9]{0,9}")
@@ -85,7 +85,7 @@ FIELDS: dict[str, Check] = {
 
 def parse(data: bytes) -> Listing | Refused:
     """The listing or the refusal that the text is; NotAListing names the first line that is wrong."""
-    lines = [line.decode("utf-8", "replace") for line in data.splitlines()]
+    lines = [line.decode("utf-8", "replace") for line in unmarked(data).splitlines()]
     if lines and lines[0].split(" ")[0] == "refused":
         refused = refusal(lines[0])
         check_end(lines, 1)

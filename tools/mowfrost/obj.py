@@ -1,13 +1,14 @@
-"""Reads a Wavefront OBJ: its vertices as f32 bits, its faces as triangles, and the lines that cannot be read."""
+"""Reads a Wavefront OBJ: its vertices, exact and as f32 bits, its faces, and the lines that cannot be read."""
 
 from __future__ import annotations
 
 import re
 from dataclasses import dataclass, field
+from fractions import Fraction
 from typing import Iterator
 
 from mowfrost import f32
-from mowfrost.text import quoted, whole
+from mowfrost.text import cut_short, quoted, unmarked, whole
 
 # Names, looks, texture and drawing: none of these changes a vertex or a face.
 PASSED_OVER = frozenset(
@@ -23,31 +24,50 @@ ELSEWHERE = frozenset(("call", "csh"))
 
 CORNER = re.compile(r"(-?[0-9]+)(?:/-?[0-9]+|//-?[0-9]+|/-?[0-9]+/-?[0-9]+)?")
 
-BYTE_ORDER_MARK = b"\xef\xbb\xbf"
-
 # Behind x, y and z: nothing, w, a colour, or a colour with one number more (w before it or alpha behind it).
 VERTEX_LENGTHS = (3, 4, 6, 7)
+
+Origin = tuple[int, int, int]  # whole numbers, taken off x, y and z
+
+
+@dataclass(frozen=True)
+class Vertex:
+    """x, y and z: as they stand in their line, as exact numbers, and less the origin as f32 bits."""
+
+    line: int
+    words: tuple[str, ...]
+    exact: tuple[Fraction, ...]
+    bits: tuple[int, ...]
+
+
+@dataclass(frozen=True)
+class Face:
+    """The corners as ids from 0, and as the indices that stand in the line."""
+
+    line: int
+    ids: list[int]
+    indices: list[str]
 
 
 @dataclass
 class Mesh:
-    """Vertices as f32 bits, three each, and triangles as ids from 0, three each."""
+    """All vertices and all faces, in their order."""
 
-    vertices: list[int] = field(default_factory=list)
-    ids: list[int] = field(default_factory=list)
+    vertices: list[Vertex] = field(default_factory=list)
+    faces: list[Face] = field(default_factory=list)
 
 
 @dataclass(frozen=True, order=True)
 class Fault:
-    """A line that cannot be read, and why."""
+    """A line that cannot be read, or has something to be said of it, and what."""
 
     line: int
     reason: str
 
 
-def read(data: bytes) -> tuple[Mesh, list[Fault]]:
+def read(data: bytes, origin: Origin = (0, 0, 0)) -> tuple[Mesh, list[Fault]]:
     """The mesh, and the faults by rising line; the mesh counts for something only where there is none."""
-    reader = Reader()
+    reader = Reader(origin)
     for line, words in statements(data):
         try:
             reader.take(line, words)
@@ -58,11 +78,9 @@ def read(data: bytes) -> tuple[Mesh, list[Fault]]:
 
 def statements(data: bytes) -> Iterator[tuple[int, list[str] | None]]:
     """Each statement's first line and its words, without comments; None where the file ends in the middle of one."""
-    if data.startswith(BYTE_ORDER_MARK):
-        data = data[len(BYTE_ORDER_MARK) :]
     first = 0
     words: list[str] = []
-    for number, raw in enumerate(data.splitlines(), 1):
+    for number, raw in enumerate(unmarked(data).splitlines(), 1):
         first = first or number
         text, comment, _ = raw.decode("utf-8", "replace").partition("#")
         # In a comment a backslash says nothing: else a comment that ends in a Windows path would swallow a vertex.
@@ -78,10 +96,10 @@ def statements(data: bytes) -> Iterator[tuple[int, list[str] | None]]:
 class Reader:
     """Takes one statement after the other."""
 
-    def __init__(self) -> None:
-        self.vertices: list[int] = []
+    def __init__(self, origin: Origin) -> None:
+        self.origin = origin
         self.declared = 0  # vertices so far, those that cannot be read included, so that later indices still fit
-        self.faces: list[tuple[int, list[int]]] = []
+        self.mesh = Mesh()
         self.faults: list[Fault] = []
 
     def take(self, line: int, words: list[str] | None) -> None:
@@ -93,21 +111,20 @@ class Reader:
         keyword, values = words[0], words[1:]
         if keyword == "v":
             self.declared += 1
-            self.vertices += coordinates(values)
+            self.mesh.vertices.append(vertex(line, values, self.origin))
         elif keyword == "f":
-            self.faces.append((line, face(values, self.declared)))
+            self.mesh.faces.append(face(line, values, self.declared))
         elif keyword not in PASSED_OVER:
             raise ValueError(why_not(keyword))
 
     def finish(self) -> tuple[Mesh, list[Fault]]:
-        """The faces as fans; an index may name a vertex further down, so only now is it known which are too large."""
-        mesh = Mesh(self.vertices)
-        for line, corners in self.faces:
-            beyond = [c for c in corners if c >= self.declared]
+        """An index may name a vertex further down, so only now is it known which are too large."""
+        for made in self.mesh.faces:
+            beyond = [index for corner, index in zip(made.ids, made.indices) if corner >= self.declared]
             if beyond:
-                self.faults.append(Fault(line, f"index {beyond[0] + 1}, but the file has {self.declared} vertices"))
-            mesh.ids += fan(corners)
-        return mesh, sorted(self.faults)
+                reason = f"index {cut_short(beyond[0])}, but the file has {self.declared} vertices"
+                self.faults.append(Fault(made.line, reason))
+        return self.mesh, sorted(self.faults)
 
 
 def why_not(keyword: str) -> str:
@@ -119,40 +136,39 @@ def why_not(keyword: str) -> str:
     return f"{quoted(keyword)} is no statement that is known here"
 
 
-def coordinates(values: list[str]) -> list[int]:
-    """x, y and z as f32 bits. Weight and colour have to be numbers, and are ignored."""
+def vertex(line: int, values: list[str], origin: Origin) -> Vertex:
+    """A vertex. Weight and colour have to be numbers, and are ignored."""
     if len(values) not in VERTEX_LENGTHS:
         raise ValueError(f"a vertex has 3 numbers, 4 with a weight, 6 or 7 with a colour; here are {len(values)}")
     for word in values[3:]:
         if not f32.is_number(word):
             raise ValueError(f"{quoted(word)} is not a number")
-    return [f32.from_text(word) for word in values[:3]]
+    words = tuple(values[:3])
+    bits = tuple(f32.from_text(word, less) for word, less in zip(words, origin))
+    return Vertex(line, words, tuple(map(f32.exact, words)), bits)
 
 
-def face(values: list[str], above: int) -> list[int]:
-    """The face's corners as ids, with so many vertices above it."""
-    corners = [corner(word, above) for word in values]
-    if len(corners) < 3:
-        raise ValueError(f"a face has at least 3 corners; here {'is' if len(corners) == 1 else 'are'} {len(corners)}")
-    return corners
+def face(line: int, values: list[str], above: int) -> Face:
+    """A face, with so many vertices above it."""
+    indices = [index_of(word) for word in values]
+    if len(indices) < 3:
+        raise ValueError(f"a face has at least 3 corners; here {'is' if len(indices) == 1 else 'are'} {len(indices)}")
+    return Face(line, [id_of(index, above) for index in indices], indices)
 
 
-def corner(word: str, above: int) -> int:
-    """The id of one corner; a negative index counts back from the last vertex above the face."""
+def index_of(word: str) -> str:
+    """The index of a corner, as it stands there."""
     match = CORNER.fullmatch(word)
     if match is None:
         raise ValueError(f"{quoted(word)} is no corner; it would be v, v/vt, v//vn or v/vt/vn")
-    index = whole(match[1])
-    if index == 0:
-        raise ValueError("index 0; the first vertex is 1")
-    if index < -above:
-        raise ValueError(f"index {index}, but above it are {above} vertices")
-    return index - 1 if index > 0 else above + index
+    return match[1]
 
 
-def fan(corners: list[int]) -> list[int]:
-    """The triangles (1, 2, 3), (1, 3, 4) and so on."""
-    ids: list[int] = []
-    for second, third in zip(corners[1:], corners[2:]):
-        ids += (corners[0], second, third)
-    return ids
+def id_of(index: str, above: int) -> int:
+    """The id that an index names; a negative one counts back from the last vertex above the face."""
+    number = whole(index)
+    if number == 0:
+        raise ValueError(f"index {cut_short(index)}; the first vertex is 1")
+    if number < -above:
+        raise ValueError(f"index {cut_short(index)}, but above it are {above} vertices")
+    return number - 1 if number > 0 else above + number

@@ -1,17 +1,20 @@
-"""What the tests share: where things are, how a tool is run, and document 01's cube."""
+"""What the tests share: where things are, how a tool is run, whether the program is fresh, and document 01's cube."""
 
 from __future__ import annotations
 
+import functools
 import os
 import subprocess
 import sys
 import tempfile
 import unittest
 from pathlib import Path
+from typing import Callable
 
 TOOLS = Path(__file__).resolve().parent.parent
 ROOT = TOOLS.parent
 EXAMPLES = ROOT / "examples"
+SCRIPT = ROOT / "takeoff"
 
 # The examples, with the arguments that make the mesh file.
 MADE_WITH = {"cube": [], "open-plinth": [], "two-plinths": [], "mast-foot-mm": ["--unit", "0.001"]}
@@ -74,6 +77,23 @@ def run(tool: str, *args: str, given: bytes = b"", folder: str | Path = ROOT) ->
     return subprocess.run(
         command(tool, *args), input=given, capture_output=True, cwd=folder, env=environment(), check=False, timeout=60
     )
+
+
+@functools.cache
+def why_not_fresh() -> str:
+    """Why the program is not to be asked, by the script's own rule; empty where it is. Building takes minutes."""
+    command_line = [str(SCRIPT), "--fresh"]
+    done = subprocess.run(command_line, capture_output=True, stdin=subprocess.DEVNULL, check=False, timeout=60)
+    if done.returncode == 0:
+        return ""
+    if done.returncode == 1:
+        return "the program is not built, or older than its text; run ./takeoff --build"
+    return done.stderr.decode().strip() or f"./takeoff --fresh ends with status {done.returncode}"
+
+
+def needs_program(what: str) -> Callable:
+    """Leaves a test or a class of tests out, and says what to run, where the program is not fresh."""
+    return unittest.skipIf(why_not_fresh(), f"{what}: {why_not_fresh()}")
 
 
 class Case(unittest.TestCase):

@@ -1,4 +1,4 @@
-"""The examples: the files that are kept, and, where the program is built, the whole road from OBJ to words."""
+"""The examples: the files that are kept, and, where the program is fresh, the whole road from OBJ to words."""
 
 from __future__ import annotations
 
@@ -6,15 +6,12 @@ import subprocess
 import unittest
 
 import show_listing
-from tests.common import CUBE_BYTES, CUBE_LISTING, EXAMPLES, MADE_WITH, ROOT, Case, run
-
-PROGRAM = ROOT / "takeoff"
-BUILT = PROGRAM.exists() and (ROOT / "target" / "bin" / "takeoff").exists()
+from tests.common import CUBE_BYTES, CUBE_LISTING, EXAMPLES, MADE_WITH, SCRIPT, Case, needs_program, run
 
 # What the words have to say of each example.
 SAYS = {
     "cube": ["closed.", "8 m3, to be relied on", "Surface area:     24 m2"],
-    "open-plinth": ["open shell.", "24 m3, to be relied on", "mesh_open:", "bottom:         0 m2"],
+    "open-plinth": ["The mesh does not close", "24 m3, reliable only in", "mesh_open:", "bottom:         0 m2"],
     "two-plinths": ["closed.", "4.125 m3, to be relied on", "Pieces:           2", "Box volume:       10.5 m3"],
     "mast-foot-mm": ["closed.", "0.53780186 m3, to be relied on", "inclined:       1.0715294 m2"],
 }
@@ -44,13 +41,13 @@ class Kept(Case):
             self.assertIn(" ".join(["../tools/obj_to_mesh.py", *args, "--out", f"{name}.mesh", f"{name}.obj"]), readme)
 
 
-@unittest.skipUnless(BUILT, "the whole road: the program takeoff is not built")
+@needs_program("the whole road")
 class WholeRoad(Case):
     def test_obj_to_file_to_listing_to_words(self) -> None:
         for name, args in MADE_WITH.items():
             with self.subTest(name=name):
                 self.check(run("obj_to_mesh.py", *args, "--out", str(self.out), f"{name}.obj", folder=EXAMPLES), 0, "")
-                printed = subprocess.run([str(PROGRAM), str(self.out)], capture_output=True, check=False, timeout=60)
+                printed = subprocess.run([str(SCRIPT), str(self.out)], capture_output=True, check=False, timeout=60)
                 self.assertEqual(printed.stdout, listing(name), printed.stderr.decode())
                 words = show_listing.words(listing(name)).encode()
                 self.check(run("show_listing.py", given=printed.stdout), 0, "", words)

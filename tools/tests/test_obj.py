@@ -4,7 +4,7 @@ from __future__ import annotations
 
 import unittest
 
-from mowfrost import f32, meshfile, obj
+from mowfrost import f32, faces, meshfile, obj
 from tests.common import CUBE_BYTES, CUBE_VERTICES
 
 UNIT = f32.from_text("1")
@@ -30,10 +30,14 @@ BAD_LINES = {
     "f 1": "a face has at least 3 corners; here is 1",
     "f 1 2": "a face has at least 3 corners; here are 2",
     "f 0 1 2": "index 0; the first vertex is 1",
-    "f 1 2 -0": "index 0; the first vertex is 1",
+    "f 1 2 -0": "index -0; the first vertex is 1",
+    "f 1 2 -00/1": "index -00; the first vertex is 1",
     "f 1 2 4": "index 4, but the file has 3 vertices",
-    "f 1 2 99999999999999999999": "index 1000000000000000000, but the file has 3 vertices",
+    "f 1 2 004//7": "index 004, but the file has 3 vertices",
+    "f 1 2 99999999999999999999": "index 99999999999999999999, but the file has 3 vertices",
+    "f 1 2 " + "9" * 5000: "index " + "9" * 40 + ".., but the file has 3 vertices",
     "f -4 1 2": "index -4, but above it are 3 vertices",
+    "f 1 -99999999999999999999 2": "index -99999999999999999999, but above it are 3 vertices",
     "f 1 2 3.0": "'3.0' is no corner; it would be v, v/vt, v//vn or v/vt/vn",
     "f 1/ 2/ 3/": "'1/' is no corner; it would be v, v/vt, v//vn or v/vt/vn",
     "f 1/1/1/1 2 3": "'1/1/1/1' is no corner; it would be v, v/vt, v//vn or v/vt/vn",
@@ -79,22 +83,35 @@ def ids(text: str) -> list[int]:
     """The ids of faces on the eight vertices of a cube; there must be no fault."""
     mesh, faults = obj.read((CUBE_VERTICES + text).encode())
     assert not faults, faults
-    return mesh.ids
+    made = faces.triangles(mesh)
+    assert not made.faults, made.faults
+    return made.ids
+
+
+def mesh_file(mesh: obj.Mesh) -> bytes:
+    """The bytes of the mesh file."""
+    return meshfile.mesh_file(UNIT, bits(mesh), faces.triangles(mesh).ids)
+
+
+def bits(mesh: obj.Mesh) -> list[int]:
+    """The floats of all vertices."""
+    return [number for vertex in mesh.vertices for number in vertex.bits]
 
 
 class Mesh(unittest.TestCase):
     def test_cube_to_the_byte(self) -> None:
         mesh, faults = obj.read((CUBE_VERTICES + CUBE_QUADS).encode())
         self.assertEqual(faults, [])
-        self.assertEqual(meshfile.mesh_file(UNIT, mesh.vertices, mesh.ids), CUBE_BYTES)
+        self.assertEqual(mesh_file(mesh), CUBE_BYTES)
 
     def test_fans(self) -> None:
         self.assertEqual(ids("f 1 2 3"), [0, 1, 2])
-        self.assertEqual(ids("f 1 2 3 4"), [0, 1, 2, 0, 2, 3])
-        self.assertEqual(ids("f 6 5 4 3 2 1"), [5, 4, 3, 5, 3, 2, 5, 2, 1, 5, 1, 0])
+        self.assertEqual(ids("f 1 2 4 3"), [0, 1, 3, 0, 3, 2])
+        six = "v 9 0 0\nv 11 0 0\nv 12 2 0\nv 11 4 0\nv 9 4 0\nv 8 2 0\nf 9 10 11 12 13 14\n"
+        self.assertEqual(ids(six), [8, 9, 10, 8, 10, 11, 8, 11, 12, 8, 12, 13])
 
     def test_corner_forms(self) -> None:
-        self.assertEqual(ids("f 1/9 2//9 3/9/-9 004"), [0, 1, 2, 0, 2, 3])
+        self.assertEqual(ids("f 1/9 2//9 4/9/-9 003"), [0, 1, 3, 0, 3, 2])
 
     def test_negative_indices_count_from_the_face(self) -> None:
         self.assertEqual(ids("f -8 -7 -1\nv 0 0 9\nf -9 1 -1"), [0, 1, 7, 0, 0, 8])
@@ -107,11 +124,11 @@ class Mesh(unittest.TestCase):
 
     def test_vertices_are_kept_as_they_stand(self) -> None:
         mesh, faults = obj.read(b"v -0 1e-46 0.1\nv 7 7 7\nv 7 7 7\n")
-        self.assertEqual((mesh.vertices[:3], len(mesh.vertices), faults), ([0x80000000, 0, 0x3DCCCCCD], 9, []))
+        self.assertEqual((bits(mesh)[:3], len(bits(mesh)), faults), ([0x80000000, 0, 0x3DCCCCCD], 9, []))
 
     def test_weight_and_colour_are_ignored(self) -> None:
         mesh, faults = obj.read(b"v 1 1 1 0.5\nv 1 1 1 255 0 1e99\nv 1 1 1 1 0.1 0.2 0.3\n")
-        self.assertEqual((mesh.vertices, faults), ([0x3F800000] * 9, []))
+        self.assertEqual((bits(mesh), faults), ([0x3F800000] * 9, []))
 
     def test_passed_over(self) -> None:
         mesh, faults = obj.read(PASSED_OVER.encode())
@@ -135,7 +152,7 @@ class Lines(unittest.TestCase):
         for end in ("\n", "\r\n", "\r"):
             text = "\ufeff" + (CUBE_VERTICES + CUBE_QUADS).replace("\n", end)
             mesh, faults = obj.read(text.encode())
-            self.assertEqual(meshfile.mesh_file(UNIT, mesh.vertices, mesh.ids), CUBE_BYTES)
+            self.assertEqual(mesh_file(mesh), CUBE_BYTES)
 
     def test_name_in_another_encoding(self) -> None:
         self.assertEqual(obj.read(b"o M\xfchle\x85\n" + TRIANGLE.encode())[1], [])

@@ -52,8 +52,9 @@ class Files(Case):
     def test_help(self) -> None:
         done = run(TOOL, "--help")
         self.assertEqual(done.returncode, 0)
-        for word in (b"--unit", b"--clip", b"--defect", b"--out", b"self_intersecting", b"exit status", b"fan"):
-            self.assertIn(word, done.stdout)
+        options = ["--unit", "--origin", "--clip", "--defect", "--out"]
+        for word in [*options, "self_intersecting", "exit status", "fan", "dent", "crosses itself", "0.0001 m"]:
+            self.assertIn(word, done.stdout.decode())
 
     def test_files_that_cannot_be_used(self) -> None:
         self.check(run(TOOL, "absent.obj", folder=self.folder), 2, "cannot read absent.obj: No such file")
@@ -82,6 +83,23 @@ class Files(Case):
         self.assertEqual(len(done.stderr.splitlines()), 21)
 
 
+class Nothing(Case):
+    def test_no_faces(self) -> None:
+        for given, what in (
+            (b"", "no vertices and no faces"),
+            (b"\xef\xbb\xbf# nothing\r\n", "no vertices and no faces"),
+            (b"v 1 2 3\nv 2 3 4\nl 1 2\n", "no faces"),
+        ):
+            self.out.write_bytes(b"older")
+            done = run(TOOL, "--out", str(self.out), "-", given=given)
+            self.check(done, 1, f"obj_to_mesh: standard input has {what}\n")
+            self.assertEqual(self.out.read_bytes(), b"older")
+
+    def test_no_vertices(self) -> None:
+        self.check(run(TOOL, "-", given=b"f 1 2 3\n"), 1, "line 1: index 1, but the file has 0 vertices\n")
+        self.check(run(TOOL, "-", given=b"f -1 -2 -3\n"), 1, "line 1: index -1, but above it are 0 vertices\n")
+
+
 class Limits(Case):
     """An OBJ has floats and ids in threes, so the first numbers above 1536 are 1539."""
 
@@ -90,7 +108,7 @@ class Limits(Case):
         self.assertEqual((done.returncode, len(done.stdout)), (0, 10 + 2 * (6 + 4 * 1536)))
 
     def test_one_vertex_more(self) -> None:
-        done = run(TOOL, "-", given=b"v 1 2 3\n" * 513)
+        done = run(TOOL, "-", given=b"v 1 2 3\n" * 513 + b"f 1 2 3\n")
         said = "has 1539 vertex floats (513 vertices); the program takes at most 1536 floats and 1536 ids\n"
         self.check(done, 1, f"obj_to_mesh: standard input {said}")
 

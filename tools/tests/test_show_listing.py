@@ -60,15 +60,15 @@ surfaces 0
 """
 
 ZERO_WORDS = """\
-Verdict:          degenerate. There is no solid: the mesh is empty, its box has no volume, or its faces cancel.
-Best volume:      0 m3, not to be relied on
-  method:         prism_fallback: the prism bound, since the mesh itself gives no volume to use
+Verdict:          degenerate. The mesh has no solid: it is empty, or no triangle of it has an area.
+Best volume:      0 m3, not to be relied on: there is no volume that can be taken off
+  method:         prism_fallback: here no volume at all, neither the mesh's nor a prism's
   profile:        no defect recorded
 Pieces:           2
 
 Signed volume:    0 m3
 Box volume:       0 m3
-Prism bound:      0 m3 (least footprint times extent)
+Prism bound:      0 m3 (set so for a degenerate mesh, not computed)
 Surface area:     0 m2
   top:            0 m2
   bottom:         0 m2
@@ -104,8 +104,9 @@ surfaces 2
 """
 
 OPEN_WORDS = """\
-Verdict:          open shell. The faces do not close round a solid, as when one is missing, doubled or turned.
-Best volume:      8 m3, to be relied on
+Verdict:          open shell. The mesh does not close, as when a face is missing, doubled or turned.
+                  So its volume depends on where it is measured from, whatever 'reliable' says.
+Best volume:      8 m3, reliable only in that it keeps within its bounds
   method:         mesh_open: the volume summed over the open mesh, which keeps within its bounds
   profile:        no defect recorded
 Pieces:           1
@@ -136,6 +137,7 @@ REFUSALS = {
     "or bytes after the end",
     6: "too many: the file has more than 1536 floats or more than 1536 ids",
 }
+
 
 def changed(old: str, new: str) -> str:
     """The cube's listing with one change."""
@@ -204,6 +206,29 @@ class Words(unittest.TestCase):
     def test_open_shell(self) -> None:
         self.check(OPEN, OPEN_WORDS)
 
+    def test_degenerate_says_why(self) -> None:
+        for change, why in (
+            ("surface 3f800000", "it is flat, its box has no volume"),
+            ("aabb 41000000", "its faces cancel each other"),
+            ("best 80000000", "it is empty, or no triangle of it has an area"),
+        ):
+            old = f"{change.split()[0]} 00000000"
+            words = show_listing.words(ZERO.replace(f"\n{old}\n", f"\n{change}\n").encode())
+            self.assertTrue(words.startswith(f"Verdict:          degenerate. The mesh has no solid: {why}.\n"), words)
+            self.assertIn("0 m3, not to be relied on: there is no volume that can be taken off\n", words)
+            self.assertNotIn("footprint", words)
+
+    def test_an_open_shell_is_never_simply_reliable(self) -> None:
+        fallback = OPEN.replace("reliable 1\nmethod mesh_open", "reliable 0\nmethod prism_fallback")
+        bounded = "reliable only in that it keeps within its bounds"
+        for listing, best in ((OPEN, bounded), (fallback, "not to be relied on")):
+            words = show_listing.words(listing.encode())
+            self.assertIn("The mesh does not close", words)
+            self.assertIn("So its volume depends on where it is measured from, whatever 'reliable' says.\n", words)
+            self.assertIn(f"Best volume:      8 m3, {best}\n", words)
+            self.assertNotIn(", to be relied on", words)
+        self.assertIn("prism_fallback: the prism bound, since the mesh itself gives no volume to use\n", words)
+
     def test_refusals(self) -> None:
         for number, words in REFUSALS.items():
             self.check(f"refused {number}\n", f"Refused ({number}): {words}.\n")
@@ -214,6 +239,13 @@ class Words(unittest.TestCase):
     def test_line_ends_say_nothing(self) -> None:
         self.check(CUBE_LISTING.replace("\n", "\r\n"), CUBE_WORDS)
         self.check(CUBE_LISTING[:-1], CUBE_WORDS)
+
+    def test_byte_order_mark_says_nothing(self) -> None:
+        for listing, words in ((CUBE_LISTING, CUBE_WORDS), (CUBE_LISTING.replace("\n", "\r\n"), CUBE_WORDS)):
+            self.check("\ufeff" + listing, words)
+        self.check("\ufeffrefused 5\n", f"Refused (5): {REFUSALS[5]}.\n")
+        with self.assertRaisesRegex(NotAListing, "line 2: 'reliable' belongs here"):
+            show_listing.words("quality closed\n\ufeffreliable 1\n".encode())
 
     def test_flags(self) -> None:
         flagged = "reliable 0\nmethod mesh_unclipped\nprofile overlapping"

@@ -1,17 +1,15 @@
-"""The script `takeoff`: its messages, and, where the program is built, what it prints."""
+"""The script `takeoff`: its messages, when it builds, and, where the program is fresh, what it prints."""
 
 from __future__ import annotations
 
 import os
+import shutil
 import subprocess
 import tempfile
 import unittest
 from pathlib import Path
 
-from tests.common import CUBE_BYTES, CUBE_LISTING, EXAMPLES, ROOT
-
-SCRIPT = ROOT / "takeoff"
-PROGRAM = ROOT / "target" / "bin" / "takeoff"
+from tests.common import CUBE_BYTES, CUBE_LISTING, EXAMPLES, ROOT, SCRIPT, needs_program
 
 LONGEST = 12318  # bytes of the longest file that is one
 
@@ -31,6 +29,9 @@ class Messages(unittest.TestCase):
         self.assertEqual(takeoff("no such file.mesh"), (2, "", "takeoff: there is no file no such file.mesh\n"))
         self.assertEqual(takeoff("examples"), (2, "", "takeoff: examples is a folder\n"))
 
+    def test_an_empty_name_is_no_standard_input(self) -> None:
+        self.assertEqual(takeoff("", given=CUBE_BYTES), (2, "", "takeoff: the name of the file is empty\n"))
+
     def test_wrong_usage(self) -> None:
         for words in (["--cubes"], ["examples/cube.mesh", "examples/cube.mesh"]):
             status, out, err = takeoff(*words)
@@ -40,19 +41,92 @@ class Messages(unittest.TestCase):
     def test_help(self) -> None:
         status, out, err = takeoff("--help")
         self.assertEqual((status, err), (0, ""))
-        self.assertIn("./takeoff --cube", out)
+        for words in ("./takeoff --cube", "./takeoff --build", "./takeoff --fresh"):
+            self.assertIn(words, out)
 
     def test_no_kit(self) -> None:
         with tempfile.TemporaryDirectory() as folder:
             for name in ("sh", "dirname", "readlink", "uname"):
                 found = next(p for d in os.environ["PATH"].split(":") if (p := Path(d) / name).exists())
                 (Path(folder) / name).symlink_to(found)
-            status, out, err = takeoff("--cube", path=folder)
-        self.assertEqual((status, out), (2, ""))
-        self.assertTrue(err.startswith("takeoff: the Rattle kit is missing"), err)
+            for word in ("--cube", "--fresh"):
+                status, out, err = takeoff(word, path=folder)
+                self.assertEqual((status, out), (2, ""))
+                self.assertTrue(err.startswith("takeoff: the Rattle kit is missing"), err)
 
 
-@unittest.skipUnless(PROGRAM.exists(), "the script's answers: the program takeoff is not built")
+class Fresh(unittest.TestCase):
+    """In a tree of its own, with a program that prints nothing and an rt that only notes that it was asked."""
+
+    def setUp(self) -> None:
+        kept = tempfile.TemporaryDirectory()
+        self.addCleanup(kept.cleanup)
+        self.tree = Path(kept.name) / "a tree"
+        for folder in ("crates/cube/src", "target/bin", "kit/bin"):
+            (self.tree / folder).mkdir(parents=True)
+        shutil.copy(SCRIPT, self.tree)
+        self.program = self.tree / "target/bin/takeoff"
+        self.texts = [self.tree / "crates.txt", self.tree / "crates/cube/src/main.rt"]
+        self.asked = self.tree / "asked"
+        rt = self.tree / "kit/bin/rt"
+        rt.write_text(f"#!/bin/sh\necho \"$@\" >>'{self.asked}'\n")
+        for path in (self.program, *self.texts):
+            path.write_text("#!/bin/sh\n")
+        for path in (rt, self.program):
+            path.chmod(0o755)
+        self.dated(self.program, 2000)
+        for path in self.texts:
+            self.dated(path, 1000)
+
+    def dated(self, path: Path, seconds: int) -> None:
+        """Gives the file this age."""
+        os.utime(path, (seconds, seconds))
+
+    def run_script(self, word: str) -> tuple[int, bytes, bytes]:
+        """Status and both outputs of the tree's script."""
+        env = {**os.environ, "PATH": f"{self.tree}/kit/bin:{os.environ['PATH']}"}
+        env.pop("RATTLE_HOME", None)
+        command = [str(self.tree / "takeoff"), word]
+        done = subprocess.run(command, capture_output=True, stdin=subprocess.DEVNULL, env=env, check=False, timeout=60)
+        return done.returncode, done.stdout, done.stderr
+
+    def check_fresh(self, fresh: bool) -> None:
+        """--fresh says so by its status alone and asks rt nothing; --build asks rt just where it is not."""
+        self.assertEqual(self.run_script("--fresh"), (0 if fresh else 1, b"", b""))
+        self.assertFalse(self.asked.exists())
+        self.run_script("--build")
+        self.assertEqual(self.asked.read_text() if self.asked.exists() else "", "" if fresh else "check takeoff\n")
+
+    def test_no_text_is_newer(self) -> None:
+        self.check_fresh(True)
+
+    def test_a_text_of_the_same_age(self) -> None:
+        self.dated(self.texts[1], 2000)
+        self.check_fresh(True)
+
+    def test_a_newer_text(self) -> None:
+        self.dated(self.texts[1], 2001)
+        self.check_fresh(False)
+
+    def test_a_newer_list_of_crates(self) -> None:
+        self.dated(self.texts[0], 2001)
+        self.check_fresh(False)
+
+    def test_no_program(self) -> None:
+        self.program.unlink()
+        self.check_fresh(False)
+
+    def test_texts_that_cannot_be_seen(self) -> None:
+        self.texts[0].unlink()
+        self.check_fresh(False)
+
+    def test_once_built_it_is_fresh(self) -> None:
+        self.dated(self.texts[1], 2001)
+        self.run_script("--build")
+        self.assertEqual(self.run_script("--fresh"), (0, b"", b""))
+
+
+@needs_program("the script's answers")
 class Answers(unittest.TestCase):
     def test_the_cube_in_every_way(self) -> None:
         self.assertEqual(takeoff("--cube"), (0, CUBE_LISTING, ""))

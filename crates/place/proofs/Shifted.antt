@@ -53,7 +53,7 @@ shifted-of d x y before after plus =
       second-most = subst (λ (z : ℤ). natAbs z ≤ 16777216) plus (t .most);
     }
 
--- no such coordinate is refused
+-- no such float is refused
 pub whole-fine : (x : Float) (a : ℤ) → IsWhole x a → natAbs a ≤ 16777216 → T (fine x)
 unfolding ofBits
 whole-fine x a h l =

@@ -19,8 +19,8 @@ unfoldable pub unexcepted : ℕ → List ℕ → List ℕ
 unexcepted i [] = []
 unexcepted i (x ∷ words) = cond (excepted i) 0 x ∷ unexcepted (suc i) words
 
--- What has to agree of a record's words, by the number that comes back with them. Where the call answered, which is 0, and the verdict, word 0, is open:
--- all but these four. Else all of them; on a refusal they are the caller's own.
+-- What has to agree of a record's words, by the number that comes back with them. Where the call answered, which is 0, and the
+-- verdict, word 0, is open: all but these four. Else all of them; on a refusal they are what the caller had there, whatever that was.
 unfoldable pub owed : ℕ → List ℕ → List ℕ
 owed n words = cond (eqb n 0 && eqb (getD words 0 0) 1) (unexcepted 0 words) words
 

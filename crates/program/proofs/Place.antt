@@ -37,6 +37,10 @@ but-best v q q′ e is-open = rw is-open at e
 abbrev withFloats : Contents → List ℕ → Contents
 withFloats m vertices = record { unit = m .unit; vertices = vertices; ids = m .ids; clip = m .clip; defect = m .defect }
 
+but-for-floats : (m m′ : Contents) → m′ .unit ≡ m .unit → m′ .ids ≡ m .ids → m′ .clip ≡ m .clip → m′ .defect ≡ m .defect → withFloats m (m′ .vertices) ≡ m′
+but-for-floats m m′ unit ids clip defect =
+    λ i. record { unit = sym unit i; vertices = m′ .vertices; ids = sym ids i; clip = sym clip i; defect = sym defect i }
+
 module _ (m : Contents) (vertices : List ℕ) where
   abbrev m′ : Contents
   m′ = withFloats m vertices
@@ -69,8 +73,8 @@ module _ (m : Contents) (vertices : List ℕ) where
     same-text (Check.Refuse n) e shut = refl
     same-text Check.Zero e shut = refl
     same-text Check.Full e shut =
-        let r = records e in
-        let same : meshRecord m′ ≡ meshRecord m = same-record (meshRecord m .«mesh_quality») (meshRecord m) (meshRecord m′) (r .rest) (λ v. shut (record { passes = e; verdict = v })) in
+        let not-open : meshRecord m .«mesh_quality» ≡ Quality.OpenShell → ⊥ = λ v. shut (record { passes = e; verdict = v }) in
+        let same = same-record (meshRecord m .«mesh_quality») (meshRecord m) (meshRecord m′) (records e .rest) not-open in
         rw (same-rows e, same)
 
     texts : AgreeTexts m m′ (textFor (File.Holds m)) (textFor (File.Holds m′))
@@ -91,5 +95,6 @@ module _ (m : Contents) (vertices : List ℕ) where
 pub text-does-not-show : TextDoesNotShow
 unfolding textOf
 text-does-not-show dx dy dz m m′ bytes bytes′ h h′ unit ids clip defect moved enough =
-    let e : withFloats m (m′ .vertices) ≡ m′ = λ i. record { unit = sym unit i; vertices = m′ .vertices; ids = sym ids i; clip = sym clip i; defect = sym defect i } in
-    rw (h, h′) (subst (λ (x : Contents). AgreeTexts m x (textFor (File.Holds m)) (textFor (File.Holds x))) e (texts m (m′ .vertices) dx dy dz moved enough))
+    rw (h, h′)
+    (subst (λ (x : Contents). AgreeTexts m x (textFor (File.Holds m)) (textFor (File.Holds x))) (but-for-floats m m′ unit ids clip defect)
+    (texts m (m′ .vertices) dx dy dz moved enough))

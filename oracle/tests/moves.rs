@@ -105,7 +105,7 @@ fn is_far(mesh: &MeshFile) -> bool {
 
 #[test]
 fn planted_faults_are_found() {
-    let faults: [(&str, Fault); 11] = [
+    let faults: [(&str, Fault); 13] = [
         ("a box corner for the box", &|mesh, given| {
             if given.is_full(mesh) {
                 given.record[5] = mesh.vertices.iter().step_by(3).copied().fold(f32::INFINITY, f32::min).to_bits();
@@ -152,6 +152,16 @@ fn planted_faults_are_found() {
         ("a work word of a refused call", &|mesh, given| {
             if given.answer != 0 {
                 given.areas.work.iter_mut().take(1).for_each(|word| *word = first_x(mesh).to_bits());
+            }
+        }),
+        ("how far a float left over on x is from the first vertex", &|mesh, given| {
+            if given.is_full(mesh) && complete(mesh) < mesh.vertices.len() {
+                given.record[6] = (mesh.vertices[complete(mesh)] - first_x(mesh)).to_bits();
+            }
+        }),
+        ("the trust of a refused call where word 0 is that of an open shell", &|mesh, given| {
+            if given.answer != 0 {
+                (given.record[0], given.record[RELIABLE]) = (1, parity(mesh));
             }
         }),
         ("a surface word beside a zero record", &|mesh, given| {
@@ -271,12 +281,17 @@ fn the_four_exceptions_of_open_shells_agree() {
 
 // ---- the pairs
 
-/// How far the mesh is moved along each axis; nothing where demand 3 does not speak of the two.
+/// How many of the floats vertices have.
+fn complete(mesh: &MeshFile) -> usize {
+    mesh.vertices.len() / 3 * 3
+}
+
+/// How far the vertices are moved along each axis; nothing where demand 3 does not speak of the two.
 fn moved(here: &MeshFile, there: &MeshFile) -> Option<[i64; 3]> {
     let whole = |x: &f32| x.fract() == 0.0 && x.abs() <= LIMIT as f32 && x.to_bits() != (-0.0f32).to_bits();
     let alike = here.ids == there.ids && here.flags == there.flags && here.unit.to_bits() == there.unit.to_bits();
     let mut by = [None; 3];
-    let even = here.vertices.iter().zip(&there.vertices).enumerate().all(|(i, (x, y))| {
+    let even = here.vertices.iter().zip(&there.vertices).take(complete(here)).enumerate().all(|(i, (x, y))| {
         let step = *y as i64 - *x as i64;
         *by[i % 3].get_or_insert(step) == step
     });
@@ -323,6 +338,11 @@ fn the_pairs_have_what_they_are_for() {
             some(&|pair, _| pair.here.vertices.len() % 3 == rest) && some(&|pair, _| pair.here.ids.len() % 3 == rest)
         );
     }
+    let along =
+        |pair: &Pair, by: [i64; 3], i: usize| pair.there.vertices[i] as i64 - pair.here.vertices[i] as i64 == by[i % 3];
+    let left = |pair: &Pair| complete(&pair.here)..pair.here.vertices.len();
+    assert!(some(&|pair, by| complete(&pair.here) > 8 && left(pair).any(|i| along(pair, by, i) && by[i % 3] != 0)));
+    assert!(some(&|pair, by| complete(&pair.here) > 8 && left(pair).any(|i| !along(pair, by, i))));
     assert!(some(&|pair, _| pair.here.vertices.len() < 9) && some(&|pair, _| pair.here.ids.len() < 3));
     let past = |pair: &Pair, id: u32| id as usize >= pair.here.vertices.len() / 3;
     assert!(some(&|pair, _| pair.here.ids.iter().any(|&id| past(pair, id))));

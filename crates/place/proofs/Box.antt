@@ -14,7 +14,7 @@ use Rattle.sums.specs.declared.Bounds.{Bounds}
 use Rattle.sums.specs.Box.{lowest, highest, box, boxTo, boxVolume}
 use Rattle.place.specs.Moved.{Moved}
 use Rattle.place.proofs.Shifted.{Shifted, same-sub, least-shifted, greatest-shifted, least-first, greatest-first}
-use Rattle.place.proofs.Vertices.{along, same-length, coordinate-shifted}
+use Rattle.place.proofs.Vertices.{along, coordinate-shifted}
 
 -- ---- the least and the greatest coordinate on an axis
 
@@ -73,7 +73,7 @@ module _ (dx dy dz : ℤ) (vs vs′ : List Float) (m : Moved dx dy dz vs vs′) 
 
   -- of one vertex at least
   pub box-shifted : 3 ≤ length vs → BoxShifted dx dy dz (box vs) (box vs′)
-  box-shifted h = rw (same-length dx dy dz vs vs′ m) (go (vertexCount vs) (omega arith) (omega arith))
+  box-shifted h = rw (m .lengths) (go (vertexCount vs) (omega arith) (omega arith))
     where
       go : (n : ℕ) → 0 < n → 3 * n ≤ length vs → BoxShifted dx dy dz (boxTo vs n) (boxTo vs′ n)
       go zero p l = absurd (omega arith)

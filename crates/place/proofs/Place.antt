@@ -1,13 +1,11 @@
 -- Demand 3: the checks, the answer and the lent areas of a mesh and of the same mesh moved agree. Assumes nothing.
-use mathlib.Core.Path.{_≡_, refl, sym, _∙_}
+use mathlib.Core.Path.{_≡_, refl}
 use mathlib.Core.List.{List}
 use Prim.Native.Nat.{ℕ}
 use lib.IntN.{ℤ}
 use lib.ListN.{length}
 use lib.Ieee.{Float}
-use lib.Ieee.Bits.{is-true}
 use Rattle.ids.specs.Lent.{cleared}
-use Rattle.sums.specs.Fine.{allFine}
 use Rattle.record.specs.declared.MeshQto.{MeshQto}
 use Rattle.refusals.specs.declared.Check.{Check}
 use Rattle.refusals.specs.Refusals.{workWords, checkOf}
@@ -17,19 +15,16 @@ use Rattle.refusals.proofs.Checks.{Admitted, admitted}
 use Rattle.place.specs.Moved.{Moved}
 use Rattle.place.specs.Agree.{AgreeBy, AgreeRecords, AgreeAnswers}
 use Rattle.place.specs.Place.{PlaceDoesNotShow}
-use Rattle.place.proofs.Vertices.{same-length, all-fine}
+use Rattle.place.proofs.Vertices.{fine-stays}
 use Rattle.place.proofs.Record.{surfaces-stay, records-agree}
 
 module _ (dx dy dz : ℤ) (vs vs′ : List Float) (m : Moved dx dy dz vs vs′) where
-  fine-stays : allFine vs′ ≡ allFine vs
-  fine-stays = let t = all-fine dx dy dz vs vs′ m in is-true (allFine vs′) (t .1) ∙ sym (is-true (allFine vs) (t .0))
-
   pub check-stays : (ids : List ℕ) (u : Float) (w r s : ℕ) → checkOf vs′ ids u w r s ≡ checkOf vs ids u w r s
   unfolding checkOf
-  check-stays ids u w r s = rw (same-length dx dy dz vs vs′ m, fine-stays)
+  check-stays ids u w r s = rw (m .lengths, fine-stays dx dy dz vs vs′ m)
 
   pub work-stays : (ids area : List ℕ) → cleared (workWords (length vs′) (length ids)) area ≡ cleared (workWords (length vs) (length ids)) area
-  work-stays ids area = rw (same-length dx dy dz vs vs′ m)
+  work-stays ids area = rw (m .lengths)
 
 -- a refusal and the zero record do not depend on the mesh's floats
 agree-at : (k : Check) (q q′ : MeshQto) → (k ≡ Check.Full → AgreeRecords q q′) → AgreeAnswers (answerAt k q) (answerAt k q′)
@@ -54,7 +49,7 @@ place-does-not-show dx dy dz vs vs′ ids u w r s a a′ w₁ w₂ r₁ r₂ s�
           rw (c .answers, c′ .answers, e)
           (agree-at k (recordOf vs ids u) (recordOf vs′ ids u)
           (λ h. records-agree dx dy dz vs vs′ m (passes h .mesh .floats-least) ids u enough (passes h .mesh .unit)));
-      work = rw (c .work, c′ .work, e, same-length dx dy dz vs vs′ m);
+      work = rw (c .work, c′ .work, e, m .lengths);
       raster = rw (c .raster, c′ .raster, e);
       surfaces =
           rw (c .surfaces, c′ .surfaces, e)

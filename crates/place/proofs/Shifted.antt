@@ -15,7 +15,7 @@ use Rattle.ieee.proofs.Integers.Order.{lt-moved, under-bound, whole-equals}
 use Rattle.ieee.proofs.Integers.Sums.{sub-moved}
 use Rattle.ieee.proofs.Values.ByValue.{value-number}
 use Rattle.sums.specs.Fine.{fine}
-use Rattle.place.specs.Moved.{isWhole, wholeOf, WholeTells, Plus}
+use Rattle.place.specs.Moved.{isWhole, wholeOf, WholeTells}
 
 -- ---- what the premise's test says
 
@@ -41,19 +41,19 @@ pub record Shifted (d : ℤ) (x y : Float) : Type 0 where
   pub first-most : natAbs at ≤ 16777216
   pub second-most : natAbs (at +ℤ d) ≤ 16777216
 
-pub shifted-of : (d : ℤ) (x y : Float) → Plus d x y → Shifted d x y
-shifted-of d x y p =
-    let s = whole-tells x (p .before) in
-    let t = whole-tells y (p .after) in
+pub shifted-of : (d : ℤ) (x y : Float) → T (isWhole x) → T (isWhole y) → wholeOf y ≡ wholeOf x +ℤ d → Shifted d x y
+shifted-of d x y before after plus =
+    let s = whole-tells x before in
+    let t = whole-tells y after in
     record {
       at = wholeOf x;
       first = s .is;
-      second = subst (IsWhole y) (p .plus) (t .is);
+      second = subst (IsWhole y) plus (t .is);
       first-most = s .most;
-      second-most = subst (λ (z : ℤ). natAbs z ≤ 16777216) (p .plus) (t .most);
+      second-most = subst (λ (z : ℤ). natAbs z ≤ 16777216) plus (t .most);
     }
 
--- no such coordinate is refused
+-- no such float is refused
 pub whole-fine : (x : Float) (a : ℤ) → IsWhole x a → natAbs a ≤ 16777216 → T (fine x)
 unfolding ofBits
 whole-fine x a h l =

@@ -17,7 +17,7 @@ use Rattle.sums.specs.Totals.{totalsTo}
 use Rattle.walk.specs.Walk.{bucketsTo}
 use Rattle.place.specs.Moved.{Moved}
 use Rattle.place.proofs.Shifted.{same-sub}
-use Rattle.place.proofs.Vertices.{same-length, coordinate-shifted}
+use Rattle.place.proofs.Vertices.{coordinate-shifted}
 use Rattle.place.proofs.Box.{BoxShifted}
 
 module _ (dx dy dz : ℤ) (vs vs′ : List Float) (m : Moved dx dy dz vs vs′) (b b′ : Bounds) (k : BoxShifted dx dy dz b b′) where
@@ -32,7 +32,7 @@ module _ (dx dy dz : ℤ) (vs vs′ : List Float) (m : Moved dx dy dz vs vs′) 
 
   same-part : (t : Triangle) → part vs′ (origin b′) t ≡ part vs (origin b) t
   unfolding part cornersInRange inRange
-  same-part t = rw (same-length dx dy dz vs vs′ m) (go (inRange vs (t .a)) (inRange vs (t .b)) (inRange vs (t .c)) (ltb→lt _ _) (ltb→lt _ _) (ltb→lt _ _))
+  same-part t = rw (m .lengths) (go (inRange vs (t .a)) (inRange vs (t .b)) (inRange vs (t .c)) (ltb→lt _ _) (ltb→lt _ _) (ltb→lt _ _))
     where
       go : (p q r : Bool) → (T p → 3 * t .a + 2 < length vs) → (T q → 3 * t .b + 2 < length vs) → (T r → 3 * t .c + 2 < length vs)
           → ifInRange (p && (q && r)) (partOf (corners vs′ (origin b′) t)) ≡ ifInRange (p && (q && r)) (partOf (corners vs (origin b) t))

@@ -1,52 +1,55 @@
--- The premise, said of the lists of floats, holds of every coordinate of every vertex. Assumes nothing.
-use mathlib.Core.Path.{_≡_, refl, ap}
+-- What the premise says of single floats: none is refused, and every coordinate of every vertex is moved. Assumes nothing.
+use mathlib.Core.Path.{_≡_, sym, _∙_}
 use mathlib.Core.List.{List, [], _∷_}
 use Prim.Native.Nat.{ℕ, zero, suc, _+_, _*_, _<_}
 use native.Mathlib.Omega.{arith}
 use lib.Dec.{T}
-use lib.IntN.{ℤ, _+ℤ_}
+use lib.IntN.{ℤ}
 use lib.ListN.{length, getD}
 use lib.Ieee.{Float, nan}
-use lib.Ieee.Fits.{and-i}
+use lib.Ieee.Bits.{is-true}
+use lib.Ieee.Fits.{and-i, and-l, and-r}
 use Rattle.vertices.specs.Vertices.{coordinate}
 use Rattle.sums.specs.Fine.{fine, allFine}
-use Rattle.place.specs.Moved.{Moved}
-use Rattle.place.proofs.Shifted.{Shifted, shifted-of, whole-fine}
+use Rattle.place.specs.Moved.{isWhole, wholeOf, allWhole, Further, Moved}
+use Rattle.place.proofs.Shifted.{Shifted, shifted-of, whole-tells, whole-fine}
 
--- the move on an axis: the axes in turn
+-- ---- floats that are whole
+
+-- none of them is refused, nor one that is left over
+all-fine : (vs : List Float) → T (allWhole vs) → T (allFine vs)
+unfolding allWhole allFine
+all-fine [] h = tt
+all-fine (x ∷ vs) h =
+    let t = whole-tells x (and-l (isWhole x) (allWhole vs) h) in
+    and-i (fine x) (allFine vs) (whole-fine x (wholeOf x) (t .is) (t .most)) (all-fine vs (and-r (isWhole x) (allWhole vs) h))
+
+-- so refusal 4 does not see the move
+pub fine-stays : (dx dy dz : ℤ) (vs vs′ : List Float) → Moved dx dy dz vs vs′ → allFine vs′ ≡ allFine vs
+fine-stays dx dy dz vs vs′ m = is-true (allFine vs′) (all-fine vs′ (m .after)) ∙ sym (is-true (allFine vs) (all-fine vs (m .before)))
+
+-- ---- vertices that are moved
+
+each-whole : (vs : List Float) → T (allWhole vs) → (k : ℕ) → k < length vs → T (isWhole (getD vs k nan))
+unfolding allWhole
+each-whole [] h k l = absurd (omega arith)
+each-whole (x ∷ vs) h zero l = and-l (isWhole x) (allWhole vs) h
+each-whole (x ∷ vs) h (suc k) l = each-whole vs (and-r (isWhole x) (allWhole vs) h) k (omega arith)
+
+-- the move on an axis
 abbrev pub along : ℤ → ℤ → ℤ → ℕ → ℤ
 along dx dy dz zero = dx
-along dx dy dz (suc k) = along dy dz dx k
+along dx dy dz (suc zero) = dy
+along dx dy dz (suc (suc k)) = dz
 
-pub same-length : (dx dy dz : ℤ) (vs vs′ : List Float) → Moved dx dy dz vs vs′ → length vs′ ≡ length vs
-unfolding Moved
-same-length dx dy dz [] [] m = refl
-same-length dx dy dz [] (y ∷ vs′) m = absurd m
-same-length dx dy dz (x ∷ vs) [] m = absurd m
-same-length dx dy dz (x ∷ vs) (y ∷ vs′) m = ap suc (same-length dy dz dx vs vs′ (m .1))
-
-each : (dx dy dz : ℤ) (vs vs′ : List Float) → Moved dx dy dz vs vs′ → (k : ℕ) → k < length vs → Shifted (along dx dy dz k) (getD vs k nan) (getD vs′ k nan)
-unfolding Moved
-each dx dy dz [] vs′ m k h = absurd (omega arith)
-each dx dy dz (x ∷ vs) [] m k h = absurd m
-each dx dy dz (x ∷ vs) (y ∷ vs′) m zero h = shifted-of dx x y (m .0)
-each dx dy dz (x ∷ vs) (y ∷ vs′) m (suc k) h = each dy dz dx vs vs′ (m .1) k (omega arith)
-
-along-vertex : (dx dy dz : ℤ) (v axis : ℕ) → along dx dy dz (3 * v + axis) ≡ along dx dy dz axis
-along-vertex dx dy dz zero axis = let e : 3 * 0 + axis ≡ axis = omega arith in rw e refl
-along-vertex dx dy dz (suc v) axis = let e : 3 * suc v + axis ≡ suc (suc (suc (3 * v + axis))) = omega arith in rw e (along-vertex dx dy dz v axis)
+further : (dx dy dz : ℤ) (vs vs′ : List Float) → Moved dx dy dz vs vs′ → (axis : ℕ) → axis < 3 → Further (along dx dy dz axis) axis vs vs′
+further dx dy dz vs vs′ m zero h = m .x
+further dx dy dz vs vs′ m (suc zero) h = m .y
+further dx dy dz vs vs′ m (suc (suc zero)) h = m .z
+further dx dy dz vs vs′ m (suc (suc (suc k))) h = absurd (omega arith)
 
 pub coordinate-shifted : (dx dy dz : ℤ) (vs vs′ : List Float) → Moved dx dy dz vs vs′ → (v axis : ℕ) → axis < 3 → 3 * v + 2 < length vs
     → Shifted (along dx dy dz axis) (coordinate vs axis v) (coordinate vs′ axis v)
-coordinate-shifted dx dy dz vs vs′ m v axis h l = rw (along-vertex dx dy dz v axis) at (each dx dy dz vs vs′ m (3 * v + axis) (omega arith))
-
--- none of them is refused, before the move or after it
-pub all-fine : (dx dy dz : ℤ) (vs vs′ : List Float) → Moved dx dy dz vs vs′ → T (allFine vs) × T (allFine vs′)
-unfolding Moved allFine
-all-fine dx dy dz [] [] m = (tt, tt)
-all-fine dx dy dz [] (y ∷ vs′) m = absurd m
-all-fine dx dy dz (x ∷ vs) [] m = absurd m
-all-fine dx dy dz (x ∷ vs) (y ∷ vs′) m =
-    let s = shifted-of dx x y (m .0) in
-    let rest = all-fine dy dz dx vs vs′ (m .1) in
-    (and-i (fine x) (allFine vs) (whole-fine x (s .at) (s .first) (s .first-most)) (rest .0), and-i (fine y) (allFine vs′) (whole-fine y (s .at +ℤ dx) (s .second) (s .second-most)) (rest .1))
+coordinate-shifted dx dy dz vs vs′ m v axis h l =
+    shifted-of (along dx dy dz axis) (coordinate vs axis v) (coordinate vs′ axis v) (each-whole vs (m .before) (3 * v + axis) (omega arith))
+    (each-whole vs′ (m .after) (3 * v + axis) (omega (arith, m .lengths))) (further dx dy dz vs vs′ m axis h v (omega arith))

@@ -16,7 +16,7 @@ use Rattle.refusals.specs.Refusals.{unitFits}
 use Rattle.qto.specs.Full.{distance}
 use Rattle.place.specs.Moved.{Moved, unitEnough}
 use Rattle.place.proofs.Shifted.{Shifted}
-use Rattle.place.proofs.Vertices.{along, same-length, coordinate-shifted}
+use Rattle.place.proofs.Vertices.{along, coordinate-shifted}
 use Rattle.place.proofs.Cells.{same-cell}
 
 -- tests that agree find the same number first
@@ -57,7 +57,7 @@ module _ (u : Float) (enough : T (unitEnough u)) (fits : T (unitFits u)) where
 
     same-id : (i : ℕ) → weldId vs′ inv i ≡ weldId vs inv i
     unfolding weldId
-    same-id i = rw (same-length dx dy dz vs vs′ m) (go (ltb i (vertexCount vs)) (ltb→lt _ _))
+    same-id i = rw (m .lengths) (go (ltb i (vertexCount vs)) (ltb→lt _ _))
       where
         go : (b : Bool) → (T b → i < vertexCount vs) → cond b (named vs′ inv i) i ≡ cond b (named vs inv i) i
         go false h = refl
@@ -70,4 +70,4 @@ module _ (u : Float) (enough : T (unitEnough u)) (fits : T (unitFits u)) where
 
     pub same-welded : (ids : List ℕ) → welded vs′ ids (epsilonOf distance u) ≡ welded vs ids (epsilonOf distance u)
     unfolding welded unwelded
-    same-welded ids = rw (same-length dx dy dz vs vs′ m, same-ids ids)
+    same-welded ids = rw (m .lengths, same-ids ids)

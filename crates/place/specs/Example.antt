@@ -3,8 +3,10 @@ use mathlib.Core.Path.{_≡_}
 use mathlib.Core.Logic.{_≢_}
 use mathlib.Core.Bool.{Bool, true, _&&_}
 use mathlib.Core.List.{List, [], _∷_}
+use Prim.Native.Nat.{_≤_}
 use lib.Dec.{T, leb}
 use lib.IntN.{ℤ, pos, negsuc, natAbs, _+ℤ_}
+use lib.ListN.{length}
 use lib.Ieee.{Float, binary32, ofInt}
 use Rattle.ids.specs.Examples.{tetrahedron}
 use Rattle.sums.specs.Box.{box}
@@ -14,31 +16,51 @@ use Rattle.verdict.specs.declared.Quality.{Quality}
 use Rattle.qto.specs.Full.{distance, recordOf}
 use Rattle.place.specs.Moved.{Moved, millimetre, unitEnough}
 
--- integers as f32
+-- a vertex of integers
+pub record Point : Type 0 where
+  pub x : ℤ
+  pub y : ℤ
+  pub z : ℤ
+
+abbrev pub point : ℤ → ℤ → ℤ → Point
+point x y z = record { x = x; y = y; z = z }
+
+-- each moved
+unfoldable pub shift : ℤ → ℤ → ℤ → List Point → List Point
+shift dx dy dz [] = []
+shift dx dy dz (p ∷ ps) = point (p .x +ℤ dx) (p .y +ℤ dy) (p .z +ℤ dz) ∷ shift dx dy dz ps
+
+-- the coordinates one after the other, and some integers left over
+unfoldable pub integers : List Point → List ℤ → List ℤ
+integers [] left = left
+integers (p ∷ ps) left = p .x ∷ p .y ∷ p .z ∷ integers ps left
+
+-- as f32
 unfoldable pub floats : List ℤ → List Float
 floats [] = []
 floats (z ∷ zs) = ofInt binary32 z ∷ floats zs
-
--- each moved on its axis
-unfoldable pub shift : ℤ → ℤ → ℤ → List ℤ → List ℤ
-shift dx dy dz [] = []
-shift dx dy dz (z ∷ zs) = (z +ℤ dx) ∷ shift dy dz dx zs
 
 unfoldable pub inRange : List ℤ → Bool
 inRange [] = true
 inRange (z ∷ zs) = leb (natAbs z) 16777216 && inRange zs
 
--- (`integers-meet`)
+-- what is left over may be any two, one or none, and others there than here (`integers-meet`)
 abbrev pub IntegersMeet : Type 0
-IntegersMeet = (dx dy dz : ℤ) (zs : List ℤ) → T (inRange zs) → T (inRange (shift dx dy dz zs)) → Moved dx dy dz (floats zs) (floats (shift dx dy dz zs))
+IntegersMeet =
+    (dx dy dz : ℤ) (ps : List Point) (left left′ : List ℤ) → length left ≤ 2 → length left′ ≡ length left
+    → T (inRange (integers ps left)) → T (inRange (integers (shift dx dy dz ps) left′))
+    → Moved dx dy dz (floats (integers ps left)) (floats (integers (shift dx dy dz ps) left′))
 
--- the vertices (0, 0, 0), (2, 0, 0), (0, 2, 0), (0, 0, 2), and a 1 left over
+abbrev pub corners : List Point
+corners = point (pos 0) (pos 0) (pos 0) ∷ point (pos 2) (pos 0) (pos 0) ∷ point (pos 0) (pos 2) (pos 0) ∷ point (pos 0) (pos 0) (pos 2) ∷ []
+
+-- with a 1 left over
 abbrev pub here : List ℤ
-here = pos 0 ∷ pos 0 ∷ pos 0 ∷ pos 2 ∷ pos 0 ∷ pos 0 ∷ pos 0 ∷ pos 2 ∷ pos 0 ∷ pos 0 ∷ pos 0 ∷ pos 2 ∷ pos 1 ∷ []
+here = integers corners (pos 1 ∷ [])
 
--- moved by 16,777,214, -16,777,216 and -7: to both ends of the range
+-- moved by 16,777,214, -16,777,216 and -7: to both ends of the range. What is left over is a -5, so it is not moved with its axis
 abbrev pub there : List ℤ
-there = shift (pos 16777214) (negsuc 16777215) (negsuc 6) here
+there = integers (shift (pos 16777214) (negsuc 16777215) (negsuc 6) corners) (negsuc 4 ∷ [])
 
 -- (`real-move`)
 pub record RealMove : Type 0 where

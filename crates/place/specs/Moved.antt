@@ -1,12 +1,14 @@
 -- Demand 3's premise: a mesh of whole numbers, and the same mesh moved by a whole number per axis.
 use mathlib.Core.Path.{_≡_}
-use mathlib.Core.Bool.{Bool}
+use mathlib.Core.Bool.{Bool, true, _&&_}
 use mathlib.Core.List.{List, [], _∷_}
-use Prim.Native.Nat.{_≤_}
+use Prim.Native.Nat.{ℕ, _≤_, _<_}
 use lib.Dec.{T}
 use lib.IntN.{ℤ, natAbs, _+ℤ_}
+use lib.ListN.{length}
 use lib.Ieee.{Float, binary32, le, ofBits, toSigned, whole}
 use Rattle.ieee.specs.WholeNumber.{IsWhole}
+use Rattle.vertices.specs.Vertices.{vertexCount, coordinate}
 
 -- a whole number from -16,777,216 to 16,777,216, and no -0: the kit's test for the whole numbers that f32 counts without a gap
 abbrev pub isWhole : Float → Bool
@@ -21,18 +23,25 @@ pub record WholeTells (x : Float) : Type 0 where
   pub is : IsWhole x (wholeOf x)
   pub most : natAbs (wholeOf x) ≤ 16777216
 
--- y is x plus the whole number d, and both are such floats
-pub record Plus (d : ℤ) (x y : Float) : Type 0 where
-  pub before : T (isWhole x)
-  pub after : T (isWhole y)
-  pub plus : wholeOf y ≡ wholeOf x +ℤ d
+unfoldable pub allWhole : List Float → Bool
+allWhole [] = true
+allWhole (x ∷ vs) = isWhole x && allWhole vs
 
--- the floats in turn, on the axes x, y and z; those behind the last complete vertex move with their axis
-unfoldable pub Moved : ℤ → ℤ → ℤ → List Float → List Float → Type 0
-Moved dx dy dz [] [] = Unit {0}
-Moved dx dy dz (x ∷ vs) (y ∷ vs′) = Plus dx x y × Moved dy dz dx vs vs′
-Moved dx dy dz [] (y ∷ vs′) = ⊥
-Moved dx dy dz (x ∷ vs) [] = ⊥
+-- on one axis every vertex is d further
+abbrev pub Further : ℤ → ℕ → List Float → List Float → Type 0
+Further d axis vs vs′ = (v : ℕ) → v < vertexCount vs → wholeOf (coordinate vs′ axis v) ≡ wholeOf (coordinate vs axis v) +ℤ d
+
+-- the floats of a mesh, and those of the same mesh moved
+pub record Moved (dx dy dz : ℤ) (vs vs′ : List Float) : Type 0 where
+  pub lengths : length vs′ ≡ length vs
+  -- every float is whole, also one or two that are left over behind the last complete vertex: refusal 4 looks at every float, so a
+  -- NaN there would show. Nothing else looks at what is left over, so it need not move: it may be any other whole number
+  pub before : T (allWhole vs)
+  pub after : T (allWhole vs′)
+  -- and every vertex is moved by the same three whole numbers
+  pub x : Further dx 0 vs vs′
+  pub y : Further dy 1 vs vs′
+  pub z : Further dz 2 vs vs′
 
 -- 0.001: the f32 nearest to it
 abbrev pub millimetre : Float

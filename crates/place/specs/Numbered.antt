@@ -1,6 +1,6 @@
 -- Demand 3 for the C interface: `mf_compute` with its flags, the number that comes back and the record's 17 words.
 use mathlib.Core.Path.{_≡_}
-use mathlib.Core.Bool.{Bool, _||_, cond}
+use mathlib.Core.Bool.{Bool, _&&_, _||_, cond}
 use mathlib.Core.List.{List, [], _∷_}
 use Prim.Native.Nat.{ℕ, suc}
 use lib.Dec.{T, eqb}
@@ -19,13 +19,14 @@ unfoldable pub unexcepted : ℕ → List ℕ → List ℕ
 unexcepted i [] = []
 unexcepted i (x ∷ words) = cond (excepted i) 0 x ∷ unexcepted (suc i) words
 
--- what has to agree of a record's words: all of them, or where the verdict, word 0, is open all but these four
-unfoldable pub owed : List ℕ → List ℕ
-owed words = cond (eqb (getD words 0 0) 1) (unexcepted 0 words) words
+-- What has to agree of a record's words, by the number that comes back with them. Where the call answered, which is 0, and the
+-- verdict, word 0, is open: all but these four. Else all of them; on a refusal they are what the caller had there, whatever that was.
+unfoldable pub owed : ℕ → List ℕ → List ℕ
+owed n words = cond (eqb n 0 && eqb (getD words 0 0) 1) (unexcepted 0 words) words
 
 pub record AgreeNumbered (n n′ : ℕ) (w w′ r r′ : List ℕ) (s s′ : List Float) (words words′ : List ℕ) : Type 0 where
   pub number : n′ ≡ n
-  pub record-words : owed words′ ≡ owed words
+  pub record-words : owed n′ words′ ≡ owed n words
   pub work : w′ ≡ w
   pub raster : r′ ≡ r
   pub surfaces : s′ ≡ s

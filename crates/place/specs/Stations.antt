@@ -17,7 +17,7 @@ abbrev pub Stays : {A : Type 0} → (List Float → A) → Type 0
 Stays see = (dx dy dz : ℤ) (vs vs′ : List Float) → Moved dx dy dz vs vs′ → 9 ≤ length vs → see vs′ ≡ see vs
 
 pub record Stations (ids : List ℕ) (u : Float) : Type 0 where
-  -- no such coordinate is refused, so what the table of refusals says does not hang on where they are
+  -- no such float is refused, also none that is left over, so what the table of refusals says does not hang on them
   pub checks : (w r s : ℕ) → Stays (λ vs. checkOf vs ids u w r s)
   -- the box is moved with the mesh, so its corners show the place; its volume does not
   pub box-volume : Stays (λ vs. boxVolume (box vs) (cube u))

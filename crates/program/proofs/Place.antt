@@ -1,66 +1,100 @@
 -- Demand 3 for the program, from that for the record: the text is made of the record, its rows and the ids. Assumes nothing.
-use mathlib.Core.Path.{_≡_, refl}
-use mathlib.Core.Logic.{_⊎_, inl, inr}
-use mathlib.Core.Bool.{Bool}
+use mathlib.Core.Path.{_≡_, refl, sym, subst, _∙_}
 use mathlib.Core.List.{List}
 use Prim.Native.Nat.{ℕ}
 use lib.Dec.{T, eqb}
 use lib.IntN.{ℤ}
-use lib.Ieee.{Float, binary32, ofBits}
-use Rattle.ids.specs.Pieces.{shareId, pieces}
-use Rattle.rows.specs.declared.PlanarSurface.{PlanarSurface}
 use Rattle.verdict.specs.declared.Quality.{Quality}
 use Rattle.record.specs.declared.MeshQto.{MeshQto}
-use Rattle.record.specs.declared.Profile.{Profile}
-use Rattle.record.specs.Flags.{flagged}
 use Rattle.record.specs.Numbers.{profileAt}
 use Rattle.refusals.specs.declared.Check.{Check}
-use Rattle.refusals.specs.Refusals.{checkOf}
-use Rattle.qto.specs.Full.{recordOf, surfaceRows}
+use Rattle.refusals.specs.Refusals.{Passes}
+use Rattle.qto.specs.Full.{recordOf}
 use Rattle.refusals.proofs.Checks.{admitted}
 use Rattle.place.specs.Moved.{Moved, unitEnough}
-use Rattle.place.specs.Agree.{AgreeBy}
+use Rattle.place.specs.Agree.{AgreeBy, AgreeButBest, AgreeRecords}
 use Rattle.place.proofs.Record.{rows-stay, records-agree}
 use Rattle.place.proofs.Place.{check-stays}
 use Rattle.place.proofs.Flags.{flags-keep}
+use Rattle.meshfile.specs.Format.{Contents, File}
 use Rattle.meshfile.specs.Reading.{floatsOf}
-use Rattle.listing.specs.Listing.{listingOf}
-use Rattle.program.specs.Program.{listed, textAt, meshText, textFor, textOf}
-use Rattle.program.specs.Place.{OpenListings, TextDoesNotShow}
+use Rattle.program.specs.Program.{checkMesh, listed, textAt, meshText, textFor, textOf}
+use Rattle.program.specs.Place.{meshFloats, meshUnit, meshRecord, meshRows, IsOpen, AgreeTexts, TextDoesNotShow}
 
-abbrev AgreeTexts : List ℕ → List ℕ → Type 0
-AgreeTexts text text′ = (text′ ≡ text) ⊎ OpenListings text text′
-
-listings-by : (v : Quality) (q q′ : MeshQto) (rows : List PlanarSurface) (n : ℕ) → q .«mesh_quality» ≡ v → q′ .«mesh_quality» ≡ v → AgreeBy v q q′
-    → AgreeTexts (listingOf q rows n) (listingOf q′ rows n)
+-- but for an open mesh the record is the same
+same-record : (v : Quality) (q q′ : MeshQto) → AgreeBy v q q′ → (v ≡ Quality.OpenShell → ⊥) → q′ ≡ q
 unfolding AgreeBy
-listings-by Quality.Closed q q′ rows n h h′ e = inl (rw e)
-listings-by Quality.Degenerate q q′ rows n h h′ e = inl (rw e)
-listings-by Quality.OpenShell q q′ rows n h h′ e =
-    inr (record { one = q; other = q′; rows = rows; pieces = n; is-open = h; is-open′ = h′; agree = e; lists = refl; lists′ = refl })
+same-record Quality.Closed q q′ e shut = e
+same-record Quality.Degenerate q q′ e shut = e
+same-record Quality.OpenShell q q′ e shut = absurd (shut refl)
 
-module _ (dx dy dz : ℤ) (vs vs′ : List Float) (m : Moved dx dy dz vs vs′) (ids : List ℕ) (u : Float) (enough : T (unitEnough u)) (clip : Bool) (profile : Profile) where
-  abbrev said : Check
-  said = checkOf vs ids u 13824 65536 2048
+but-best : (v : Quality) (q q′ : MeshQto) → AgreeBy v q q′ → v ≡ Quality.OpenShell → AgreeButBest q q′
+unfolding AgreeBy
+but-best v q q′ e is-open = rw is-open at e
 
-  -- by what the table says, which is the same for both
-  texts-at : (k : Check) → k ≡ said → AgreeTexts (textAt k vs ids u clip profile) (textAt k vs′ ids u clip profile)
-  unfolding textAt listed
-  texts-at (Check.Refuse n) e = inl refl
-  texts-at Check.Zero e = inl refl
-  texts-at Check.Full e =
-      let a = admitted vs ids u 13824 65536 2048 Check.Full refl e in
-      let r = flags-keep clip profile (recordOf vs ids u) (recordOf vs′ ids u) (records-agree dx dy dz vs vs′ m (a .mesh .floats-least) ids u enough (a .mesh .unit)) in
-      rw (rows-stay dx dy dz vs vs′ m (a .mesh .floats-least) ids u)
-      (listings-by (flagged clip profile (recordOf vs ids u) .«mesh_quality») (flagged clip profile (recordOf vs ids u)) (flagged clip profile (recordOf vs′ ids u))
-      (surfaceRows vs ids u) (pieces shareId ids) refl (r .verdict) (r .rest))
+-- ---- what a file holds, and the same with other floats
 
-  texts : AgreeTexts (meshText vs ids u clip profile) (meshText vs′ ids u clip profile)
-  unfolding meshText
-  texts = rw (check-stays dx dy dz vs vs′ m ids u 13824 65536 2048) (texts-at said refl)
+abbrev withFloats : Contents → List ℕ → Contents
+withFloats m vertices = record { unit = m .unit; vertices = vertices; ids = m .ids; clip = m .clip; defect = m .defect }
+
+but-for-floats : (m m′ : Contents) → m′ .unit ≡ m .unit → m′ .ids ≡ m .ids → m′ .clip ≡ m .clip → m′ .defect ≡ m .defect → withFloats m (m′ .vertices) ≡ m′
+but-for-floats m m′ unit ids clip defect =
+    λ i. record { unit = sym unit i; vertices = m′ .vertices; ids = sym ids i; clip = sym clip i; defect = sym defect i }
+
+module _ (m : Contents) (vertices : List ℕ) where
+  abbrev m′ : Contents
+  m′ = withFloats m vertices
+
+  module _ (dx dy dz : ℤ) (moved : Moved dx dy dz (meshFloats m) (floatsOf vertices)) (enough : T (unitEnough (meshUnit m))) where
+    abbrev said : Check
+    said = checkMesh (meshFloats m) (m .ids) (meshUnit m)
+
+    same-check : checkMesh (meshFloats m′) (m .ids) (meshUnit m) ≡ said
+    same-check = check-stays dx dy dz (meshFloats m) (meshFloats m′) moved (m .ids) (meshUnit m) 13824 65536 2048
+
+    -- of a mesh that the table lets pass
+    module _ (passes : said ≡ Check.Full) where
+      mesh : Passes (meshFloats m) (m .ids) (meshUnit m)
+      mesh = admitted (meshFloats m) (m .ids) (meshUnit m) 13824 65536 2048 said passes refl .mesh
+
+      same-rows : meshRows m′ ≡ meshRows m
+      same-rows = rows-stay dx dy dz (meshFloats m) (meshFloats m′) moved (mesh .floats-least) (m .ids) (meshUnit m)
+
+      records : AgreeRecords (meshRecord m) (meshRecord m′)
+      records =
+          flags-keep (eqb (m .clip) 1) (profileAt (m .defect)) (recordOf (meshFloats m) (m .ids) (meshUnit m)) (recordOf (meshFloats m′) (m .ids) (meshUnit m))
+          (records-agree dx dy dz (meshFloats m) (meshFloats m′) moved (mesh .floats-least) (m .ids) (meshUnit m) enough (mesh .unit))
+
+    abbrev textBy : Check → Contents → List ℕ
+    textBy k c = textAt k (meshFloats c) (c .ids) (meshUnit c) (eqb (c .clip) 1) (profileAt (c .defect))
+
+    same-text : (k : Check) → said ≡ k → (IsOpen m → ⊥) → textBy k m′ ≡ textBy k m
+    unfolding textAt listed
+    same-text (Check.Refuse n) e shut = refl
+    same-text Check.Zero e shut = refl
+    same-text Check.Full e shut =
+        let not-open : meshRecord m .«mesh_quality» ≡ Quality.OpenShell → ⊥ = λ v. shut (record { passes = e; verdict = v }) in
+        let same = same-record (meshRecord m .«mesh_quality») (meshRecord m) (meshRecord m′) (records e .rest) not-open in
+        rw (same-rows e, same)
+
+    texts : AgreeTexts m m′ (textFor (File.Holds m)) (textFor (File.Holds m′))
+    unfolding textFor meshText textAt listed
+    texts =
+        record {
+          same = λ shut. rw same-check (same-text said refl shut);
+          if-open =
+              λ o.
+              record {
+                lists = rw (o .passes);
+                lists′ = rw (same-check, o .passes, same-rows (o .passes));
+                is-open = record { passes = same-check ∙ o .passes; verdict = records (o .passes) .verdict ∙ o .verdict };
+                agree = but-best (meshRecord m .«mesh_quality») (meshRecord m) (meshRecord m′) (records (o .passes) .rest) (o .verdict);
+              };
+        }
 
 pub text-does-not-show : TextDoesNotShow
-unfolding textOf textFor
+unfolding textOf
 text-does-not-show dx dy dz m m′ bytes bytes′ h h′ unit ids clip defect moved enough =
-    rw (h, h′, unit, ids, clip, defect)
-    (texts dx dy dz (floatsOf (m .vertices)) (floatsOf (m′ .vertices)) moved (m .ids) (ofBits binary32 (m .unit)) enough (eqb (m .clip) 1) (profileAt (m .defect)))
+    rw (h, h′)
+    (subst (λ (x : Contents). AgreeTexts m x (textFor (File.Holds m)) (textFor (File.Holds x))) (but-for-floats m m′ unit ids clip defect)
+    (texts m (m′ .vertices) dx dy dz moved enough))

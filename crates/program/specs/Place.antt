@@ -1,37 +1,63 @@
 -- Demand 3 for the program: what it prints for a file, and for the same file with its mesh moved.
 use mathlib.Core.Path.{_≡_}
-use mathlib.Core.Logic.{_⊎_}
 use mathlib.Core.List.{List}
 use Prim.Native.Nat.{ℕ}
-use lib.Dec.{T}
+use lib.Dec.{T, eqb}
 use lib.IntN.{ℤ}
-use lib.Ieee.{binary32, ofBits}
+use lib.Ieee.{Float, binary32, ofBits}
+use Rattle.ids.specs.Pieces.{shareId, pieces}
 use Rattle.rows.specs.declared.PlanarSurface.{PlanarSurface}
 use Rattle.verdict.specs.declared.Quality.{Quality}
 use Rattle.record.specs.declared.MeshQto.{MeshQto}
+use Rattle.record.specs.Flags.{flagged}
+use Rattle.record.specs.Numbers.{profileAt}
+use Rattle.refusals.specs.declared.Check.{Check}
+use Rattle.qto.specs.Full.{recordOf, surfaceRows}
 use Rattle.place.specs.Moved.{Moved, unitEnough}
 use Rattle.place.specs.Agree.{AgreeButBest}
 use Rattle.meshfile.specs.Format.{Contents, File, fileOf}
 use Rattle.meshfile.specs.Reading.{floatsOf}
 use Rattle.listing.specs.Listing.{listingOf}
-use Rattle.program.specs.Program.{textOf}
+use Rattle.program.specs.Program.{checkMesh, textOf}
 
--- two listings of an open mesh, with the same rows and pieces, that differ in four lines at most: reliable, method, best and prism
-pub record OpenListings (text text′ : List ℕ) : Type 0 where
-  pub one : MeshQto
-  pub other : MeshQto
-  pub rows : List PlanarSurface
-  pub pieces : ℕ
-  pub is-open : one .«mesh_quality» ≡ Quality.OpenShell
-  pub is-open′ : other .«mesh_quality» ≡ Quality.OpenShell
-  pub agree : AgreeButBest one other
-  pub lists : text ≡ listingOf one rows pieces
-  pub lists′ : text′ ≡ listingOf other rows pieces
+-- ---- a file's mesh
 
--- the same bytes, unless the mesh is open (`text-does-not-show`)
+abbrev pub meshFloats : Contents → List Float
+meshFloats m = floatsOf (m .vertices)
+
+abbrev pub meshUnit : Contents → Float
+meshUnit m = ofBits binary32 (m .unit)
+
+-- its record, with the file's flags
+abbrev pub meshRecord : Contents → MeshQto
+meshRecord m = flagged (eqb (m .clip) 1) (profileAt (m .defect)) (recordOf (meshFloats m) (m .ids) (meshUnit m))
+
+abbrev pub meshRows : Contents → List PlanarSurface
+meshRows m = surfaceRows (meshFloats m) (m .ids) (meshUnit m)
+
+-- 01's table lets it pass, and its verdict is open
+pub record IsOpen (m : Contents) : Type 0 where
+  pub passes : checkMesh (meshFloats m) (m .ids) (meshUnit m) ≡ Check.Full
+  pub verdict : meshRecord m .«mesh_quality» ≡ Quality.OpenShell
+
+-- ---- the text of a file with the mesh m, and that of one with m′, the same mesh moved
+
+-- the listings of their records, with the same rows and pieces: they differ in four lines at most, which are reliable, method, best and prism
+pub record OpenListings (m m′ : Contents) (text text′ : List ℕ) : Type 0 where
+  pub lists : text ≡ listingOf (meshRecord m) (meshRows m) (pieces shareId (m .ids))
+  pub lists′ : text′ ≡ listingOf (meshRecord m′) (meshRows m) (pieces shareId (m .ids))
+  pub is-open : IsOpen m′
+  pub agree : AgreeButBest (meshRecord m) (meshRecord m′)
+
+pub record AgreeTexts (m m′ : Contents) (text text′ : List ℕ) : Type 0 where
+  -- a refusal, a zero record, a closed or a degenerate mesh: the same bytes
+  pub same : (IsOpen m → ⊥) → text′ ≡ text
+  pub if-open : IsOpen m → OpenListings m m′ text text′
+
+-- (`text-does-not-show`)
 abbrev pub TextDoesNotShow : Type 0
 TextDoesNotShow =
     (dx dy dz : ℤ) (m m′ : Contents) (bytes bytes′ : List ℕ) → fileOf bytes ≡ File.Holds m → fileOf bytes′ ≡ File.Holds m′
     → m′ .unit ≡ m .unit → m′ .ids ≡ m .ids → m′ .clip ≡ m .clip → m′ .defect ≡ m .defect
-    → Moved dx dy dz (floatsOf (m .vertices)) (floatsOf (m′ .vertices)) → T (unitEnough (ofBits binary32 (m .unit)))
-    → (textOf bytes′ ≡ textOf bytes) ⊎ OpenListings (textOf bytes) (textOf bytes′)
+    → Moved dx dy dz (meshFloats m) (meshFloats m′) → T (unitEnough (meshUnit m))
+    → AgreeTexts m m′ (textOf bytes) (textOf bytes′)

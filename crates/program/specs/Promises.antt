@@ -9,9 +9,9 @@ use lib.ListN.{length, take}
 use lib.Ieee.{Float, binary32, ofBits}
 use Rattle.sums.specs.Fine.{fine, allFine}
 use Rattle.refusals.specs.declared.Check.{Check}
-use Rattle.refusals.specs.Refusals.{first, unitFits, checkOf}
+use Rattle.refusals.specs.Refusals.{first, unitFits}
 use Rattle.listing.specs.Listing.{refusedLine}
-use Rattle.program.specs.Program.{textOf, Prints}
+use Rattle.program.specs.Program.{checkMesh, textOf, Prints}
 
 -- the rows of 01's table that a file can meet: it is never too large, and no area is too short (`areas-suffice`)
 unfoldable pub checkFile : List Float → List ℕ → Float → Check
@@ -22,7 +22,7 @@ checkFile vs ids u =
     Check.Full))
 
 abbrev pub AreasSuffice : Type 0
-AreasSuffice = (vs : List Float) (ids : List ℕ) (u : Float) → length vs ≤ 1536 → length ids ≤ 1536 → checkOf vs ids u 13824 65536 2048 ≡ checkFile vs ids u
+AreasSuffice = (vs : List Float) (ids : List ℕ) (u : Float) → length vs ≤ 1536 → length ids ≤ 1536 → checkMesh vs ids u ≡ checkFile vs ids u
 
 -- no pattern of an infinity or a NaN, whatever its digits, gets past refusal 4
 abbrev pub NotFiniteRefused : Type 0

@@ -8,7 +8,7 @@ use crate::file::MeshFile;
 use crate::random::Random;
 
 /// The words of the record that may differ where both shells are open: best volume, method, trust and bound. Demand 3 has no
-/// other exception.
+/// other exception: on a refusal the words are the caller's own, and none of them may differ, whatever word 0 was.
 const FREE: [usize; 4] = [13, 2, 1, 15];
 
 /// The quality of an open shell, word 0.

@@ -1,5 +1,6 @@
 //! Pairs of meshes that demand 3 speaks of: all floats whole numbers up to 2^24 and none -0, the same ids, flags, unit and
-//! areas, and the second mesh the first one moved by a whole number an axis.
+//! areas, and the vertices of the second mesh those of the first one moved by a whole number an axis. Floats left over behind
+//! the last vertex are as many in both, and often others.
 
 use crate::compute::compare::{choices, UNKNOWN_FLAGS};
 use crate::compute::meshes::{self, affordable};
@@ -98,19 +99,24 @@ pub fn pair(kind: usize, turn: u64) -> Pair {
     if random.once_in(16) {
         (0..random.within(1, 2)).for_each(|_| ids.push(random.below(9) as u32));
     }
-    let rooms = [0, 1, 2].map(|axis| room(&vertices, axis));
+    let complete = vertices.len() / 3 * 3;
+    let rooms = [0, 1, 2].map(|axis| room(&vertices[..complete], axis));
     let here = rooms.map(|room| place(random, room));
     let there = [0, 1, 2].map(|axis| other_place(random, here[axis], rooms[axis]));
     let unit = unit(random);
     let at = |place: [i64; 3]| {
-        let moved = vertices.iter().enumerate().map(|(i, x)| (x + place[i % 3]) as f32);
+        let moved = vertices.iter().enumerate().map(|(i, x)| (x + place[i % 3]).clamp(-LIMIT, LIMIT) as f32);
         plain(unit, &moved.collect::<Vec<_>>(), &ids)
     };
     let exact = Lent::exactly(vertices.len(), ids.len());
     let choices = choices(exact, true, random);
     let lent = if random.once_in(4) { random.pick(&choices) } else { exact };
     let (clip, defect) = flags(random);
-    Pair { here: at(here), there: at(there), clip, defect, lent }
+    let (here, mut there) = (at(here), at(there));
+    if complete < vertices.len() && random.once_in(2) {
+        there.vertices[complete..].fill_with(|| leftover(random) as f32);
+    }
+    Pair { here, there, clip, defect, lent }
 }
 
 // ---- whole numbers
@@ -141,7 +147,7 @@ fn leftover(random: &mut Random) -> i64 {
 
 // ---- places
 
-/// The least and the greatest move along an axis that keeps all floats in range.
+/// The least and the greatest move along an axis that keeps all vertices in range.
 fn room(vertices: &[i64], axis: usize) -> [i64; 2] {
     let all = || vertices.iter().skip(axis).step_by(3).copied();
     [-LIMIT - all().min().unwrap_or(0), LIMIT - all().max().unwrap_or(0)]

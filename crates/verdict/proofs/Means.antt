@@ -17,7 +17,7 @@ use Rattle.ids.specs.FaceNet.{sameFace, faces, maxAbs, allCancel}
 use Rattle.ids.proofs.Meaning.{all-cancel-tells, max-abs-is-largest}
 use Rattle.weld.specs.Weld.{welded}
 use Rattle.verdict.specs.Verdict.{tooLarge, nearZero, byFaces, byChain, quality}
-use Rattle.verdict.specs.Meaning.{lastUsed, facesAsked, IsClosed, IsOpen, CancelsOut, IsDegenerate, Exactly, VerdictMeans}
+use Rattle.verdict.specs.Meaning.{lastUsed, facesAsked, ClosedSays, OpenSays, CancelsOut, DegenerateSays, Exactly, VerdictMeans}
 use Rattle.verdict.specs.declared.Quality.{Quality}
 use Rattle.verdict.specs.declared.Quality.the-variants.{Closed, OpenShell, Degenerate}
 use Rattle.verdict.proofs.Meaning.{no-box, too-large, within-box, unasked, one-sided, cancels, not-cancelled, as-given, as-welded, open-still}
@@ -28,8 +28,8 @@ cancelled-small ids h =
     elim (decLe (maxAbs ids) 1) [
       | yes l ↦ omega arith
       | no l ↦ (let w = max-abs-is-largest ids .reached (omega arith) in
-      let none : natAbs (signed sameFace (w .0) (faces ids)) ≡ 0 = ap natAbs (all-cancel-tells ids .sound h (w .0)) in
-      absurd (omega (arith, w .1, none)))
+          let none : natAbs (signed sameFace (w .0) (faces ids)) ≡ 0 = ap natAbs (all-cancel-tells ids .sound h (w .0)) in
+          absurd (omega (arith, w .1, none)))
     ]
 
 -- no verdict is another
@@ -70,14 +70,14 @@ module _ (vs : List Float) (ids : List ℕ) (ε volume box : Float) where
   and-false true b h = h refl
   and-false false b h = refl
 
-  closed-told : IsClosed used volume box → verdict ≡ Closed
+  closed-told : ClosedSays used volume box → verdict ≡ Closed
   closed-told h = within-box vs ids ε volume box (h .has-box) (h .within-box) ∙ (by-used (h .boundary-free) ∙ go (facesAsked used near) refl)
     where
       go : (b : Bool) → facesAsked used near ≡ b → byFaces used near ≡ Closed
       go false k = unasked used near k
       go true k = not-cancelled used near k (lt-leb 2 (maxAbs used) (h .one-sided-nowhere k)) (and-false near (allCancel used) (h .encloses))
 
-  open-told : IsOpen used volume box → verdict ≡ OpenShell
+  open-told : OpenSays used volume box → verdict ≡ OpenShell
   open-told h = by-volume (tooLarge volume box) refl
     where
       by-ids : (b : Bool) → boundaryFree used ≡ b → tooLarge volume box ≡ false → byChain vs ids ε near ≡ OpenShell
@@ -99,7 +99,7 @@ module _ (vs : List Float) (ids : List ℕ) (ε volume box : Float) where
   and-true : (a b : Bool) → a ≡ true → b ≡ true → a && b ≡ true
   and-true a b h k = rw (h, k)
 
-  degenerate-told : IsDegenerate used volume box → verdict ≡ Degenerate
+  degenerate-told : DegenerateSays used volume box → verdict ≡ Degenerate
   degenerate-told = ⊎-elim (no-box vs ids ε volume box) (λ h. by-box h (le box nought) refl)
     where
       by-box : CancelsOut used volume box → (b : Bool) → le box nought ≡ b → verdict ≡ Degenerate
@@ -113,7 +113,7 @@ module _ (vs : List Float) (ids : List ℕ) (ε volume box : Float) where
   -- ---- every mesh has one of the three
 
   abbrev Some : Type 0
-  Some = IsClosed used volume box ⊎ (IsOpen used volume box ⊎ IsDegenerate used volume box)
+  Some = ClosedSays used volume box ⊎ (OpenSays used volume box ⊎ DegenerateSays used volume box)
 
   by-faces : le box nought ≡ false → tooLarge volume box ≡ false → boundaryFree used ≡ true → Some
   by-faces some small free = by-sums (facesAsked used near) refl (decLe 2 (maxAbs used))

@@ -22,7 +22,7 @@ abbrev pub facesAsked : List ℕ → Bool → Bool
 facesAsked used near = overIncident used || near
 
 -- the box has a volume and the mesh no more than it, no edge of the ids last used is open, and the faces say nothing against it
-pub record IsClosed (used : List ℕ) (volume box : Float) : Type 0 where
+pub record ClosedSays (used : List ℕ) (volume box : Float) : Type 0 where
   pub has-box : le box nought ≡ false
   pub within-box : tooLarge volume box ≡ false
   pub boundary-free : boundaryFree used ≡ true
@@ -30,7 +30,7 @@ pub record IsClosed (used : List ℕ) (volume box : Float) : Type 0 where
   pub encloses : nearZero volume box ≡ true → allCancel used ≡ false
 
 -- more volume than the box has, or an open edge, or, asked for, a face sum of magnitude 2 and more
-pub record IsOpen (used : List ℕ) (volume box : Float) : Type 0 where
+pub record OpenSays (used : List ℕ) (volume box : Float) : Type 0 where
   pub has-box : le box nought ≡ false
   pub why : (tooLarge volume box ≡ true) ⊎ ((boundaryFree used ≡ false) ⊎ ((facesAsked used (nearZero volume box) ≡ true) × (2 ≤ maxAbs used)))
 
@@ -42,8 +42,8 @@ pub record CancelsOut (used : List ℕ) (volume box : Float) : Type 0 where
   pub cancels : allCancel used ≡ true
 
 -- no box, or nothing left of it
-abbrev pub IsDegenerate : List ℕ → Float → Float → Type 0
-IsDegenerate used volume box = (le box nought ≡ true) ⊎ CancelsOut used volume box
+abbrev pub DegenerateSays : List ℕ → Float → Float → Type 0
+DegenerateSays used volume box = (le box nought ≡ true) ⊎ CancelsOut used volume box
 
 -- the verdict is q exactly where P holds
 pub record Exactly (verdict q : Quality) (P : Type 0) : Type 0 where
@@ -51,6 +51,6 @@ pub record Exactly (verdict q : Quality) (P : Type 0) : Type 0 where
   pub complete : P → verdict ≡ q
 
 pub record VerdictMeans (vs : List Float) (ids : List ℕ) (ε volume box : Float) : Type 0 where
-  pub closed : Exactly (quality vs ids ε volume box) Closed (IsClosed (lastUsed vs ids ε) volume box)
-  pub open-shell : Exactly (quality vs ids ε volume box) OpenShell (IsOpen (lastUsed vs ids ε) volume box)
-  pub degenerate : Exactly (quality vs ids ε volume box) Degenerate (IsDegenerate (lastUsed vs ids ε) volume box)
+  pub closed : Exactly (quality vs ids ε volume box) Closed (ClosedSays (lastUsed vs ids ε) volume box)
+  pub open-shell : Exactly (quality vs ids ε volume box) OpenShell (OpenSays (lastUsed vs ids ε) volume box)
+  pub degenerate : Exactly (quality vs ids ε volume box) Degenerate (DegenerateSays (lastUsed vs ids ε) volume box)

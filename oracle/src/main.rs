@@ -40,8 +40,8 @@ Against the program:
                                differ'. MOWFROST_WORKERS: so many processes at a time, by default 2
   oracle file NUMBER           writes the file of that number as 'program' sends it
 
-Against the port (x86-64; first, at the root of the repository: rt staticlib capi. For another machine MOWFROST_PORT names
-a folder with a libcapi.a of its kind when this is built):
+Against the port (x86-64; first, at the root of the repository: rt staticlib capi and rt staticlib probe. For another machine
+MOWFROST_PORT names a folder with a libcapi.a and a libprobe.a of its kind when this is built):
 
   oracle floats N              every float helper on edge patterns and N by chance each, against Rust's operation;
                                last line 'A agree, D differ'

@@ -1,5 +1,5 @@
-/* The takeoff of a cube from C: its record in words, then what each sort of bad input is refused with. What everything means stands in
- * include/mowfrost.h; how this is compiled and run, in examples/README.md. */
+/* The takeoff of a cube from C: its record in words, then how each sort of bad input is refused. What everything means
+ * stands in include/mowfrost.h; how this is compiled and run, in examples/README.md. */
 #include <mowfrost.h>
 
 #include <math.h>
@@ -22,11 +22,12 @@ static uint32_t record[MF_RECORD_WORDS];
 /* More ids than a call may have, for refusal 1. */
 static uint32_t too_many[MF_MOST + 1];
 
-/* The call with what differs below: the floats, the ids, the unit, the clip flag, and how many work words are lent. */
-static uint32_t ask(const float *floats, const uint32_t *list, size_t list_len, float unit, uint32_t clip, size_t work_len)
+/* The call, by what differs below: the floats, the ids, the unit, the clip, and how many work words are lent. */
+static uint32_t ask(const float *floats, const uint32_t *list, size_t list_len, float unit, uint32_t clip,
+                    size_t work_len)
 {
-    return mf_compute(floats, LENGTH(vertices), list, list_len, unit, clip, 0, work, work_len, raster, LENGTH(raster), surfaces,
-                      LENGTH(surfaces), record);
+    return mf_compute(floats, LENGTH(vertices), list, list_len, unit, clip, 0, work, work_len, raster, LENGTH(raster),
+                      surfaces, LENGTH(surfaces), record);
 }
 
 /* A number of the record: it comes as the bits of a float. */
@@ -40,7 +41,8 @@ static double number(int word)
 static void print_record(void)
 {
     static const char *const qualities[] = {"closed", "open shell", "degenerate"};
-    static const char *const methods[] = {"mesh", "mesh_open", "prism_fallback", "mesh_unclipped", "mesh_profile_invalid"};
+    static const char *const methods[] = {"mesh", "mesh_open", "prism_fallback", "mesh_unclipped",
+                                          "mesh_profile_invalid"};
     printf("%s, best volume %g m3 by %s, %s\n", qualities[record[0]], number(13), methods[record[2]],
            record[1] ? "to be relied on" : "not to be relied on");
     printf("volume %g m3, box %g m3, surface %g m2\n", number(4), number(5), number(6));
@@ -50,8 +52,8 @@ static void print_record(void)
     else
         printf("prism bound not computed\n");
     printf("%u surfaces:\n", (unsigned)record[16]);
-    for (uint32_t row = 0; row < record[16]; row++)
-        printf("  %g m2 facing %g %g %g\n", surfaces[4 * row], surfaces[4 * row + 1], surfaces[4 * row + 2], surfaces[4 * row + 3]);
+    for (const float *row = surfaces; row < surfaces + 4 * record[16]; row += 4)
+        printf("  %g m2 facing %g %g %g\n", row[0], row[1], row[2], row[3]);
 }
 
 /* An answer in words. A refusal leaves the record, which held 17 times 77, as it was. */
@@ -61,7 +63,8 @@ static void print_answer(const char *what, uint32_t answer)
     for (int word = 0; word < MF_RECORD_WORDS; word++)
         kept = kept && record[word] == 77;
     if (answer >= MF_REFUSED)
-        printf("%s: refused %u, the record is %s\n", what, (unsigned)(answer - MF_REFUSED), kept ? "as it was" : "another");
+        printf("%s: refused %u, the record is %s\n", what, (unsigned)(answer - MF_REFUSED),
+               kept ? "as it was" : "another");
     else
         printf("%s: taken\n", what);
 }

@@ -119,8 +119,12 @@ impl<T: Copy + PartialEq> Area<T> {
     fn changed(&self, length: usize, front: usize) -> Option<(i64, T, T)> {
         let (start, from, end) = (self.from - RIM, self.from, self.from + length + RIM);
         let behind = from + front.min(length);
-        let wrong = (start..from).chain(behind..end).find(|&i| self.now[i] != self.noise[i]);
-        wrong.map(|i| (i as i64 - from as i64, self.now[i], self.noise[i]))
+        let (now, noise) = (&self.now, &self.noise);
+        if now[start..from] == noise[start..from] && now[behind..end] == noise[behind..end] {
+            return None;
+        }
+        let wrong = (start..from).chain(behind..end).find(|&i| now[i] != noise[i]);
+        wrong.map(|i| (i as i64 - from as i64, now[i], noise[i]))
     }
 
     /// All that it holds, rims included. Then all is noise again.

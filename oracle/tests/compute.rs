@@ -103,21 +103,24 @@ fn wrong_areas_are_found() {
 
 const QUIET: u32 = 0x0040_0000;
 
+/// Another NaN for a NaN, and whether a call came to something.
+type Other = fn(u32) -> u32;
+type Of = fn(u32, &MeshFile) -> bool;
+
 /// Each NaN of a slice of floats becomes another.
-fn other_nans(floats: &mut [u32], other: fn(u32) -> u32) {
+fn other_nans(floats: &mut [u32], other: Other) {
     floats.iter_mut().filter(|bits| f32::from_bits(**bits).is_nan()).for_each(|bits| *bits = other(*bits));
 }
 
 /// What a port may make of NaNs that have to stay, wherever they stand.
 #[test]
 fn another_nan_is_found() {
-    let others: [(&str, fn(u32) -> u32); 4] = [
+    let others: [(&str, Other); 4] = [
         ("a signalling one made quiet", |bits| bits | QUIET),
         ("a quiet one made signalling", |bits| if bits & (QUIET - 1) > 0 { bits & !QUIET } else { bits }),
         ("the sign taken away", |bits| bits & 0x7fff_ffff),
         ("digits taken away", |bits| bits & 0x8000_0000 | 0x7fc0_0000),
     ];
-    type Of = fn(u32, &MeshFile) -> bool;
     let places: [(&str, Of); 3] = [
         ("on a refusal", |answer, _| answer > 0),
         ("beside a zero record", |answer, mesh| answer == 0 && is_zero_record(mesh)),
@@ -126,10 +129,9 @@ fn another_nan_is_found() {
     for (what, other) in others {
         for (place, of) in places {
             let port = |call: &Call, mut areas: Areas, record: &mut [u32; WORDS]| {
-                let lent = &mut areas;
-                let answer = RIGHT.answer(call, lent, record);
+                let answer = RIGHT.answer(call, &mut areas, record);
                 if of(answer, call.mesh) {
-                    other_nans(lent.surfaces, other);
+                    other_nans(areas.surfaces, other);
                 }
                 answer
             };

@@ -323,6 +323,6 @@ mod tests {
             lending.lend(&mesh, lent).0.surfaces[1] = 0;
             lending.take(&mesh, lent, Written { surfaces, ..Written::default() }).changed.len()
         };
-        assert_eq!([0, 1, 2, 3].map(|front| changed(front)), [1, 1, 0, 0]);
+        assert_eq!([0, 1, 2, 3].map(&mut changed), [1, 1, 0, 0]);
     }
 }

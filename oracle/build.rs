@@ -1,8 +1,8 @@
 //! Lays the unchanged text of the Rust original, with our probe behind it, where the crate can compile it.
 //! The original is read from the folder in MOWFROST_RUST (absolute, or relative to oracle/), by default from
 //! ../shared/docs/src beside the repository. Its text goes to cargo's output folder and nowhere else.
-//! Links the port's static library where it was built (`rt staticlib capi`) and this machine can run it, or the one in
-//! the folder MOWFROST_PORT.
+//! Links the port's two static libraries, `capi` and `probe`, where they were built (`rt staticlib NAME`) and this machine can run
+//! them, or those in the folder MOWFROST_PORT.
 
 use std::path::{Path, PathBuf};
 use std::{env, fs, process};
@@ -41,20 +41,41 @@ fn main() {
     link_port(&here);
 }
 
-/// Sets `port` where the static library is there. It is x86-64 code, so on another machine the runs against the port
-/// are left out; so they are before the library is built. MOWFROST_PORT (absolute, or relative to oracle/) is a folder with a
-/// library for the machine that is built for, whatever it is.
+/// `capi` is what is shipped, `probe` is for these runs alone. Each is one object in which only the exports are global, so that both can be
+/// linked although the same internal functions stand in them.
+const LIBRARIES: [&str; 2] = ["capi", "probe"];
+
+/// Sets `port` where both static libraries are there. They are x86-64 code, so on another machine the runs against the port
+/// are left out, with a warning; so they are before the libraries are built. MOWFROST_PORT (absolute, or relative to oracle/) is a
+/// folder with libraries for the machine that is built for, whatever it is; there both have to be.
 fn link_port(here: &Path) {
     println!("cargo:rustc-check-cfg=cfg(port)");
     let named = env::var_os("MOWFROST_PORT").map(|folder| here.join(folder));
     let fits = named.is_some() || env::var("CARGO_CFG_TARGET_ARCH").is_ok_and(|arch| arch == "x86_64");
+    let must = named.is_some();
     let folder = named.unwrap_or_else(|| here.join("../target/staticlib"));
-    let library = folder.join("libcapi.a");
-    println!("cargo:rerun-if-changed={}", library.display());
-    if fits && library.exists() {
+    let mut missing = Vec::new();
+    for name in LIBRARIES {
+        let library = folder.join(format!("lib{name}.a"));
+        println!("cargo:rerun-if-changed={}", library.display());
+        if !library.exists() {
+            missing.push(format!("lib{name}.a"));
+        }
+    }
+    if !fits {
+        println!("cargo:warning=the runs against the port are left out: its libraries are x86-64 code, and MOWFROST_PORT names no others");
+    } else if missing.is_empty() {
         println!("cargo:rustc-cfg=port");
         println!("cargo:rustc-link-search=native={}", folder.display());
-        println!("cargo:rustc-link-lib=static=capi");
+        LIBRARIES.iter().for_each(|name| println!("cargo:rustc-link-lib=static={name}"));
+    } else if must {
+        fail(&format!("MOWFROST_PORT is {}, which has no {}", folder.display(), missing.join(" and no ")));
+    } else {
+        println!(
+            "cargo:warning=the runs against the port are left out: target/staticlib has no {}; at the root: rt staticlib capi and rt \
+             staticlib probe",
+            missing.join(" and no ")
+        );
     }
 }
 

@@ -10,25 +10,21 @@ pub mod mesh;
 pub mod compute;
 pub mod exception;
 pub mod file;
-#[cfg(port)]
 pub mod floats;
 pub mod frames;
-#[cfg(port)]
 pub mod ids;
 pub mod kinds;
+pub mod linked;
 pub mod listing;
 pub mod moves;
 pub mod pieces;
 pub mod program;
 pub mod random;
-#[cfg(port)]
 pub mod raster;
 pub mod reach;
 pub mod record;
 pub mod sent;
 pub mod solids;
-#[cfg(port)]
 pub mod speed;
 pub mod stored;
-#[cfg(port)]
 pub mod weld;

@@ -40,8 +40,8 @@ Against the program:
                                differ'. MOWFROST_WORKERS: so many processes at a time, by default 2
   oracle file NUMBER           writes the file of that number as 'program' sends it
 
-Against the port (x86-64; first, at the root of the repository: rt staticlib capi. For another machine MOWFROST_PORT names
-a folder with a libcapi.a of its kind when this is built):
+Against the port (x86-64; first, at the root of the repository: rt staticlib capi and rt staticlib probe. For another machine
+MOWFROST_PORT names a folder with a libcapi.a and a libprobe.a of its kind when this is built):
 
   oracle floats N              every float helper on edge patterns and N by chance each, against Rust's operation;
                                last line 'A agree, D differ'
@@ -51,19 +51,23 @@ a folder with a libcapi.a of its kind when this is built):
                                exact, one word short and longer, against the original (pieces: a plain reference);
                                answers, refusals and every word of the area; last line 'A agree, D differ'
   oracle speed ids             milliseconds a list, the port's routine and the original's
-  oracle weld N                the weld on large meshes and on N by chance: new ids and every word of the lent part; then ε
+  oracle weld N                the weld on large meshes and on N by chance: new ids, every word of the lent part, and that
+                               vertices and ids are as they were; then ε
   oracle speed weld            milliseconds a weld
   oracle raster N              the point test on N points, the footprint on large meshes and on N by chance: its bits and
-                               every byte of the lent raster
+                               every byte of the lent raster, and that vertices and ids are as they were
   oracle speed raster          milliseconds for the three footprints of a mesh
   oracle compute N             the record on large meshes, on lengths about the limit and on N by chance of every kind in
                                turn, over areas that are exact, one short, longer and far too short: refusals, all words
-                               of the record, every row and every place of the areas; meshes near the one exception are
-                               counted and compared by document 01's exact form; last line 'A agree, D differ'
+                               of the record, every row and every place of the areas, and that the mesh is as it was; floats
+                               by their bits, with NaNs of all sorts wherever one has to stay, which are counted; meshes
+                               near the one exception are counted and compared by document 01's exact form; last line 'A
+                               agree, D differ'
   oracle moves N               demand 3 on N pairs of every kind in turn, a whole-number mesh and the same moved by whole
                                numbers, over areas as for 'compute' that hold the same before both calls: the two answers,
-                               all words of the record, every place of the areas; of two open shells best volume, method,
-                               trust and bound may differ, and how often they do is counted; last line 'A agree, D differ'
+                               all words of the record, every place of the areas, and that whatever has to stay did; of two
+                               open shells best volume, method, trust and bound may differ, and how often they do is counted;
+                               last line 'A agree, D differ'
   oracle speed compute         milliseconds a record, at an eighth of the most triangles up to all; nanoseconds for small
   oracle speed                 compute and each id routine beside the original on the meshes whose ratios are bounded, with
                                the bound; then how the time grows from a quarter of the most triangles to all

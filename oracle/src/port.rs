@@ -1,9 +1,9 @@
-//! The runs that need the port's static library.
+//! The runs that need the port's static libraries.
 
+use mowfrost_oracle::linked::MISSING;
 use std::io;
 use std::process::ExitCode;
 
-#[cfg_attr(not(port), allow(dead_code))]
 pub enum Run {
     Floats(u64),
     FloatsAll,
@@ -21,17 +21,11 @@ pub enum Run {
     SpeedCompute,
 }
 
-#[cfg(not(port))]
-pub fn run(_: Run) -> io::Result<ExitCode> {
-    eprintln!(
-        "oracle: built without the port's static library. On x86-64, at the root of the repository: rt staticlib capi; \
-         then build anew"
-    );
-    Ok(ExitCode::from(2))
-}
-
-#[cfg(port)]
 pub fn run(run: Run) -> io::Result<ExitCode> {
+    if !cfg!(port) {
+        eprintln!("oracle: {MISSING}");
+        return Ok(ExitCode::from(2));
+    }
     match run {
         Run::Floats(n) => linked::floats(n),
         Run::FloatsAll => linked::floats_all(),
@@ -50,7 +44,6 @@ pub fn run(run: Run) -> io::Result<ExitCode> {
     }
 }
 
-#[cfg(port)]
 mod linked {
     use mowfrost_oracle::floats::compare::{on_all_32, on_chance, on_edges, Count};
     use mowfrost_oracle::floats::helpers::{Width, HELPERS};
@@ -122,15 +115,20 @@ mod linked {
         }))
     }
 
+    /// A line a kind, one for all kinds, the NaNs that stayed, then the sums.
     pub fn compute(n: u64) -> io::Result<ExitCode> {
-        use compute::compare::{all, PORT};
-        sum(all(PORT, n).map(|(on, count)| -> Line {
-            let line = reached(on, count.agree, count.differ, &count.reached());
-            (line, count.agree, count.differ, [count.shown, count.noted].concat())
-        }))
+        use compute::compare::{all, Count, PORT};
+        let line = |on: &str, count: &Count| reached(on, count.agree, count.differ, &count.reached());
+        let (mut out, mut sums) = (io::stdout().lock(), Count::default());
+        for (on, count) in all(PORT, n) {
+            show(&mut out, &line(on, &count), &[&count.shown[..], &count.noted].concat())?;
+            sums.join(&count);
+        }
+        show(&mut out, &line("all kinds", &sums), &[sums.stayed.told()])?;
+        end(&mut out, sums.agree, sums.differ)
     }
 
-    /// A line a kind, one for all kinds, then the sums.
+    /// As for `compute`.
     pub fn moves(n: u64) -> io::Result<ExitCode> {
         use moves::compare::{on_chance, Count};
         let line = |on: &str, count: &Count| reached(on, count.agree, count.differ, &count.reached());
@@ -139,7 +137,7 @@ mod linked {
             show(&mut out, &line(on, &count), &count.shown)?;
             all.join(&count);
         }
-        show(&mut out, &line("all kinds", &all), &[])?;
+        show(&mut out, &line("all kinds", &all), &[all.stayed.told()])?;
         end(&mut out, all.agree, all.differ)
     }
 

@@ -1,5 +1,6 @@
 //! `oracle program N BIN ..`: the program itself, a process a file, beside the listing. It has to print that byte for byte,
-//! to end with success and to say nothing on standard error.
+//! to end with success and to say nothing on standard error. The floats that `meshfile::read` is lent there stand in the program's own
+//! memory, and C has no name for it: no run sees their bits, a NaN's least of all.
 
 use crate::listing::listing;
 use crate::reach::Reach;

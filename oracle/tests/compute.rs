@@ -1,9 +1,11 @@
 //! The port's record beside document 01's: large meshes and some thousand by chance here, more by `oracle compute N`. That
-//! the comparison finds mistakes is tried with ports written for it (`ways`), so all but the first test run without the library.
+//! the comparison finds mistakes is tried with ports written for it (`ways`), so all but the first test run without the library; that one is
+//! ignored then, and says so.
 
 use mowfrost_oracle::compute::areas::{Areas, WORDS};
 use mowfrost_oracle::compute::compare::{is_zero_record, on_chance, on_large, on_limits, Call, Count, Port};
 use mowfrost_oracle::compute::meshes::{by_chance, kinds, large, limits};
+use mowfrost_oracle::compute::nans::{Stayed, ENDS};
 use mowfrost_oracle::compute::split::{bad_places, is_bad, split_badly};
 use mowfrost_oracle::file::{Flags, MeshFile};
 use mowfrost_oracle::record::{original, Lent, Record, FARTHEST, MOST, RASTER_BYTES};
@@ -14,16 +16,17 @@ use ways::{Way, RIGHT};
 
 fn sum(counts: impl Iterator<Item = (&'static str, Count)>) -> Count {
     counts.fold(Count::default(), |mut sum, (_, count)| {
-        (sum.agree, sum.differ) = (sum.agree + count.agree, sum.differ + count.differ);
-        (sum.near, sum.otherwise) = (sum.near + count.near, sum.otherwise + count.otherwise);
-        sum.tally.join(&count.tally);
+        sum.join(&count);
         sum.shown.extend(count.shown);
         sum
     })
 }
 
-#[cfg(port)]
 #[test]
+#[cfg_attr(
+    not(port),
+    ignore = "the port's libraries were not built: at the root, rt staticlib capi and rt staticlib probe"
+)]
 fn every_record_agrees() {
     use mowfrost_oracle::compute::compare::{all, PORT};
     let count = sum(all(PORT, 10_000));
@@ -57,6 +60,10 @@ fn the_right_way_agrees_and_reaches_everything() {
         chance.reached()
     );
     assert!(chance.near > 100 && chance.otherwise > 0, "{}", chance.reached());
+    let Stayed { refused, zero, behind, vertices } = chance.stayed;
+    for nans in [refused, zero, behind, vertices] {
+        assert!(nans.signalling > 10_000 && nans.quiet > 10_000, "{}", chance.stayed.told());
+    }
     assert!(limits.tally.refused.iter().all(|&times| times > 5) && limits.tally.zero > 30, "{}", limits.reached());
     assert!(large.tally.verdicts.iter().all(|&times| times > 3), "{}", large.reached());
 }
@@ -92,10 +99,71 @@ fn wrong_areas_are_found() {
         }
     };
     assert!(Way { last: behind, ..RIGHT }.found(), "a row behind the rows");
-    let quiet = |_: u32, _: &MeshFile, areas: &mut Areas, _: &mut [u32; WORDS]| {
-        areas.surfaces.iter_mut().filter(|bits| f32::from_bits(**bits).is_nan()).for_each(|bits| *bits |= 0x40_0000);
+}
+
+const QUIET: u32 = 0x0040_0000;
+
+/// Another NaN for a NaN, and whether a call came to something.
+type Other = fn(u32) -> u32;
+type Of = fn(u32, &MeshFile) -> bool;
+
+/// Each NaN of a slice of floats becomes another.
+fn other_nans(floats: &mut [u32], other: Other) {
+    floats.iter_mut().filter(|bits| f32::from_bits(**bits).is_nan()).for_each(|bits| *bits = other(*bits));
+}
+
+/// What a port may make of NaNs that have to stay, wherever they stand.
+#[test]
+fn another_nan_is_found() {
+    let others: [(&str, Other); 4] = [
+        ("a signalling one made quiet", |bits| bits | QUIET),
+        ("a quiet one made signalling", |bits| if bits & (QUIET - 1) > 0 { bits & !QUIET } else { bits }),
+        ("the sign taken away", |bits| bits & 0x7fff_ffff),
+        ("digits taken away", |bits| bits & 0x8000_0000 | 0x7fc0_0000),
+    ];
+    let places: [(&str, Of); 3] = [
+        ("on a refusal", |answer, _| answer > 0),
+        ("beside a zero record", |answer, mesh| answer == 0 && is_zero_record(mesh)),
+        ("behind rows", |answer, mesh| answer == 0 && !is_zero_record(mesh)),
+    ];
+    for (what, other) in others {
+        for (place, of) in places {
+            let port = |call: &Call, mut areas: Areas, record: &mut [u32; WORDS]| {
+                let answer = RIGHT.answer(call, &mut areas, record);
+                if of(answer, call.mesh) {
+                    other_nans(areas.surfaces, other);
+                }
+                answer
+            };
+            assert!(found(&port), "{what} {place}");
+        }
+        let port = |call: &Call, mut areas: Areas, record: &mut [u32; WORDS]| {
+            let answer = RIGHT.answer(call, &mut areas, record);
+            other_nans(areas.vertices, other);
+            answer
+        };
+        assert!(found(&port), "{what} among vertices");
+    }
+}
+
+#[test]
+fn a_mesh_that_was_written_is_found() {
+    let positive = |_: u32, _: &MeshFile, areas: &mut Areas, _: &mut [u32; WORDS]| {
+        areas.vertices.iter_mut().filter(|bits| **bits == 0x8000_0000).for_each(|bits| *bits = 0);
     };
-    assert!(Way { last: quiet, ..RIGHT }.found(), "a signalling NaN behind the rows made quiet");
+    assert!(Way { last: positive, ..RIGHT }.found(), "0 for -0 among vertices");
+    let id = |answer: u32, _: &MeshFile, areas: &mut Areas, _: &mut [u32; WORDS]| {
+        if answer > 0 {
+            areas.ids.iter_mut().take(1).for_each(|id| *id ^= 1);
+        }
+    };
+    assert!(Way { last: id, ..RIGHT }.found(), "an id on a refusal");
+    let welded = |answer: u32, mesh: &MeshFile, areas: &mut Areas, _: &mut [u32; WORDS]| {
+        if answer == 0 && !is_zero_record(mesh) {
+            areas.ids.iter_mut().rev().take(1).for_each(|id| *id = id.wrapping_sub(1));
+        }
+    };
+    assert!(Way { last: welded, ..RIGHT }.found(), "the last id of a full record");
 }
 
 fn bad_coordinate(mesh: &MeshFile) -> bool {
@@ -234,6 +302,11 @@ fn the_meshes_have_what_they_are_for() {
     assert!(some("coordinate_ends", &|m| m.vertices.iter().any(|x| x.abs() == FARTHEST.next_up())));
     assert!(some("nothing_to_measure", &|m| bad_unit(m) && m.vertices.iter().any(|x| x.is_nan())));
     assert!(some("many_faults", &|m| bad_unit(m) && bad_coordinate(m)));
+    for (sign, digits) in ENDS.iter().flat_map(|digits| [(0, digits), (0x8000_0000, digits)]) {
+        let pattern = sign | 0x7f80_0000 | digits;
+        assert!(some("nans", &|m| m.vertices.iter().any(|x| x.to_bits() == pattern)), "{pattern:x}");
+    }
+    assert!(some("nans", &is_zero_record) && some("nans", &|m| m.unit.is_nan()) && some("nans", &bad_coordinate));
     assert!(some("few", &|m| m.vertices.len() == 9) && some("few", &|m| m.ids.len() == 3));
     let volume = |m: &MeshFile| original(&m.vertices, &m.ids, m.unit).volume.to_bits();
     assert!(some("flattened", &|m| volume(m) == 0x8000_0000) && some("flattened", &|m| volume(m) == 0));

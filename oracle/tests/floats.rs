@@ -1,12 +1,15 @@
-//! The port's float helpers beside Rust's operations: the edges here, more by `oracle floats N`. Left out where the port's
-//! static library was not built.
-#![cfg(port)]
+//! The port's float helpers beside Rust's operations: the edges here, more by `oracle floats N`. What asks the port is ignored, and says so,
+//! where its static libraries were not built.
 
 use mowfrost_oracle::floats::compare::{on_chance, on_edges};
 use mowfrost_oracle::floats::helpers::{Answer, Helper, Width, HELPERS};
 use mowfrost_oracle::floats::patterns::{edges, partners};
 
 #[test]
+#[cfg_attr(
+    not(port),
+    ignore = "the port's libraries were not built: at the root, rt staticlib capi and rt staticlib probe"
+)]
 fn every_helper_agrees_on_the_edges() {
     for helper in &HELPERS {
         let count = on_edges(helper);

@@ -1,6 +1,5 @@
 //! The port's id routines beside the original's: short and large lists and some thousand by chance here, more by
-//! `oracle ids N`. Left out where the port's static library was not built.
-#![cfg(port)]
+//! `oracle ids N`. What asks the port is ignored, and says so, where its static libraries were not built.
 
 use mowfrost_oracle::ids::compare::{on_chance, on_large, on_short};
 use mowfrost_oracle::ids::lists::{all_short, beads, large};
@@ -22,6 +21,10 @@ fn ask(name: &str, ids: &[u32]) -> u32 {
 }
 
 #[test]
+#[cfg_attr(
+    not(port),
+    ignore = "the port's libraries were not built: at the root, rt staticlib capi and rt staticlib probe"
+)]
 fn every_routine_agrees() {
     for routine in &ROUTINES {
         for count in [on_short(routine), on_large(routine), on_chance(routine, 20_000)] {
@@ -42,6 +45,10 @@ fn every_routine_agrees() {
 
 /// The starred examples of 01, run.
 #[test]
+#[cfg_attr(
+    not(port),
+    ignore = "the port's libraries were not built: at the root, rt staticlib capi and rt staticlib probe"
+)]
 fn the_examples() {
     let tetrahedron = [0, 1, 2, 0, 2, 3, 0, 3, 1, 1, 3, 2];
     assert_eq!(
@@ -60,6 +67,10 @@ fn the_examples() {
 
 /// One bad edge of 50 is coherent, of 49 it is not.
 #[test]
+#[cfg_attr(
+    not(port),
+    ignore = "the port's libraries were not built: at the root, rt staticlib capi and rt staticlib probe"
+)]
 fn winding_at_one_in_fifty() {
     // five edges, one of them used twice the same way; then triangles of three edges, and a pair of five
     let bad = [0, 1, 2, 0, 1, 3];
@@ -72,6 +83,10 @@ fn winding_at_one_in_fifty() {
 
 /// Every word of the area is compared: wrong routines that look right are found on the short lists.
 #[test]
+#[cfg_attr(
+    not(port),
+    ignore = "the port's libraries were not built: at the root, rt staticlib capi and rt staticlib probe"
+)]
 fn a_wrong_routine_is_found() {
     type Port = fn(&[u32], &mut [u32]) -> u32;
     let wrong: [(&str, Port); 6] = [

@@ -1,6 +1,5 @@
 //! The port's point test and footprint beside the original's: large meshes and some thousand by chance here, more by
-//! `oracle raster N`. Left out where the port's static library was not built.
-#![cfg(port)]
+//! `oracle raster N`. What asks the port is ignored, and says so, where its static libraries were not built.
 
 use mowfrost_oracle::mesh::qto::probe;
 use mowfrost_oracle::random::Random;
@@ -8,6 +7,10 @@ use mowfrost_oracle::raster::compare::{on_chance, on_large, on_points, BYTES, PO
 use mowfrost_oracle::raster::meshes::{by_chance, Scene};
 
 #[test]
+#[cfg_attr(
+    not(port),
+    ignore = "the port's libraries were not built: at the root, rt staticlib capi and rt staticlib probe"
+)]
 fn every_footprint_agrees() {
     let (large, chance) = (on_large(PORT), on_chance(PORT, 2_000));
     for count in [&large, &chance] {
@@ -17,6 +20,10 @@ fn every_footprint_agrees() {
 }
 
 #[test]
+#[cfg_attr(
+    not(port),
+    ignore = "the port's libraries were not built: at the root, rt staticlib capi and rt staticlib probe"
+)]
 fn every_point_agrees() {
     let count = on_points(POINT_TEST, 200_000);
     assert_eq!(count.differ, 0, "{:?}", count.shown);

@@ -1,13 +1,19 @@
-//! What a call is lent: noise before it, and after it a look at every place.
+//! What a call is passed and lent: noise before it, and after it a look at every place.
 
+use super::nans::{nan, Nans};
+use crate::file::MeshFile;
 use crate::random::Random;
 use crate::record::{Lent, MOST, RASTER_BYTES};
 
 /// The words of a record.
 pub const WORDS: usize = 17;
 
-/// The lent areas of one call. The surface area is in bits: there a NaN is a word like any other.
+/// The slices of one call. Floats are in bits: there a NaN is a word like any other.
 pub struct Areas<'a> {
+    /// The mesh's own, to be read and not to be written: a port that does write them is found.
+    pub vertices: &'a mut [u32],
+    pub ids: &'a mut [u32],
+    /// Lent.
     pub work: &'a mut [u32],
     pub raster: &'a mut [u8],
     pub surfaces: &'a mut [u32],
@@ -21,6 +27,15 @@ pub struct Fronts<'a> {
     pub work: usize,
     pub raster: usize,
     pub surfaces: &'a [u32],
+}
+
+/// How long the front of each area is that a call may have changed.
+#[derive(Clone, Copy, Default)]
+pub struct Written {
+    pub record: usize,
+    pub work: usize,
+    pub raster: usize,
+    pub surfaces: usize,
 }
 
 static ZERO_WORDS: [u32; 5 * MOST + 12 * (MOST / 3)] = [0; 5 * MOST + 12 * (MOST / 3)];
@@ -48,6 +63,14 @@ fn noise_word(place: usize, random: &mut Random) -> u32 {
         0 => any % 200 + 1,
         1 => any | 0x7f80_0001,
         _ => any.max(1),
+    }
+}
+
+/// For an area of floats: every other stretch is of NaNs, of all sorts.
+fn noise_float(place: usize, random: &mut Random) -> u32 {
+    match place / 61 % 2 {
+        0 => nan(random),
+        _ => noise_word(place / 2, random),
     }
 }
 
@@ -92,6 +115,18 @@ impl<T: Copy + PartialEq> Area<T> {
         wrong
     }
 
+    /// The first place that is not as it was before the call, outside the front.
+    fn changed(&self, length: usize, front: usize) -> Option<(i64, T, T)> {
+        let (start, from, end) = (self.from - RIM, self.from, self.from + length + RIM);
+        let behind = from + front.min(length);
+        let (now, noise) = (&self.now, &self.noise);
+        if now[start..from] == noise[start..from] && now[behind..end] == noise[behind..end] {
+            return None;
+        }
+        let wrong = (start..from).chain(behind..end).find(|&i| now[i] != noise[i]);
+        wrong.map(|i| (i as i64 - from as i64, now[i], noise[i]))
+    }
+
     /// All that it holds, rims included. Then all is noise again.
     fn take(&mut self, length: usize) -> Vec<T> {
         let places = self.from - RIM..self.from + length + RIM;
@@ -103,6 +138,10 @@ impl<T: Copy + PartialEq> Area<T> {
 
 /// All that calls are lent, one call after the other.
 pub struct Lending {
+    vertices: Area<u32>,
+    ids: Area<u32>,
+    /// The vertices of the mesh that is passed.
+    bits: Vec<u32>,
     work: Area<u32>,
     raster: Area<u8>,
     surfaces: Area<u32>,
@@ -112,10 +151,13 @@ pub struct Lending {
 impl Lending {
     pub fn new(seed: u64) -> Lending {
         Lending {
-            work: Area::new(4 * seed, noise_word),
-            raster: Area::new(4 * seed + 1, noise_byte),
-            surfaces: Area::new(4 * seed + 2, noise_word),
-            record: Area::new(4 * seed + 3, noise_word),
+            vertices: Area::new(6 * seed, noise_float),
+            ids: Area::new(6 * seed + 1, noise_word),
+            bits: Vec::new(),
+            work: Area::new(6 * seed + 2, noise_word),
+            raster: Area::new(6 * seed + 3, noise_byte),
+            surfaces: Area::new(6 * seed + 4, noise_float),
+            record: Area::new(6 * seed + 5, noise_word),
         }
     }
 
@@ -123,10 +165,17 @@ impl Lending {
     pub fn elsewhere(&mut self, random: &mut Random) {
         let mut from = || RIM + random.below(BEGINNINGS);
         (self.work.from, self.raster.from, self.surfaces.from, self.record.from) = (from(), from(), from(), from());
+        (self.vertices.from, self.ids.from) = (from(), from());
     }
 
-    pub fn lend(&mut self, lent: Lent) -> (Areas<'_>, &mut [u32; WORDS]) {
+    pub fn lend(&mut self, mesh: &MeshFile, lent: Lent) -> (Areas<'_>, &mut [u32; WORDS]) {
+        self.bits.clear();
+        self.bits.extend(mesh.vertices.iter().map(|x| x.to_bits()));
+        self.vertices.lend(self.bits.len()).copy_from_slice(&self.bits);
+        self.ids.lend(mesh.ids.len()).copy_from_slice(&mesh.ids);
         let areas = Areas {
+            vertices: self.vertices.lend(self.bits.len()),
+            ids: self.ids.lend(mesh.ids.len()),
             work: self.work.lend(lent.work),
             raster: self.raster.lend(lent.raster),
             surfaces: self.surfaces.lend(lent.surfaces),
@@ -134,18 +183,43 @@ impl Lending {
         (areas, self.record.lend(WORDS).try_into().expect("so many words"))
     }
 
+    /// The first place of the mesh that a call changed, vertices and ids. Then all is noise again.
+    fn settle_mesh(&mut self, mesh: &MeshFile) -> impl Iterator<Item = String> {
+        let vertices = self.vertices.settle(self.bits.len(), &self.bits).map(|wrong| told("vertex float", wrong));
+        let ids = self.ids.settle(mesh.ids.len(), &mesh.ids).map(|wrong| told("id", wrong));
+        [vertices, ids].into_iter().flatten()
+    }
+
     /// The first fault of each area after a call.
-    pub fn settle(&mut self, lent: Lent, fronts: Fronts) -> Vec<String> {
+    pub fn settle(&mut self, mesh: &MeshFile, lent: Lent, fronts: Fronts) -> Vec<String> {
+        let mesh = self.settle_mesh(mesh);
         let record = self.record.settle(WORDS, fronts.record).map(|wrong| told("record", wrong));
         let surfaces = self.surfaces.settle(lent.surfaces, fronts.surfaces).map(|wrong| told("surface", wrong));
         let work = self.work.settle(lent.work, &ZERO_WORDS[..fronts.work]).map(|wrong| told("work", wrong));
         let raster = self.raster.settle(lent.raster, &ZERO_BYTES[..fronts.raster]).map(|wrong| told("raster", wrong));
-        [record, surfaces, work, raster].into_iter().flatten().collect()
+        mesh.chain([record, surfaces, work, raster].into_iter().flatten()).collect()
     }
 
-    /// All that a call left. The next call finds what this one found.
-    pub fn take(&mut self, lent: Lent) -> Left {
+    /// The NaNs that stood in the surface area behind so many floats.
+    pub fn nans_behind(&self, lent: Lent, front: usize) -> Nans {
+        let from = self.surfaces.from;
+        Nans::among(&self.surfaces.noise[from + front.min(lent.surfaces)..from + lent.surfaces])
+    }
+
+    /// The NaNs among the vertices of the last call.
+    pub fn nans_passed(&self) -> Nans {
+        Nans::among(&self.bits)
+    }
+
+    /// All that a call left, and what it changed though it was to stay. The next call finds what this one found.
+    pub fn take(&mut self, mesh: &MeshFile, lent: Lent, written: Written) -> Left {
+        let record = self.record.changed(WORDS, written.record).map(|wrong| told("record", wrong));
+        let surfaces = self.surfaces.changed(lent.surfaces, written.surfaces).map(|wrong| told("surface", wrong));
+        let work = self.work.changed(lent.work, written.work).map(|wrong| told("work", wrong));
+        let raster = self.raster.changed(lent.raster, written.raster).map(|wrong| told("raster", wrong));
+        let changed = self.settle_mesh(mesh).chain([record, surfaces, work, raster].into_iter().flatten()).collect();
         Left {
+            changed,
             work: self.work.take(lent.work),
             raster: self.raster.take(lent.raster),
             surfaces: self.surfaces.take(lent.surfaces),
@@ -156,6 +230,8 @@ impl Lending {
 
 /// What a call left in each area and in its rims.
 pub struct Left {
+    /// The first place of each area that is not as it was and should be.
+    pub changed: Vec<String>,
     work: Vec<u32>,
     raster: Vec<u8>,
     surfaces: Vec<u32>,
@@ -197,22 +273,25 @@ fn told<T: std::fmt::LowerHex>(area: &str, (place, is, right): (i64, T, T)) -> S
 #[cfg(test)]
 mod tests {
     use super::*;
+    use crate::record::plain;
 
     /// No routine that keeps to its slices can write there.
     #[test]
     fn rims_are_compared() {
-        let lent = Lent { work: 5, raster: 7, surfaces: 3 };
+        let (lent, mesh) = (Lent { work: 5, raster: 7, surfaces: 3 }, plain(1.0, &[1.0; 4], &[7; 2]));
         let mut lending = Lending::new(1);
         let mut left = |spoil: fn(&mut Lending)| {
-            lending.lend(lent);
+            lending.lend(&mesh, lent);
             spoil(&mut lending);
-            lending.take(lent)
+            lending.take(&mesh, lent, Written::default())
         };
         let right = left(|_| {});
-        assert!(right.differences(&left(|_| {}), &[]).is_empty());
+        assert!(right.changed.is_empty() && right.differences(&left(|_| {}), &[]).is_empty());
         let mut found = |place: &str, spoil: fn(&mut Lending)| {
-            let found = right.differences(&left(spoil), &[]);
+            let spoilt = left(spoil);
+            let found = right.differences(&spoilt, &[]);
             assert!(found.len() == 1 && found[0].starts_with(&format!("{place} is ")), "{place}: {found:?}");
+            assert!(spoilt.changed.len() == 1 && spoilt.changed[0].starts_with(&format!("{place} is ")), "{place}");
         };
         found("work -1", |all| all.work.now[RIM - 1] = 0);
         found("work 5", |all| all.work.now[RIM + 5] = 0);
@@ -222,6 +301,28 @@ mod tests {
         found("surface 3", |all| all.surfaces.now[RIM + 3] = 0);
         found("record -1", |all| all.record.now[RIM - 1] = 0);
         found("record 17", |all| all.record.now[RIM + WORDS] = 0);
-        assert!(right.differences(&left(|_| {}), &[]).is_empty(), "all is noise again");
+        let mut found = |place: &str, spoil: fn(&mut Lending)| {
+            let found = left(spoil).changed;
+            assert!(found.len() == 1 && found[0].starts_with(&format!("{place} is ")), "{place}: {found:?}");
+        };
+        found("vertex float -1", |all| all.vertices.now[RIM - 1] = 0);
+        found("vertex float 3", |all| all.vertices.now[RIM + 3] = 0);
+        found("vertex float 4", |all| all.vertices.now[RIM + 4] = 0);
+        found("id 1", |all| all.ids.now[RIM + 1] = 0);
+        found("id 2", |all| all.ids.now[RIM + 2] = 0);
+        let again = left(|_| {});
+        assert!(again.changed.is_empty() && right.differences(&again, &[]).is_empty(), "all is noise again");
+    }
+
+    /// Behind the front all is as it was; in front of it anything may stand.
+    #[test]
+    fn what_is_written_may_differ() {
+        let (lent, mesh) = (Lent { work: 5, raster: 7, surfaces: 3 }, plain(1.0, &[], &[]));
+        let mut lending = Lending::new(1);
+        let mut changed = |surfaces: usize| {
+            lending.lend(&mesh, lent).0.surfaces[1] = 0;
+            lending.take(&mesh, lent, Written { surfaces, ..Written::default() }).changed.len()
+        };
+        assert_eq!([0, 1, 2, 3].map(&mut changed), [1, 1, 0, 0]);
     }
 }

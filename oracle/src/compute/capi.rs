@@ -4,8 +4,8 @@ use super::areas::{Areas, WORDS};
 use super::compare::Call;
 
 mod c {
-    extern "C" {
-        pub fn mf_compute(
+    crate::linked::linked! {
+        fn mf_compute(
             vertices: *const f32,
             vertices_len: usize,
             ids: *const u32,
@@ -28,13 +28,13 @@ mod c {
 pub fn compute(call: &Call, areas: Areas, record: &mut [u32; WORDS]) -> u32 {
     let Call { mesh, clip, defect } = call;
     // SAFETY: slices that do not overlap; a u32 has an f32's size and alignment, and any bits are an f32. The routine is
-    // proved to stay within them for any contents.
+    // proved to stay within them for any contents. The mesh is passed where it could be written, to see that it is not.
     unsafe {
         c::mf_compute(
-            mesh.vertices.as_ptr(),
-            mesh.vertices.len(),
-            mesh.ids.as_ptr(),
-            mesh.ids.len(),
+            areas.vertices.as_mut_ptr().cast_const().cast(),
+            areas.vertices.len(),
+            areas.ids.as_mut_ptr().cast_const(),
+            areas.ids.len(),
             mesh.unit,
             *clip,
             *defect,

@@ -1,9 +1,10 @@
-//! `oracle compute N`: refusals, every word of the record, every row, and every place of the three lent areas.
+//! `oracle compute N`: refusals, every word of the record, every row, every place of the three lent areas, and that the mesh that was
+//! passed is as it was. Floats are compared by their bits, a NaN's too, and the NaNs that had to stay are counted.
 
 use super::areas::{Areas, Fronts, Lending, WORDS};
-#[cfg(port)]
 use super::capi;
 use super::meshes::{by_chance, kinds, large, limits};
+use super::nans::Stayed;
 use crate::file::{MeshFile, DEFECTS};
 use crate::random::Random;
 use crate::record::{compute, Answer, Exception, Lent, Record};
@@ -17,7 +18,6 @@ pub struct Call<'a> {
 
 pub type Port<'a> = &'a dyn Fn(&Call, Areas, &mut [u32; WORDS]) -> u32;
 
-#[cfg(port)]
 pub const PORT: Port<'static> = &capi::compute;
 
 /// What calls came to: refusals 1 to 5, zero records, and full records that are closed, open and degenerate.
@@ -61,8 +61,9 @@ impl Tally {
 pub struct Count {
     pub agree: u64,
     pub differ: u64,
-    /// What the calls that agree came to.
+    /// What the calls that agree came to, and the NaNs that they left.
     pub tally: Tally,
+    pub stayed: Stayed,
     /// Meshes near the one exception, and those of them where `powf` answers otherwise.
     pub near: u64,
     pub otherwise: u64,
@@ -227,9 +228,9 @@ impl Count {
     }
 
     fn compare(&mut self, port: Port, call: &Call, lent: Lent, right: &Promise, lending: &mut Lending) {
-        let (areas, record) = lending.lend(lent);
+        let (areas, record) = lending.lend(call.mesh, lent);
         let given = port(call, areas, record);
-        let mut wrong = lending.settle(lent, right.fronts());
+        let mut wrong = lending.settle(call.mesh, lent, right.fronts());
         if given != right.answer {
             wrong.insert(0, format!("answer {given:x}, should be {:x}", right.answer));
         }
@@ -238,6 +239,8 @@ impl Count {
         }
         self.agree += 1;
         self.tally.add(right.answer, right.zero_record, right.record.first().copied().unwrap_or(0));
+        let (surfaces, vertices) = (lending.nans_behind(lent, right.rows.len()), lending.nans_passed());
+        self.stayed.add(right.answer, right.zero_record, surfaces, vertices);
     }
 
     /// How the mesh stands to the one exception.
@@ -276,6 +279,14 @@ impl Count {
                 &ids[..count.min(30)],
             ));
         }
+    }
+
+    /// The numbers of both.
+    pub fn join(&mut self, other: &Count) {
+        (self.agree, self.differ) = (self.agree + other.agree, self.differ + other.differ);
+        (self.near, self.otherwise) = (self.near + other.near, self.otherwise + other.otherwise);
+        self.tally.join(&other.tally);
+        self.stayed.join(&other.stayed);
     }
 
     /// What the calls that agree came to, and how the meshes stand to the one exception.

@@ -1,5 +1,6 @@
 //! Meshes to ask `compute` about: the kinds that program files have, kinds that they cannot hold, and large ones.
 
+use super::nans::nan;
 use super::shapes::{self, boxes, sphere, SHAPES};
 use super::split::split_badly;
 use crate::file::{read, Flags, MeshFile};
@@ -12,13 +13,14 @@ use crate::solids::Shape;
 type Own = (&'static str, fn(&mut Random) -> MeshFile);
 
 /// Beside the program's: what its files cannot hold, or hold too seldom for a look at the order of the checks.
-const OWN: [Own; 9] = [
+const OWN: [Own; 10] = [
     ("wild_ids", wild_ids),
     ("ragged", ragged),
     ("unit_ends", unit_ends),
     ("coordinate_ends", coordinate_ends),
     ("nothing_to_measure", nothing_to_measure),
     ("many_faults", many_faults),
+    ("nans", nans),
     ("flattened", flattened),
     ("few", few),
     ("medium", medium),
@@ -161,7 +163,7 @@ fn wild_ids(random: &mut Random) -> MeshFile {
 fn edge_float(random: &mut Random) -> f32 {
     let x = match random.below(4) {
         0 => random.pick(&[FARTHEST.next_up(), 8_589_935_616.0, f32::MAX, f32::INFINITY]),
-        1 => f32::from_bits(random.pick(&[0x7fc0_0000, 0x7f80_0001, 0x7fff_ffff, 0x7fbf_ffff])),
+        1 => f32::from_bits(nan(random)),
         2 => random.pick(&[FARTHEST, FARTHEST, FARTHEST.next_down(), 0.0]),
         _ => random.pick(&[0.0, 1.0, 500.0, 1e9, f32::MIN_POSITIVE, 1e-45]),
     };
@@ -259,6 +261,24 @@ fn many_faults(random: &mut Random) -> MeshFile {
         if let Some(last) = mesh.vertices.last_mut() {
             *last = edge_float(random);
         }
+    }
+    mesh
+}
+
+/// NaNs of all sorts among the vertices, few or nothing else; now and then in the unit, or with nothing to measure.
+fn nans(random: &mut Random) -> MeshFile {
+    let mut mesh = base(random);
+    let seldom = random.pick(&[1, 1, 4, 30]);
+    for at in 0..mesh.vertices.len() {
+        if random.once_in(seldom) {
+            mesh.vertices[at] = f32::from_bits(nan(random));
+        }
+    }
+    match random.below(6) {
+        0 => mesh.vertices.truncate(random.below(9)),
+        1 => mesh.ids.truncate(random.below(3)),
+        2 => mesh.unit = f32::from_bits(nan(random)),
+        _ => {}
     }
     mesh
 }

@@ -5,6 +5,7 @@ use super::capi;
 use super::compare::Call;
 use super::shapes::SHAPES;
 use crate::file::MeshFile;
+use crate::linked::bits;
 use crate::mesh::qto;
 use crate::record::{plain, Lent};
 use crate::solids::Shape;
@@ -79,9 +80,10 @@ pub fn repeat(shape: &Shape, times: usize) {
 fn lent_port(mesh: &MeshFile) -> impl FnMut(&MeshFile) -> u32 {
     let lent = Lent::exactly(mesh.vertices.len(), mesh.ids.len());
     let (mut work, mut raster, mut surfaces) = (vec![1; lent.work], vec![1; lent.raster], vec![1; lent.surfaces]);
-    let mut record = [0; WORDS];
+    let (mut vertices, mut ids, mut record) = (bits(&mesh.vertices), mesh.ids.clone(), [0; WORDS]);
     move |mesh| {
-        let areas = Areas { work: &mut work, raster: &mut raster, surfaces: &mut surfaces };
+        let (vertices, ids) = (&mut vertices[..], &mut ids[..]);
+        let areas = Areas { vertices, ids, work: &mut work, raster: &mut raster, surfaces: &mut surfaces };
         capi::compute(&Call { mesh, clip: 0, defect: 0 }, areas, &mut record)
     }
 }

@@ -1,11 +1,9 @@
-//! The port's float helpers, from the static library, on bit patterns.
+//! The port's float helpers, from the static libraries, on bit patterns.
 
 macro_rules! port {
     ($($name:ident($($x:ident: $of:ty),+) -> $to:ty;)+) => {
         mod c {
-            extern "C" {
-                $(pub fn $name($($x: $of),+) -> $to;)+
-            }
+            crate::linked::linked! { $(fn $name($($x: $of),+) -> $to;)+ }
         }
         $(pub fn $name($($x: $of),+) -> $to {
             // SAFETY: a function of numbers, proved to answer every pattern.

@@ -3,8 +3,8 @@
 macro_rules! port {
     ($($name:ident;)+) => {
         mod c {
-            extern "C" {
-                $(pub fn $name(ids: *const u32, ids_len: usize, work: *mut u32, work_len: usize) -> u32;)+
+            crate::linked::linked! {
+                $(fn $name(ids: *const u32, ids_len: usize, work: *mut u32, work_len: usize) -> u32;)+
             }
         }
         $(pub fn $name(ids: &[u32], work: &mut [u32]) -> u32 {

@@ -1,11 +1,13 @@
 //! `oracle moves N`: what comes back from two calls, every word of their records, and every place of the three lent areas and
-//! of the rims around them.
+//! of the rims around them. What each call has to leave is also held to what was there before, so that both cannot spoil it alike.
 
 use super::meshes::{kinds, pair, Pair};
-use crate::compute::areas::{Left, Lending};
+use crate::compute::areas::{Left, Lending, Written, WORDS};
 use crate::compute::compare::{is_zero_record, Call, Port, Tally};
+use crate::compute::nans::{Nans, Stayed};
 use crate::file::MeshFile;
 use crate::random::Random;
+use crate::record::Lent;
 
 /// The words of the record that may differ where both shells are open: best volume, method, trust and bound. Demand 3 has no
 /// other exception: on a refusal the words are the caller's own, and none of them may differ, whatever word 0 was.
@@ -18,8 +20,9 @@ const OPEN: u32 = 1;
 pub struct Count {
     pub agree: u64,
     pub differ: u64,
-    /// What the pairs that agree came to.
+    /// What the pairs that agree came to, and the NaNs that they left.
     pub tally: Tally,
+    pub stayed: Stayed,
     /// Of the open pairs that agree: in how many best volume, method, trust and bound differ.
     pub free: [u64; 4],
     /// The first that differ, for a look.
@@ -28,17 +31,32 @@ pub struct Count {
 
 const SHOWN: usize = 5;
 
-/// What a call answered, and what it left.
+/// What a call answered, and what it left; the NaNs that it found in the surface area where it had to stay.
 struct Outcome {
     answer: u32,
     left: Left,
+    nans: Nans,
+}
+
+/// The places that a call may change, by what it answered.
+fn written(answer: u32, mesh: &MeshFile, record: &[u32; WORDS]) -> Written {
+    if answer != 0 {
+        return Written::default();
+    }
+    if is_zero_record(mesh) {
+        return Written { record: WORDS, ..Written::default() };
+    }
+    let Lent { work, raster, .. } = Lent::exactly(mesh.vertices.len(), mesh.ids.len());
+    Written { record: WORDS, work, raster, surfaces: 4 * record[WORDS - 1] as usize }
 }
 
 impl Outcome {
     fn of(port: Port, mesh: &MeshFile, pair: &Pair, lending: &mut Lending) -> Outcome {
-        let (areas, record) = lending.lend(pair.lent);
+        let (areas, record) = lending.lend(mesh, pair.lent);
         let answer = port(&Call { mesh, clip: pair.clip, defect: pair.defect }, areas, record);
-        Outcome { answer, left: lending.take(pair.lent) }
+        let written = written(answer, mesh, record);
+        let nans = lending.nans_behind(pair.lent, written.surfaces);
+        Outcome { answer, left: lending.take(mesh, pair.lent, written), nans }
     }
 
     fn is_open(&self) -> bool {
@@ -52,6 +70,7 @@ impl Count {
         let there = Outcome::of(port, &pair.there, pair, lending);
         let free: &[usize] = if here.is_open() && there.is_open() { &FREE } else { &[] };
         let mut wrong = here.left.differences(&there.left, free);
+        wrong.extend(here.left.changed.iter().chain(&there.left.changed).cloned());
         if here.answer != there.answer {
             wrong.insert(0, format!("answer {:x} and {:x}", here.answer, there.answer));
         }
@@ -61,6 +80,9 @@ impl Count {
         self.agree += 1;
         let (one, other) = (here.left.record(), there.left.record());
         self.tally.add(here.answer, is_zero_record(&pair.here), one[0]);
+        for (outcome, mesh) in [(&here, &pair.here), (&there, &pair.there)] {
+            self.stayed.add(outcome.answer, is_zero_record(mesh), outcome.nans, Nans::default());
+        }
         FREE.iter().zip(&mut self.free).for_each(|(&word, times)| *times += (one[word] != other[word]) as u64);
     }
 
@@ -83,6 +105,7 @@ impl Count {
     pub fn join(&mut self, other: &Count) {
         (self.agree, self.differ) = (self.agree + other.agree, self.differ + other.differ);
         self.tally.join(&other.tally);
+        self.stayed.join(&other.stayed);
         (0..4).for_each(|i| self.free[i] += other.free[i]);
     }
 

@@ -1,9 +1,9 @@
-//! The port's point test and footprint, from the static library: exports for these runs alone, in no header.
+//! The port's point test and footprint, from the static library `probe`: exports for these runs alone, in no header.
 
 mod c {
-    extern "C" {
-        pub fn probe_point_in_triangle(px: f32, py: f32, ax: f32, ay: f32, bx: f32, by: f32, cx: f32, cy: f32) -> bool;
-        pub fn probe_footprint_raw(
+    crate::linked::linked! {
+        fn probe_point_in_triangle(px: f32, py: f32, ax: f32, ay: f32, bx: f32, by: f32, cx: f32, cy: f32) -> bool;
+        fn probe_footprint_raw(
             vertices: *const f32,
             vertices_len: usize,
             ids: *const u32,

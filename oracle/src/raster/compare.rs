@@ -1,9 +1,12 @@
-//! `oracle raster N`: the footprint's bits, every byte of the lent raster, and the point test.
+//! `oracle raster N`: the footprint's bits, every byte of the lent raster, that vertices and ids are as they were, bit for bit, and the
+//! point test.
 
 use super::capi;
 use super::meshes::{by_chance, fine_sheet, in_its_box, open_box, open_sphere, small_soup, Scene};
+use crate::linked::bits;
 use crate::mesh::qto::probe;
 use crate::random::Random;
+use std::hint::black_box;
 
 pub const BYTES: usize = 65_536;
 
@@ -43,12 +46,14 @@ impl Count {
         let salt = random.bits() as u8;
         raster.clear();
         raster.extend((0..lent).map(|place| noise(place, salt)));
+        let before = (bits(vertices), ids.clone());
         let given = port(vertices, ids, *axes, *u, *v, raster);
+        let kept = (bits(black_box(vertices)), black_box(ids).clone()) == before;
         let fits = lent >= BYTES;
         let right = if fits { probe::footprint_raw(vertices, ids, *axes, *u, *v) } else { 0.0 };
         let same = given.to_bits() == right.to_bits() || given.is_nan() && right.is_nan();
         let wrong = (0..lent).find(|&i| raster[i] != if fits && i < BYTES { 0 } else { noise(i, salt) });
-        if same && wrong.is_none() {
+        if same && kept && wrong.is_none() {
             self.agree += 1;
             match right {
                 _ if !fits => self.untaken += 1,
@@ -61,7 +66,7 @@ impl Count {
             if self.shown.len() < SHOWN {
                 let (some, count) = (&vertices[..vertices.len().min(30)], ids.len());
                 self.shown.push(format!(
-                    "{given:?}, should be {right:?}, byte {wrong:?}; {lent} bytes, axes {axes:?}, {u:?} by {v:?}, {some:?}, {count} ids {:?}",
+                    "{given:?}, should be {right:?}, mesh kept {kept}, byte {wrong:?}; {lent} bytes, axes {axes:?}, {u:?} by {v:?}, {some:?}, {count} ids {:?}",
                     &ids[..count.min(30)]
                 ));
             }

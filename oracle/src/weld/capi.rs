@@ -1,8 +1,8 @@
-//! The port's weld, from the static library: exports for these runs alone, in no header.
+//! The port's weld, from the static library `probe`: exports for these runs alone, in no header.
 
 mod c {
-    extern "C" {
-        pub fn probe_welded_indices(
+    crate::linked::linked! {
+        fn probe_welded_indices(
             vertices: *const f32,
             vertices_len: usize,
             ids: *const u32,
@@ -11,7 +11,7 @@ mod c {
             part: *mut u32,
             part_len: usize,
         ) -> bool;
-        pub fn probe_epsilon(distance: f32, unit: f32) -> f32;
+        fn probe_epsilon(distance: f32, unit: f32) -> f32;
     }
 }
 

@@ -1,9 +1,11 @@
-//! `oracle weld N`: the new ids, and every word of the part that is lent.
+//! `oracle weld N`: the new ids, every word of the part that is lent, and that vertices and ids are as they were, bit for bit.
 
 use super::capi;
 use super::meshes::{by_chance, large, Welding, MOST_FLOATS};
+use crate::linked::bits;
 use crate::mesh::qto::probe;
 use crate::random::Random;
+use std::hint::black_box;
 
 #[derive(Default)]
 pub struct Count {
@@ -35,6 +37,7 @@ impl Count {
         let table = 8 * (vertices.len() / 3);
         let needed = table + ids.len();
         let welded = probe::welded_indices(vertices, ids, *eps);
+        let before = (bits(vertices), ids.clone());
         for lent in [Some(needed), needed.checked_sub(1), Some(needed + 1)].into_iter().flatten() {
             let salt = random.bits() as u32;
             part.clear();
@@ -46,8 +49,9 @@ impl Count {
                 true => welded[i - table],
                 false => noise(i, salt),
             };
+            let kept = (bits(black_box(vertices)), black_box(ids).clone()) == before;
             match (0..lent).find(|&i| part[i] != right(i)) {
-                None if taken == fits => {
+                None if taken == fits && kept => {
                     self.agree += 1;
                     match fits {
                         true if welded != *ids => self.welded += 1,
@@ -57,20 +61,20 @@ impl Count {
                 }
                 wrong => {
                     self.differ += 1;
-                    self.show(mesh, taken, fits, wrong.map(|i| (i, part[i], right(i))));
+                    self.show(mesh, taken, fits, kept, wrong.map(|i| (i, part[i], right(i))));
                 }
             }
         }
     }
 
-    fn show(&mut self, mesh: &Welding, taken: bool, fits: bool, wrong: Option<(usize, u32, u32)>) {
+    fn show(&mut self, mesh: &Welding, taken: bool, fits: bool, kept: bool, wrong: Option<(usize, u32, u32)>) {
         if self.shown.len() < SHOWN {
             let (floats, ids) = (mesh.vertices.len(), mesh.ids.len());
             let some = &mesh.vertices[..floats.min(30)];
             let word =
                 wrong.map_or(String::new(), |(i, is, right)| format!(", word {i} is {is:x}, should be {right:x}"));
             self.shown.push(format!(
-                "taken {taken}, should be {fits}{word}; eps {:?}, {ids} ids, {floats} floats {some:?}",
+                "taken {taken}, should be {fits}, mesh kept {kept}{word}; eps {:?}, {ids} ids, {floats} floats {some:?}",
                 mesh.eps
             ));
         }

@@ -40,7 +40,7 @@ impl Way {
         answer
     }
 
-    fn answer(&self, call: &Call, areas: &mut Areas, record: &mut [u32; WORDS]) -> u32 {
+    pub fn answer(&self, call: &Call, areas: &mut Areas, record: &mut [u32; WORDS]) -> u32 {
         let Some(flags) = (self.flags)(call.clip, call.defect) else { return REFUSED | 5 };
         let mut mesh = MeshFile { flags, ..call.mesh.clone() };
         (self.mesh)(&mut mesh);

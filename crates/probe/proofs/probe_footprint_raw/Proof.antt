@@ -1,11 +1,11 @@
--- `capi::probe::probe_footprint_raw` meets its contract: the footprint where the raster is long enough. Assumes nothing.
+-- `probe::probe_footprint_raw` meets its contract: the footprint where the raster is long enough. Assumes nothing.
 use mathlib.Core.Path.{refl}
 use lib.ListN.{length}
 use borrow.Author.Tests.{lt-ltb, le-ltb}
 use denote.Ref.{now}
 use borrow.Author.Needs.{needs}
-use Rattle.capi.proofs.probe.probe_footprint_raw.Statement.{statement}
-use Rattle.capi.proofs.probe.probe_footprint_raw.Tie as tie
+use Rattle.probe.proofs.probe_footprint_raw.Statement.{statement}
+use Rattle.probe.proofs.probe_footprint_raw.Tie as tie
 
 returns : tie.Need-returns
 returns c = rw (lt-ltb (length (c .before .before .before .before .args .area .now)) 65536 (c .if1 .taken)) (refl, refl)

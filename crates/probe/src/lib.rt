@@ -1,4 +1,4 @@
-// For the differential runs alone, and in no header: what C has no name for.
+// For the differential runs alone, and in no header: what they ask of the port and C has no name for. Its static library is shipped to nobody.
 ghost use lib.Dec.{eqb, leb, ltb};
 ghost use lib.Ieee.{binary32, ofBits};
 ghost use lib.ListN.{length, replicate};

@@ -1,8 +1,8 @@
--- `capi::probe::axis` meets its contract: a number below 3 is an axis. Assumes nothing.
+-- `probe::axis` meets its contract: a number below 3 is an axis. Assumes nothing.
 use Rattle.raster.specs.Footprint.{axisNumber}
 use native.Mathlib.Omega.{arith}
-use Rattle.capi.proofs.probe.axis.Statement.{statement}
-use Rattle.capi.proofs.probe.axis.Tie as tie
+use Rattle.probe.proofs.axis.Statement.{statement}
+use Rattle.probe.proofs.axis.Tie as tie
 
 returns : tie.Need-returns
 unfolding axisNumber

@@ -1,10 +1,10 @@
--- `capi::probe::probe_welded_indices` meets its contract: the weld where the part has just the words needed. Assumes nothing.
+-- `probe::probe_welded_indices` meets its contract: the weld where the part has just the words needed. Assumes nothing.
 use mathlib.Core.Path.{refl}
 use lib.ListN.{length}
 use borrow.Author.Tests.{le-leb, lt-leb, eq-eqb, ne-eqb}
 use borrow.Author.Needs.{needs}
-use Rattle.capi.proofs.probe.probe_welded_indices.Statement.{statement}
-use Rattle.capi.proofs.probe.probe_welded_indices.Tie as tie
+use Rattle.probe.proofs.probe_welded_indices.Statement.{statement}
+use Rattle.probe.proofs.probe_welded_indices.Tie as tie
 
 returns : tie.Need-returns
 returns c = rw (lt-leb (length (c .before .before .before .before .args .vertices .now)) 98304 (c .if1 .taken)) (refl, refl)

@@ -1,0 +1,133 @@
+/* Mowfrost from C: every function that the static library exports, and what it promises.
+ *
+ * The library is proved and made by `rt staticlib capi`: target/staticlib/libcapi.a, for x86-64 Linux. It needs nothing
+ * but memset. examples/takeoff.c is a program over it. The contracts that are proved stand in crates/capi/src, and
+ * docs/ARCHITECTURE.md leads from there to the definitions.
+ *
+ * What comes back. Every function answers every input, or gives the one refusal that applies, and ends. It allocates
+ * nothing and keeps nothing between two calls, so that calls which are lent different memory may run at the same time.
+ *
+ * Slices. An array is passed as a pointer and a length in elements. The pointer is aligned for its type and not NULL,
+ * also where the length is 0: then nothing is read or written through it, and the address of any object of the type
+ * will do. A slice behind a pointer to const is only read. One that may be written (work, raster, surfaces, record)
+ * overlaps nothing else that is passed; those that are only read may overlap each other. All this, and that so many
+ * elements are there, is the caller's word: the library cannot see it.
+ *
+ * Lent areas. What they hold before a call changes no answer. A refusal leaves them all as they were. An area may be
+ * longer than is asked for, and what lies behind is left as it was. Of a float that has to stay it is proved that it
+ * keeps its value. The proofs know one NaN: that a NaN there stays one is proved, that it keeps its sign and its digits
+ * is not; it is tested (oracle/src/compute/nans.rs).
+ *
+ * Floats. The processor is as it is when a C program starts: rounding to nearest, subnormal numbers kept, no traps. */
+#ifndef MOWFROST_H
+#define MOWFROST_H
+
+#include <stddef.h>
+#include <stdint.h>
+
+#ifdef __cplusplus
+extern "C" {
+#endif
+
+/* A refusal n comes back as MF_REFUSED + n. No answer is as large.
+ *   1  more than MF_MOST ids, or more than MF_MOST vertex floats
+ *   2  the unit is not a number from 2^-20 to 16
+ *   3  an area is too short
+ *   4  a vertex float is not finite, or above 8,589,934,592 (2^33) in magnitude
+ *   5  a flag has a value that it cannot have */
+#define MF_REFUSED 0x80000000u
+#define MF_MOST 98304u
+
+/* ---- ids
+ *
+ * ids are three a triangle; one or two left over are no triangle. Any value may occur. Refusals, tried in this order:
+ * 1 by ids_len, 3. An answer leaves 0 in the words that are asked for, used or not. */
+
+/* Bit 0: boundary-free, that is, some edge is there, and each is used as often one way as the other. Bit 1:
+ * over-incident, some edge is used more than twice. A triangle that repeats an id does not count. Both bits are 0
+ * where ids_len is below 9 or no multiple of 3. Asks for 4 * ids_len words. */
+uint32_t mf_edge_chain(const uint32_t *ids, size_t ids_len, uint32_t *work, size_t work_len);
+
+/* 2 * m + z. Triangles on the same three ids are one face, counted +1 or -1 by the way round; a triangle that repeats
+ * an id does not count. m is the largest magnitude of a face's sum, 0 without faces; z is 1 where every sum is 0, else
+ * 0. Asks for 4 * (ids_len / 3) words. */
+uint32_t mf_face_net(const uint32_t *ids, size_t ids_len, uint32_t *work, size_t work_len);
+
+/* 1 where each edge between two different ids is used twice, once each way, also where there is none; else 0, and 0
+ * where ids_len is below 9 or no multiple of 3. Asks for 4 * ids_len words. */
+uint32_t mf_is_closed_manifold(const uint32_t *ids, size_t ids_len, uint32_t *work, size_t work_len);
+
+/* 1 where there is an edge between two different ids, and at most one in fifty is used neither once nor twice, once
+ * each way; else 0, and 0 where ids_len is below 9 or no multiple of 3. Asks for 4 * ids_len words. */
+uint32_t mf_winding_coherent(const uint32_t *ids, size_t ids_len, uint32_t *work, size_t work_len);
+
+/* The number of pieces: groups of triangles, joined wherever two share an id. A triangle that repeats an id does not
+ * count. Asks for ids_len / 3 words. */
+uint32_t mf_pieces(const uint32_t *ids, size_t ids_len, uint32_t *work, size_t work_len);
+
+/* ---- the record
+ *
+ * vertices are x, y, z of vertex 0, then of vertex 1, ..; ids as above, each the number of a vertex. unit is metres a
+ * model unit. clip is 1 where a clip was not applied, else 0. defect is 0, or why the profile is invalid:
+ * 1 self_intersecting, 2 degenerate, 3 hole_outside, 4 overlapping.
+ *
+ * Refusals, tried in this order: 5; 1; then, unless there are fewer than 3 ids or 9 vertex floats, 2, 3, 4. A refusal
+ * leaves the record too as it was. Else 0 comes back, and the record has these words. Volumes, in cubic metres, and
+ * areas, in square metres, are the bits of a float.
+ *
+ *    0  quality: 0 closed, 1 open_shell, 2 degenerate
+ *    1  1 where the best volume is to be relied on, else 0
+ *    2  method, which volume the best one is: 0 mesh, 1 mesh_open, 2 prism_fallback, 3 mesh_unclipped,
+ *       4 mesh_profile_invalid
+ *    3  profile: the defect as it was passed
+ *    4  the volume of the mesh, with its sign
+ *    5  the volume of its box
+ *    6  the area of all triangles, and by slope: 7 top, 8 bottom, 9 side, 10 inclined
+ *   11  the area of the largest surface
+ *   12  of the smallest above 1e-6, 0 if there is none
+ *   13  the best volume
+ *   14  1 where the prism bound was computed, else 0
+ *   15  the prism bound, 0 where it was not computed
+ *   16  surfaces: the number of rows in the surface area
+ *
+ * With 3 ids and 9 vertex floats or more, areas of MF_WORK_WORDS, MF_RASTER_BYTES and MF_SURFACE_FLOATS elements are
+ * asked for. A record leaves 0 in so many work words and raster bytes, and its rows at the front of the surface area,
+ * four floats each: area, nx, ny, nz, by falling area, then by rising nx, ny, nz. With fewer ids or floats no area is
+ * asked for and none is touched: words 0 and 2 are 2, word 3 is the defect, word 14 is 1, all others are 0. */
+#define MF_RECORD_WORDS 17
+#define MF_RASTER_BYTES 65536u
+#define MF_WORK_WORDS(vertices_len, ids_len) (5 * (ids_len) + 4 * ((ids_len) / 3) + 8 * ((vertices_len) / 3))
+#define MF_SURFACE_FLOATS(ids_len) (4 * ((ids_len) / 3))
+
+uint32_t mf_compute(const float *vertices, size_t vertices_len, const uint32_t *ids, size_t ids_len, float unit,
+                    uint32_t clip, uint32_t defect, uint32_t *work, size_t work_len, uint8_t *raster, size_t raster_len,
+                    float *surfaces, size_t surfaces_len, uint32_t record[MF_RECORD_WORDS]);
+
+/* ---- float helpers
+ *
+ * On bit patterns: an f64 is a uint64_t, an f32 a uint32_t. Every pattern is answered. A result that is a NaN is
+ * 7ff8000000000000 or 7fc00000, but for a magnitude: that is its argument without the sign bit, whatever it is. */
+
+uint64_t mf_root64(uint64_t x); /* to nearest; of -0 it is -0, of a number below zero a NaN */
+uint64_t mf_magnitude64(uint64_t x);
+uint32_t mf_magnitude32(uint32_t x);
+uint64_t mf_floor64(uint64_t x);
+uint32_t mf_floor32(uint32_t x);
+uint64_t mf_ceiling64(uint64_t x);
+uint32_t mf_ceiling32(uint32_t x);
+uint64_t mf_round64(uint64_t x); /* to a whole number, half away from zero */
+uint32_t mf_round32(uint32_t x);
+uint64_t mf_least64(uint64_t x, uint64_t y); /* of a NaN and a number the number; of equals, as 0 and -0, the first */
+uint32_t mf_least32(uint32_t x, uint32_t y);
+uint64_t mf_greatest64(uint64_t x, uint64_t y); /* likewise */
+uint32_t mf_greatest32(uint32_t x, uint32_t y);
+uint32_t mf_narrow(uint64_t x); /* f64 to f32, to nearest, ties to even */
+int32_t mf_to_i32(uint32_t x);  /* of an f32: the fraction is dropped; out of range, the nearer end; a NaN gives 0 */
+int64_t mf_to_i64(uint64_t x);  /* of an f64, likewise */
+uint64_t mf_to_u64(uint32_t x); /* of an f32, likewise */
+
+#ifdef __cplusplus
+}
+#endif
+
+#endif

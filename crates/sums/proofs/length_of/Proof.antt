@@ -1,6 +1,6 @@
 -- `sums::length_of` meets its contract: floats with one pattern have one root. Assumes nothing.
 use Prim.Native.Nat.{ℕ}
-use mathlib.Core.Path.{sym, _∙_, ap}
+use mathlib.Core.Path.{_≡_, sym, _∙_, ap}
 use lib.Ieee.{binary64, ofBits}
 use Rattle.ieee.specs.Root.{root}
 use Rattle.sums.proofs.Parts.{root-by-pattern}
@@ -15,7 +15,8 @@ returns : tie.Need-returns
 returns c =
     let a = c .before .args in
     let p = c .before .pre in
-    let e = p .1 ∙ ap (λ (k : ℕ). root binary64 (ofBits binary64 k)) (sym (c .if1 .taken)) in
+    let one-pattern : a .known ≡ a .b = sym (c .if1 .taken) in
+    let e = p .1 ∙ ap (λ (k : ℕ). root binary64 (ofBits binary64 k)) one-pattern in
     (e ∙ sym (root-by-pattern (a .square) (a .b) (c .before .good .0 .1) (p .0)), e)
 
 returns-2 : tie.Need-returns-2

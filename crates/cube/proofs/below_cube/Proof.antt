@@ -112,7 +112,10 @@ returns-3 c =
     let q = c .before .loop .q in
     let a = c .before .before .before .args .a in
     let end = ended (c .before .loop .inv) (omega arith) in
-    elim (decLt q (a * a)) [ yes l ↦ let h : q ≤ a * a = omega arith in simp (← end, tests) | no g ↦ let h : a * a ≤ q = omega arith in simp (← end, tests) ]
+    elim (decLt q (a * a)) [
+      | yes l ↦ let h : q ≤ a * a = omega arith in simp (← end, tests)
+      | no g ↦ let h : a * a ≤ q = omega arith in simp (← end, tests)
+    ]
 
 pub below-cube-spec : {M : Type 1} → statement M
 below-cube-spec =

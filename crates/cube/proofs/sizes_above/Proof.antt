@@ -45,7 +45,8 @@ below-cube-requires-2 c κs =
 returns : tie.Need-returns
 returns c =
     let start = c .before .before in
-    c .below-cube .ensures ∙ power-at-square (start .args .a) (start .args .x) (start .args .b) (start .args .y) 149 _ (omega (arith, c .before .if1 .taken))
+    c .below-cube .ensures
+    ∙ power-at-square (start .args .a) (start .args .x) (start .args .b) (start .args .y) 149 _ (omega (arith, c .before .if1 .taken))
 
 returns-2 : tie.Need-returns-2
 returns-2 c =

@@ -88,7 +88,10 @@ loop-less : tie.Need-loop-less Inv-loop μ-loop
 loop-less c = rw (c .next .ensures) (omega (arith, on (c .before) .0, below (c .before)))
 
 returns : tie.Need-returns Inv-loop μ-loop
-returns c = let l = c .before .before .loop in record { within = l .inv .0; holds = λ u. absurd (omega (arith, none-used (wordAt (c .before .before .before .before .args .work .now) (l .r)) (omega (arith, c .if1 .taken)))); passed = l .inv .1 }
+returns c =
+    let l = c .before .before .loop in
+    let word = wordAt (c .before .before .before .before .args .work .now) (l .r) in
+    record { within = l .inv .0; holds = λ u. absurd (omega (arith, none-used word (omega (arith, c .if1 .taken)))); passed = l .inv .1 }
 
 returns-2 : tie.Need-returns-2 Inv-loop μ-loop
 unfolding sameEdge

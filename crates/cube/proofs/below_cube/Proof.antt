@@ -4,7 +4,8 @@ use mathlib.Core.Path.{_≡_, sym, _∙_, subst}
 use Prim.Native.Nat.{ℕ, _+_, _-_, _*_, _/_, _%_, _^_, _≤_, _<_}
 use native.Mathlib.Nat.{div-add-mod', div-lt-iff-lt-mul, mod-lt, mul-assoc, mul-le-mul-left, mul-le-mul-right, mul-one}
 use native.Mathlib.Omega.{arith}
-use borrow.Author.Tests.{le-ltb}
+use native.Mathlib.Decide.{decLt}
+use borrow.Author.Tests.{le-leb, le-ltb, lt-leb, lt-ltb}
 use lib.Dec.{ltb}
 use lib.Pow.{pow-add, pow-pos, shl-exact}
 use Rattle.ieee.proofs.Numbers.Basic.{square-below}
@@ -103,8 +104,18 @@ loop-less c = omega arith
 loop-again : tie.Need-loop-again Inv-loop μ-loop
 loop-again c = next (c .before .before .loop .inv) (omega arith) (omega arith)
 
+-- The quotient is below the square, or it is not: either way the last test says so, however it is written.
+ruleset tests = (lt-ltb, le-ltb, lt-leb, le-leb)
+
 returns-3 : tie.Need-returns-3 Inv-loop μ-loop
-returns-3 c = ended (c .before .loop .inv) (omega arith)
+returns-3 c =
+    let q = c .before .loop .q in
+    let a = c .before .before .before .args .a in
+    let end = ended (c .before .loop .inv) (omega arith) in
+    elim (decLt q (a * a)) [
+      | yes l ↦ let h : q ≤ a * a = omega arith in simp (← end, tests)
+      | no g ↦ let h : a * a ≤ q = omega arith in simp (← end, tests)
+    ]
 
 pub below-cube-spec : {M : Type 1} → statement M
 below-cube-spec =

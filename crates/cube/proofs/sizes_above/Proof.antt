@@ -2,7 +2,7 @@
 use borrow.Author.Needs.{needs}
 use mathlib.Core.Path.{_∙_}
 use Prim.Native.Nat.{_*_}
-use native.Mathlib.Nat.{div-le-self, le-of-lt, lt-of-le-of-lt, mul-one}
+use native.Mathlib.Nat.{div-le-self, lt-of-le-of-lt, mul-one}
 use native.Mathlib.Omega.{arith}
 use Rattle.ieee.proofs.Numbers.CubeSizes.{power-at-cube, power-at-square}
 use Rattle.ieee.proofs.Numbers.Basic.{square-below}
@@ -45,14 +45,15 @@ below-cube-requires-2 c κs =
 returns : tie.Need-returns
 returns c =
     let start = c .before .before in
-    c .below-cube .ensures ∙ power-at-square (start .args .a) (start .args .x) (start .args .b) (start .args .y) 149 (c .before .if1 .taken)
+    c .below-cube .ensures
+    ∙ power-at-square (start .args .a) (start .args .x) (start .args .b) (start .args .y) 149 _ (omega (arith, c .before .if1 .taken))
 
 returns-2 : tie.Need-returns-2
 returns-2 c =
     let start = c .before .before .before in
     c .below-cube2 .ensures
     ∙ rw (mul-one (c .before .shifted-down .result), c .before .shifted-down .ensures)
-    (power-at-cube (start .args .a) (start .args .x) (start .args .b) (start .args .y) 149 (le-of-lt (c .before .before .if1 .left)))
+    (power-at-cube (start .args .a) (start .args .x) (start .args .b) (start .args .y) 149 _ (omega (arith, c .before .before .if1 .left)))
 
 pub sizes-above-spec : {M : Type 1} → statement M
 sizes-above-spec =

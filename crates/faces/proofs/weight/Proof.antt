@@ -52,11 +52,15 @@ add-falls-2 c = omega (arith, fallen-small (triangle (c .before .before .before 
 
 returns : tie.Need-returns
 unfolding triangle
-returns c = weight-even (triangle (c .before .before .before .before .args .ids .now) (c .before .before .before .before .args .t)) (c .if1 .taken)
+returns c =
+    let s = c .before .before .before .before in
+    weight-even (triangle (s .args .ids .now) (s .args .t)) (omega (arith, c .if1 .taken))
 
 returns-2 : tie.Need-returns-2
 unfolding triangle
-returns-2 c = weight-odd (triangle (c .before .before .before .before .args .ids .now) (c .before .before .before .before .args .t)) (c .if1 .left)
+returns-2 c =
+    let s = c .before .before .before .before in
+    weight-odd (triangle (s .args .ids .now) (s .args .t)) (λ e. omega (arith, c .if1 .left))
 
 pub weight-spec : {M : Type 1} → statement M
 weight-spec =

@@ -24,8 +24,13 @@ module _ (a x b y k : ℕ) where
   abbrev Sizes : Bool
   Sizes = ltb (b * 2 ^ y * (b * 2 ^ y) * 2 ^ k) (8 * (a * 2 ^ x * (a * 2 ^ x) * (a * 2 ^ x)))
 
-  pub power-at-square : 3 * x + 3 ≤ 2 * y + k → ltb (b * b * 2 ^ (2 * y + k - (3 * x + 3))) (a * a * a) ≡ Sizes
-  power-at-square h = lt-power-left (b * b) (a * a * a) (2 * y + k) (3 * x + 3) h ∙ rw (squared b y k, cubed a x)
+  -- e is what the two powers differ by, whichever way it was worked out
+  pub power-at-square : (e : ℕ) → e + (3 * x + 3) ≡ 2 * y + k → ltb (b * b * 2 ^ e) (a * a * a) ≡ Sizes
+  power-at-square e h =
+      let is : e ≡ 2 * y + k - (3 * x + 3) = omega arith in
+      rw is (lt-power-left (b * b) (a * a * a) (2 * y + k) (3 * x + 3) (omega arith) ∙ rw (squared b y k, cubed a x))
 
-  pub power-at-cube : 2 * y + k ≤ 3 * x + 3 → ltb (b * b / 2 ^ (3 * x + 3 - (2 * y + k))) (a * a * a) ≡ Sizes
-  power-at-cube h = lt-power-right (b * b) (a * a * a) (2 * y + k) (3 * x + 3) h ∙ rw (squared b y k, cubed a x)
+  pub power-at-cube : (e : ℕ) → e + (2 * y + k) ≡ 3 * x + 3 → ltb (b * b / 2 ^ e) (a * a * a) ≡ Sizes
+  power-at-cube e h =
+      let is : e ≡ 3 * x + 3 - (2 * y + k) = omega arith in
+      rw is (lt-power-right (b * b) (a * a * a) (2 * y + k) (3 * x + 3) (omega arith) ∙ rw (squared b y k, cubed a x))

@@ -1,5 +1,6 @@
 -- `integers::cut_size` meets its contract. Assumes nothing.
 use borrow.Author.Needs.{needs}
+use native.Mathlib.Omega.{arith}
 use Rattle.ieee.proofs.Patterns.Integer.{none-size, shift-size}
 use Rattle.integers.proofs.cut_size.Statement.{statement}
 use Rattle.integers.proofs.cut_size.Tie as tie
@@ -17,7 +18,7 @@ shr-result : tie.Need-shr-result
 shr-result c = search needs
 
 returns : tie.Need-returns
-returns c = none-size (c .before .args .e) (c .before .args .t) (c .before .pre .1) (c .if1 .taken)
+returns c = none-size (c .before .args .e) (c .before .args .t) (c .before .pre .1) (omega (arith, c .if1 .taken))
 
 returns-2 : tie.Need-returns-2
 returns-2 c = shift-size (c .before .args .e) (c .before .args .t) (c .if1 .left) (c .before .pre .0)

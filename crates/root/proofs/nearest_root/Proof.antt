@@ -97,10 +97,10 @@ add-result : tie.Need-add-result
 add-result c = let p = parts-at (c .before) in omega arith
 
 returns : tie.Need-returns
-returns c = let p = parts-at (c .before) in next (c .before .before .args .m * 2 ^ 52) _ _ _ (squares p) (c .if1 .taken) (omega arith)
+returns c = let p = parts-at (c .before) in next (c .before .before .args .m * 2 ^ 52) _ _ _ (squares p) (omega (arith, c .if1 .taken)) (omega arith)
 
 returns-2 : tie.Need-returns-2
-returns-2 c = let p = parts-at (c .before) in same (c .before .before .args .m * 2 ^ 52) _ _ _ (squares p) (c .if1 .left) (omega arith)
+returns-2 c = let p = parts-at (c .before) in same (c .before .before .args .m * 2 ^ 52) _ _ _ (squares p) (omega (arith, c .if1 .left)) (omega arith)
 
 pub nearest-root-spec : {M : Type 1} → statement M
 nearest-root-spec =

@@ -7,7 +7,7 @@ use borrow.Author.Needs.{needs}
 use Rattle.ids.specs.EdgeChain.{Edge, sameEdge}
 use Rattle.table.specs.Rows.{nextRow, dist, Passed}
 use Rattle.table.proofs.Search.{dist-here, dist-below, next-below, goes-on}
-use Rattle.steps.specs.Rows.{edgeAt, usesAt}
+use Rattle.steps.specs.Rows.{edgeAt, wordAt, usesAt}
 use Rattle.ids.proofs.Same.{edge-eq, edge-refl, same-ne}
 use Rattle.table.proofs.Counts.{none-used, used}
 use Rattle.steps.proofs.find.Statement.{statement}
@@ -77,17 +77,21 @@ module _ (c : tie.Else2 Inv-loop μ-loop) where
       × Passed (st .args .n) (st .args .start) (edgeAt (st .args .work .now)) (usesAt (st .args .work .now)) edge (nextRow (st .args .n) (at .loop .r))
   on = goes-on (st .args .n) (st .args .start) (st .pre .0) (edgeAt (st .args .work .now)) (usesAt (st .args .work .now)) edge (at .loop .r) (at .loop .inv .0) (at .loop .inv .1) used-here other-here (st .pre .3)
 
-loop-less : tie.Need-loop-less Inv-loop μ-loop
-loop-less c = rw (c .next .ensures) (omega (arith, on (c .before) .0, below (c .before)))
-
+-- That the next row is a row stands before that the search comes to an end: a search that does not wrap still seems to end.
 loop-again : tie.Need-loop-again Inv-loop μ-loop
 loop-again c =
     let s = c .before .before .before .before .before .before .before .before in
     let l = c .before .before .before .before .before .before .loop in
     rw (c .next .ensures) (next-below (s .args .n) (s .args .start) (s .pre .0) (l .r) (l .inv .0), on (c .before) .1)
 
+loop-less : tie.Need-loop-less Inv-loop μ-loop
+loop-less c = rw (c .next .ensures) (omega (arith, on (c .before) .0, below (c .before)))
+
 returns : tie.Need-returns Inv-loop μ-loop
-returns c = let l = c .before .before .loop in record { within = l .inv .0; holds = λ u. absurd (omega (arith, none-used _ (c .if1 .taken))); passed = l .inv .1 }
+returns c =
+    let l = c .before .before .loop in
+    let word = wordAt (c .before .before .before .before .args .work .now) (l .r) in
+    record { within = l .inv .0; holds = λ u. absurd (omega (arith, none-used word (omega (arith, c .if1 .taken)))); passed = l .inv .1 }
 
 returns-2 : tie.Need-returns-2 Inv-loop μ-loop
 unfolding sameEdge

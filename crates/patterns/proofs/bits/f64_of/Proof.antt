@@ -11,7 +11,7 @@ float-from-bits-result : tie.Need-float-from-bits-result
 float-from-bits-result c = up-to-inf binary64 (c .before .args .b) (omega (arith, c .if1 .left))
 
 returns : tie.Need-returns
-returns c = unfold div ofBits in sym (above-inf binary64 (c .before .args .b) (c .if1 .taken))
+returns c = unfold div ofBits in sym (above-inf binary64 (c .before .args .b) (omega (arith, c .if1 .taken)))
 
 returns-2 : tie.Need-returns-2
 returns-2 c = search needs

@@ -15,7 +15,7 @@ sub-result : tie.Need-sub-result
 sub-result c = search needs
 
 returns : tie.Need-returns
-returns c = (shortened-normal (c .args .m) (c .pre .0) (c .pre .1), omega (arith, c .pre .1))
+returns c = (omega (arith, shortened-normal (c .args .m) (c .pre .0) (c .pre .1)), omega (arith, c .pre .1))
 
 pub narrow-normal-spec : {M : Type 1} → statement M
 narrow-normal-spec = tie.close (tie.spec add-result add-result-2 sub-result returns)

@@ -1,6 +1,7 @@
 -- `rounding::ties_even::nearest_shift` meets its contract. Assumes nothing.
 use borrow.Author.Needs.{needs}
-use Prim.Native.Nat.{_-_}
+use mathlib.Core.Path.{_≡_}
+use Prim.Native.Nat.{ℕ, _-_, _/_}
 use native.Mathlib.Omega.{arith}
 use lib.Pow.{pow-mono, pow-pos}
 use Rattle.ieee.proofs.Numbers.Basic.{nearest-shift, one-shl}
@@ -28,8 +29,12 @@ add-result-2 c = let k = c .args .k in rw (one-shl (k - 1) (omega arith)) (omega
 shr-result-2 : tie.Need-shr-result-2
 shr-result-2 c = search needs
 
+-- what is divided is shown by arithmetic to be what the law divides
+divided : (a b d r : ℕ) → b / d ≡ r → a ≡ b → a / d ≡ r
+divided a b d r h e = rw e h
+
 returns : tie.Need-returns
-returns c = let k = c .args .k in rw (one-shl (k - 1) (omega arith)) (nearest-shift (c .args .n) k (omega arith))
+returns c = let k = c .args .k in divided _ _ _ _ (nearest-shift (c .args .n) k (omega arith)) (omega (arith, one-shl (k - 1) (omega arith)))
 
 pub nearest-shift-spec : {M : Type 1} → statement M
 nearest-shift-spec = tie.close (tie.spec sub-result shl-result sub-result-2 add-result shr-result add-result-2 shr-result-2 returns)

@@ -36,7 +36,7 @@ returns : tie.Need-returns
 returns c =
     let start = c .before .before .before in
     whole-already binary32 (wayOf (start .args .above)) (wayOf (start .args .below)) (start .args .x) (c .before .bits64 .result) (is (c .before))
-    (passes _ (start .good .0 .1)) (c .if1 .taken)
+    (passes _ (start .good .0 .1)) (omega (arith, c .if1 .taken))
 
 returns-2 : tie.Need-returns-2
 returns-2 c =

@@ -192,7 +192,7 @@ module _ (vs : List Float) (ids : List ℕ) (u : Float) (p : Passes vs ids u) wh
         side = area-finite n few (square u) S (t .side) (w .side);
         inclined = area-finite n few (square u) S (t .inclined) (w .inclined);
         largest = largest-finite (surfaceRows vs ids u) rows-all-finite;
-        smallest = smallest-finite (surfaceRows vs ids u) rows-finite;
+        smallest = smallest-finite (surfaceRows vs ids u) rows-all-finite;
         best = most .volume;
         prism = most .prism;
       }

@@ -14,7 +14,8 @@ use Rattle.ieee.specs.Single.{nought}
 use Rattle.ids.specs.EdgeChain.{boundaryFree, overIncident}
 use Rattle.ids.specs.Uses.{signed}
 use Rattle.ids.specs.FaceNet.{sameFace, faces, maxAbs, allCancel}
-use Rattle.ids.proofs.Meaning.{all-cancel-tells, max-abs-is-largest}
+use Rattle.ids.proofs.Groups.{or-right}
+use Rattle.ids.proofs.Meaning.{and-true, all-cancel-tells, max-abs-is-largest}
 use Rattle.weld.specs.Weld.{welded}
 use Rattle.verdict.specs.Verdict.{tooLarge, nearZero, byFaces, byChain, quality}
 use Rattle.verdict.specs.Meaning.{lastUsed, facesAsked, ClosedSays, OpenSays, CancelsOut, DegenerateSays, Exactly, VerdictMeans}
@@ -31,6 +32,10 @@ cancelled-small ids h =
           let none : natAbs (signed sameFace (w .0) (faces ids)) ≡ 0 = ap natAbs (all-cancel-tells ids .sound h (w .0)) in
           absurd (omega (arith, w .1, none)))
     ]
+
+and-false : (a b : Bool) → (a ≡ true → b ≡ false) → a && b ≡ false
+and-false true b h = h refl
+and-false false b h = refl
 
 -- no verdict is another
 tag : Quality → ℕ
@@ -66,10 +71,6 @@ module _ (vs : List Float) (ids : List ℕ) (ε volume box : Float) where
 
   -- ---- what each meaning makes the verdict
 
-  and-false : (a b : Bool) → (a ≡ true → b ≡ false) → a && b ≡ false
-  and-false true b h = h refl
-  and-false false b h = refl
-
   closed-told : ClosedSays used volume box → verdict ≡ Closed
   closed-told h = within-box vs ids ε volume box (h .has-box) (h .within-box) ∙ (by-used (h .boundary-free) ∙ go (facesAsked used near) refl)
     where
@@ -91,13 +92,6 @@ module _ (vs : List Float) (ids : List ℕ) (ε volume box : Float) where
       by-volume : (b : Bool) → tooLarge volume box ≡ b → verdict ≡ OpenShell
       by-volume true k = too-large vs ids ε volume box (h .has-box) k
       by-volume false k = within-box vs ids ε volume box (h .has-box) k ∙ by-ids (boundaryFree used) refl k
-
-  or-right : (a b : Bool) → b ≡ true → a || b ≡ true
-  or-right true b h = refl
-  or-right false b h = h
-
-  and-true : (a b : Bool) → a ≡ true → b ≡ true → a && b ≡ true
-  and-true a b h k = rw (h, k)
 
   degenerate-told : DegenerateSays used volume box → verdict ≡ Degenerate
   degenerate-told = ⊎-elim (no-box vs ids ε volume box) (λ h. by-box h (le box nought) refl)

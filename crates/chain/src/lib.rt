@@ -1,4 +1,4 @@
-// `EdgeChain`, `FaceNet`, `is_closed_manifold` and `winding_coherent`: what the verdict closed or open rests on. Each takes ids and a lent area,
+// `EdgeChain`, `FaceNet`, `is_closed_manifold` and `winding_coherent`: 000's routines on ids alone. Each takes ids and a lent area,
 // and either refuses, with nothing changed, or answers and leaves zero in the words that it needs.
 ghost use mathlib.Core.Path.{_≡_};
 ghost use Prim.Native.Nat.{_*_, _≤_};

@@ -1,4 +1,5 @@
--- Two lists in which each key stands as often are equally long; and how often a key stands among those of a list that pass a test. Assumes nothing.
+-- Two lists in which each key stands as often are equally long; and how often a key stands among those of a list that pass a test.
+-- Assumes nothing.
 use mathlib.Core.Path.{_≡_, refl, sym, ap, _∙_}
 use mathlib.Core.Bool.{Bool, true, false, cond}
 use mathlib.Core.List.{List, [], _∷_}
@@ -18,7 +19,8 @@ unfolding sumBy bit passing
 passing-length p [] = refl
 passing-length p (k ∷ ks) = go (p k) (passing-length p ks)
   where
-    go : (b : Bool) → length (passing p ks) ≡ sumBy (λ j. bit (p j)) ks → length (cond b (k ∷ passing p ks) (passing p ks)) ≡ bit b + sumBy (λ j. bit (p j)) ks
+    go : (b : Bool) → length (passing p ks) ≡ sumBy (λ j. bit (p j)) ks
+        → length (cond b (k ∷ passing p ks) (passing p ks)) ≡ bit b + sumBy (λ j. bit (p j)) ks
     go true ih = omega (arith, ih)
     go false ih = omega (arith, ih)
 
@@ -51,7 +53,8 @@ module _ {K : Type 0} (same : K → K → Bool) (same-eq : (a b : K) → same a 
   without-length x [] l = absurd (omega arith)
   without-length x (j ∷ ks) l = go (same x j) refl (without-length x ks)
     where
-      go : (s : Bool) → same x j ≡ s → (0 < times same x ks → length ks ≡ 1 + length (without x ks)) → length (j ∷ ks) ≡ 1 + length (cond s ks (j ∷ without x ks))
+      go : (s : Bool) → same x j ≡ s → (0 < times same x ks → length ks ≡ 1 + length (without x ks))
+          → length (j ∷ ks) ≡ 1 + length (cond s ks (j ∷ without x ks))
       go true h ih = omega arith
       go false h ih = omega (arith, ih (omega (arith, l, ap bit h)))
 

@@ -1,4 +1,5 @@
--- `winding_coherent` is yes exactly where some edge exists and at most one in fifty is incoherent, said of two lists that have these edges each once. Assumes nothing.
+-- `winding_coherent` is yes exactly where some edge exists and at most one in fifty is incoherent, said of two lists that have these edges
+-- each once. Assumes nothing.
 use mathlib.Core.Path.{_≡_, refl, sym, ap, _∙_}
 use mathlib.Core.Bool.{Bool, true, false, not, _&&_, true≢false}
 use mathlib.Core.List.{List}
@@ -21,7 +22,8 @@ use Rattle.ids.proofs.Meaning.{abs-zero, bit-some, above, and-true}
 
 incoherent-tells : (n s : ℕ) → incoherent n s ≡ true → (n ≡ 1 → ⊥) × (n ≡ 2 → s ≡ 0 → ⊥)
 unfolding incoherent
-incoherent-tells n s h = (λ e. true≢false (sym h ∙ ap (λ k. incoherent k s) e), λ e z. true≢false (sym h ∙ (ap (λ k. incoherent k s) e ∙ ap (incoherent 2) z)))
+incoherent-tells n s h =
+    (λ e. true≢false (sym h ∙ ap (λ k. incoherent k s) e), λ e z. true≢false (sym h ∙ (ap (λ k. incoherent k s) e ∙ ap (incoherent 2) z)))
 
 incoherent-told : (n s : ℕ) → (n ≡ 1 → ⊥) → (n ≡ 2 → s ≡ 0 → ⊥) → incoherent n s ≡ true
 unfolding incoherent

@@ -1,4 +1,4 @@
--- Refusals of an id routine, and what it leaves in the area that it is lent: the first rows of document 01's table, by the number of ids alone.
+-- Refusals of an id routine, and what it leaves in the area that it is lent: refusals 1 and 3 of document 01's table, the first by the number of ids alone.
 use Prim.Native.Nat.{ℕ, zero, suc}
 use mathlib.Core.Path.{_≡_}
 use mathlib.Core.Bool.{cond}
@@ -34,4 +34,5 @@ pub record Gives {A : Type 0} (needed : ℕ) (refused : ℕ → A) (answer : A) 
 
 -- any two answers that a contract allows are equal, and so is what is left in the area
 abbrev pub OneGiven : {A : Type 0} → (List ℕ → List ℕ → A → List ℕ → Type 0) → Type 0
-OneGiven {A} Given = (ids area : List ℕ) (r r′ : A) (after after′ : List ℕ) → Given ids area r after → Given ids area r′ after′ → (r ≡ r′) × (after ≡ after′)
+OneGiven {A} Given =
+    (ids area : List ℕ) (r r′ : A) (after after′ : List ℕ) → Given ids area r after → Given ids area r′ after′ → (r ≡ r′) × (after ≡ after′)

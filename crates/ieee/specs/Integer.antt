@@ -1,4 +1,5 @@
--- What a conversion to an integer is worth (5.8, toward zero): the kit's `toSigned` and `toUnsigned`, which the contracts of `to_i32`, `to_i64` and `to_u64` cite.
+-- What a conversion to an integer is worth (5.8, toward zero): the kit's `toSigned` and `toUnsigned`, which the contracts of `to_i32`,
+-- `to_i64` and `to_u64` cite.
 use mathlib.Core.Path.{_≡_}
 use mathlib.Core.Bool.{Bool, true, false}
 use Prim.Native.Nat.{ℕ, _-_, _*_, _^_, _≤_}
@@ -11,7 +12,8 @@ NotAbove n nan = ⊥
 NotAbove n (inf s) = Unit {0}
 NotAbove n (fin s m e) = n * down e ≤ m * up e
 
--- n is the greatest whole number up to `most` that is not above the size of x: a fraction is dropped, and out of range n is the end, which is nearest
+-- n is the greatest whole number up to `most` that is not above the size of x: a fraction is dropped, and out of range n is the end,
+-- which is nearest
 pub record Cut (most : ℕ) (x : Float) (n : ℕ) : Type 0 where
   pub in-range : n ≤ most
   pub not-above : NotAbove n x

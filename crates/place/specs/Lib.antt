@@ -1,4 +1,4 @@
--- Demand 3: its premise, its conclusion, and the statement over what `compute` promises.
+-- Demand 3: its premise, its conclusion, the statement over what `compute` and its C form promise, the stations on the road, and an example.
 pub mod Moved
 pub mod Agree
 pub mod Place

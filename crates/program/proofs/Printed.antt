@@ -31,7 +31,8 @@ unfolding textOf
 front-decides bytes h = ap textFor (file-front-decides bytes h)
 
 -- the first bytes decide, be they all of the input or as many as are kept
-pub decided : (bytes : List ℕ) (n : ℕ) → length bytes ≡ kept → (input : List ℕ) → take n bytes ≡ take (length bytes) input → textOf (take n bytes) ≡ textOf input
+pub decided : (bytes : List ℕ) (n : ℕ) → length bytes ≡ kept → (input : List ℕ) → take n bytes ≡ take (length bytes) input
+    → textOf (take n bytes) ≡ textOf input
 decided bytes n full input same =
     let e : take n bytes ≡ take kept input = rw full at same in
     elim (decLe (length input) 12318) [

@@ -1,4 +1,4 @@
--- Document 01's starred examples, in one table with one statement, in its order. `starred` proves it by computing.
+-- Document 01's starred examples, in one table with one statement, in its order, proved by `starred`.
 use mathlib.Core.Path.{_≡_}
 use mathlib.Core.Bool.{true, false}
 use mathlib.Core.List.{[], _∷_, _++_}

@@ -1,4 +1,4 @@
-// `footprint_raw`: how much ground a mesh covers, counted in cells of a lent raster. Internal: `volume` asks it for an open shell.
+// `footprint_raw`: how much ground a mesh covers, counted in cells of a lent raster. Internal: `volume` asks it for an open shell, and has the raster cleared for any other.
 ghost use mathlib.Core.Path.{_≡_};
 ghost use mathlib.Core.Bool.{Bool};
 ghost use Prim.Native.Nat.{ℕ, _*_, _≤_};

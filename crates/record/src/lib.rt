@@ -1,4 +1,4 @@
-// The record, `MeshQto`, and its flags: each takes a record and hands one back. The names are 000's.
+// The record, `MeshQto`, and its flags: each takes a record and hands one back. The names are 000's. And numbers for the cases of its enums, and flags of numbers.
 ghost use mathlib.Core.Path.{_≡_};
 ghost use Rattle.record.specs.Record.{zeroRecord};
 ghost use Rattle.record.specs.Numbers.{qualityNumber, methodNumber, defectNumber, profileNumber, flagsFit, profileAt};

@@ -1,4 +1,4 @@
-// Triangles, lent areas and tables in them: what the routines on ids share. Internal.
+// Triangles, lent areas and tables in them: what the routines on ids, the weld's cells and the surface rows share. Internal.
 ghost use mathlib.Core.Path.{_≡_};
 ghost use Prim.Native.Nat.{_≤_, _<_, min, max};
 ghost use lib.ListN.{length};

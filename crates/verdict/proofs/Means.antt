@@ -58,7 +58,8 @@ module _ (vs : List Float) (ids : List ℕ) (ε volume box : Float) where
   by-used : boundaryFree used ≡ true → byChain vs ids ε near ≡ byFaces used near
   by-used = go (boundaryFree ids) refl
     where
-      go : (b : Bool) → boundaryFree ids ≡ b → boundaryFree (cond b ids (welded vs ids ε)) ≡ true → byChain vs ids ε near ≡ byFaces (cond b ids (welded vs ids ε)) near
+      go : (b : Bool) → boundaryFree ids ≡ b → boundaryFree (cond b ids (welded vs ids ε)) ≡ true
+          → byChain vs ids ε near ≡ byFaces (cond b ids (welded vs ids ε)) near
       go true h k = as-given vs ids ε near h
       go false h k = as-welded vs ids ε near h k
 
@@ -133,6 +134,9 @@ module _ (vs : List Float) (ids : List ℕ) (ε volume box : Float) where
       by-box false hb false hl false hf = inr (inl (record { has-box = hb; why = inr (inl hf) }))
       by-box false hb false hl true hf = by-faces hb hl hf
 
+  by : {P : Type 0} → (ClosedSays used volume box → P) → (OpenSays used volume box → P) → (DegenerateSays used volume box → P) → P
+  by f g h = ⊎-elim f (⊎-elim g h) covers
+
   -- so the verdict says which: the other two would make it another
   other : {P : Type 0} (q q′ : Quality) → verdict ≡ q → verdict ≡ q′ → (tag q ≡ tag q′ → ⊥) → P
   other q q′ h k apart = absurd (apart (ap tag (sym h ∙ k)))
@@ -141,15 +145,18 @@ module _ (vs : List Float) (ids : List ℕ) (ε volume box : Float) where
   unfolding tag
   verdict-means = record {
     closed = record {
-      sound = λ h. ⊎-elim (λ c. c) (⊎-elim (λ o. other Closed OpenShell h (open-told o) (λ e. omega arith)) (λ d. other Closed Degenerate h (degenerate-told d) (λ e. omega arith))) covers;
+      sound = λ h. by (λ c. c) (λ o. other Closed OpenShell h (open-told o) (λ e. omega arith))
+          (λ d. other Closed Degenerate h (degenerate-told d) (λ e. omega arith));
       complete = closed-told;
     };
     open-shell = record {
-      sound = λ h. ⊎-elim (λ c. other OpenShell Closed h (closed-told c) (λ e. omega arith)) (⊎-elim (λ o. o) (λ d. other OpenShell Degenerate h (degenerate-told d) (λ e. omega arith))) covers;
+      sound = λ h. by (λ c. other OpenShell Closed h (closed-told c) (λ e. omega arith)) (λ o. o)
+          (λ d. other OpenShell Degenerate h (degenerate-told d) (λ e. omega arith));
       complete = open-told;
     };
     degenerate = record {
-      sound = λ h. ⊎-elim (λ c. other Degenerate Closed h (closed-told c) (λ e. omega arith)) (⊎-elim (λ o. other Degenerate OpenShell h (open-told o) (λ e. omega arith)) (λ d. d)) covers;
+      sound = λ h. by (λ c. other Degenerate Closed h (closed-told c) (λ e. omega arith))
+          (λ o. other Degenerate OpenShell h (open-told o) (λ e. omega arith)) (λ d. d);
       complete = degenerate-told;
     };
   }

@@ -1,4 +1,5 @@
--- What each verdict says of a mesh (`verdict-means`): of its box and volume, and of the ids that were last used, the given ones if they are boundary-free, else the welded ones.
+-- What each verdict says of a mesh (`verdict-means`): of its box and volume, and of the ids that were last used, the given ones if they
+-- are boundary-free, else the welded ones.
 use mathlib.Core.Path.{_≡_}
 use mathlib.Core.Bool.{Bool, true, false, cond, _||_}
 use mathlib.Core.Logic.{_⊎_}
@@ -21,7 +22,7 @@ lastUsed vs ids ε = cond (boundaryFree ids) ids (welded vs ids ε)
 abbrev pub facesAsked : List ℕ → Bool → Bool
 facesAsked used near = overIncident used || near
 
--- the box has a volume and the mesh no more than it, no edge of the ids last used is open, and the faces say nothing against it
+-- the box has a volume and the mesh no more than 1.001 of it, the ids last used have edges and none is open, and the faces say nothing against it
 pub record ClosedSays (used : List ℕ) (volume box : Float) : Type 0 where
   pub has-box : le box nought ≡ false
   pub within-box : tooLarge volume box ≡ false
@@ -29,7 +30,7 @@ pub record ClosedSays (used : List ℕ) (volume box : Float) : Type 0 where
   pub one-sided-nowhere : facesAsked used (nearZero volume box) ≡ true → maxAbs used < 2
   pub encloses : nearZero volume box ≡ true → allCancel used ≡ false
 
--- more volume than the box has, or an open edge, or, asked for, a face sum of magnitude 2 and more
+-- more than 1.001 of the volume that the box has, or an open edge or no edge at all, or, asked for, a face sum of magnitude 2 and more
 pub record OpenSays (used : List ℕ) (volume box : Float) : Type 0 where
   pub has-box : le box nought ≡ false
   pub why : (tooLarge volume box ≡ true) ⊎ ((boundaryFree used ≡ false) ⊎ ((facesAsked used (nearZero volume box) ≡ true) × (2 ≤ maxAbs used)))

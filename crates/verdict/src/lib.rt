@@ -14,7 +14,7 @@ pub enum Quality {
     Degenerate,
 }
 
-// What a list of ids says: that some edge is out of balance, or a quality.
+// What a list of ids says: that it is not boundary-free, or a quality.
 pub enum Chained {
     Boundary,
     Free(Quality),

@@ -1,4 +1,4 @@
-// `welded_indices`: vertices in one cell become the first of them. Internal: `verdict` asks it where the given ids are not boundary-free; `qto` makes ε.
+// `welded_indices`: vertices in one cell become the first of them. Internal: `verdict` asks it where the given ids are not boundary-free, and has given ids laid into its area by `lay`; `qto` asks for ε.
 ghost use mathlib.Core.Path.{_≡_};
 ghost use mathlib.Core.List.{_++_};
 ghost use Prim.Native.Nat.{_+_, _*_, _≤_};

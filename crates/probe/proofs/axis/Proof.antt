@@ -1,4 +1,4 @@
--- `probe::axis` meets its contract: a number below 3 is an axis. Assumes nothing.
+-- `probe::axis` meets its contract: 0, 1, and any other number for z. Assumes nothing.
 use Rattle.raster.specs.Footprint.{axisNumber}
 use native.Mathlib.Omega.{arith}
 use Rattle.probe.proofs.axis.Statement.{statement}

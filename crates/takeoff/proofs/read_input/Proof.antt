@@ -28,7 +28,8 @@ returns c =
     let s = c .before .before .before .before .before .before .before .before in
     let l = c .before .before .before .before .before .before .loop in
     let b = c .before .before .before .read-behind in
-    (sooner (s .args .n) (l .have) (l .bytes) (b .last .0) (s .args .bytes .now) (l .inv .1) (b .ensures .0) (l .inv .3), l .inv .1, omega (arith, l .inv .2, b .kept))
+    let stays = sooner (s .args .n) (l .have) (l .bytes) (b .last .0) (s .args .bytes .now) (l .inv .1) (b .ensures .0) (l .inv .3) in
+    (stays, l .inv .1, omega (arith, l .inv .2, b .kept))
 
 same-length-2 : tie.Need-same-length-2 Inv-loop μ-loop
 same-length-2 c = search needs
@@ -38,7 +39,8 @@ returns-2 c =
     let s = c .before .before .before .before .before .before .before .before .before .before in
     let l = c .before .before .before .before .before .before .before .before .loop in
     let b = c .before .before .before .before .before .read-behind in
-    (sooner (s .args .n) (l .have) (l .bytes) (b .last .0) (s .args .bytes .now) (l .inv .1) (b .ensures .0) (l .inv .3), l .inv .1, omega (arith, l .inv .2, b .kept))
+    let stays = sooner (s .args .n) (l .have) (l .bytes) (b .last .0) (s .args .bytes .now) (l .inv .1) (b .ensures .0) (l .inv .3) in
+    (stays, l .inv .1, omega (arith, l .inv .2, b .kept))
 
 add-have : tie.Need-add-have Inv-loop μ-loop
 add-have c = search needs
@@ -55,7 +57,8 @@ loop-again c =
     let s = c .before .before .before .before .before .before .before .before .before .before .before in
     let l = c .before .before .before .before .before .before .before .before .before .loop in
     let b = c .before .before .before .before .before .before .read-behind in
-    (omega (arith, b .kept, l .inv .0), omega (arith, b .ensures .1, l .inv .1), omega (arith, b .ensures .1, b .kept), sooner (s .args .n) (l .have) (l .bytes) (b .last .0) (s .args .bytes .now) (l .inv .1) (b .ensures .0) (l .inv .3))
+    let stays = sooner (s .args .n) (l .have) (l .bytes) (b .last .0) (s .args .bytes .now) (l .inv .1) (b .ensures .0) (l .inv .3) in
+    (omega (arith, b .kept, l .inv .0), omega (arith, b .ensures .1, l .inv .1), omega (arith, b .ensures .1, b .kept), stays)
 
 skip-rest-requires : tie.Need-skip-rest-requires Inv-loop μ-loop
 skip-rest-requires c κs = search needs

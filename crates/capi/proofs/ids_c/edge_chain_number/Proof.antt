@@ -19,7 +19,9 @@ mul-result : tie.Need-mul-result
 mul-result c = omega (arith, byte-small (c .before .before .before .answer .given .0 .0 .«over_incident»))
 
 add-result : tie.Need-add-result
-add-result c = omega (arith, byte-small (c .before .before .before .answer .given .0 .0 .«boundary_free»), byte-small (c .before .before .before .answer .given .0 .0 .«over_incident»))
+add-result c =
+    let said = c .before .before .before .answer .given .0 .0 in
+    omega (arith, byte-small (said .«boundary_free»), byte-small (said .«over_incident»))
 
 enum-known-answer-2 : tie.Need-enum-known-answer-2
 enum-known-answer-2 c = search needs
@@ -32,7 +34,9 @@ add-result-2 c = search needs
 
 returns : tie.Need-returns
 unfolding edgeChainNumber
-returns c = rw (c .before .before .before .answer .given .1, byte-bit (c .before .before .before .answer .given .0 .0 .«boundary_free»), byte-bit (c .before .before .before .answer .given .0 .0 .«over_incident»))
+returns c =
+    let known = c .before .before .before .answer .given in
+    rw (known .1, byte-bit (known .0 .0 .«boundary_free»), byte-bit (known .0 .0 .«over_incident»))
 
 returns-2 : tie.Need-returns-2
 unfolding edgeChainNumber

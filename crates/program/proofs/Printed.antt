@@ -1,12 +1,12 @@
 -- The text that was printed lies within its area; there is one for every input; input that is longer than any file is refused, and its first bytes decide how.
 use mathlib.Core.Path.{_≡_, refl, sym, ap, _∙_}
 use mathlib.Core.Logic.{_⊎_}
-use Prim.Native.Nat.{ℕ, _≤_}
+use Prim.Native.Nat.{ℕ, _≤_, _<_}
 use mathlib.Core.List.{List}
 use native.Mathlib.Omega.{arith}
 use native.Mathlib.Decide.{decLe}
 use lib.ListN.{length, take, drop, length-append}
-use lib.Seq.{length-take-le, take-all}
+use lib.Seq.{length-take-le, take-all, take-take}
 use Rattle.meshfile.specs.Format.{Contents, File, fileOf}
 use Rattle.meshfile.proofs.Bounds.{files-are-short, front-decides as file-front-decides}
 use Rattle.meshfile.proofs.One.{File56, file-56}
@@ -30,24 +30,29 @@ pub front-decides : FrontDecides
 unfolding textOf
 front-decides bytes h = ap textFor (file-front-decides bytes h)
 
--- the first bytes decide, be they all of the input or as many as are kept
-pub decided : (bytes : List ℕ) (n : ℕ) → length bytes ≡ kept → (input : List ℕ) → take n bytes ≡ take (length bytes) input
+-- So do more, if they are kept.
+more-decides : (l : ℕ) (input : List ℕ) → kept ≤ l → l < length input → textOf (take l input) ≡ textOf input
+more-decides l input h g =
+    let long : 12318 < length (take l input) = omega (arith, length-take-le l input (omega arith)) in
+    sym (front-decides (take l input) long) ∙ (ap textOf (take-take kept l input h) ∙ front-decides input (omega arith))
+
+-- the first bytes decide, be they all of the input or as many as an area of at least so many bytes holds
+decided : (bytes : List ℕ) (n : ℕ) → kept ≤ length bytes → (input : List ℕ) → take n bytes ≡ take (length bytes) input
     → textOf (take n bytes) ≡ textOf input
-decided bytes n full input same =
-    let e : take n bytes ≡ take kept input = rw full at same in
-    elim (decLe (length input) 12318) [
-      | yes l ↦ ap textOf (e ∙ take-all kept input (omega arith))
-      | no l ↦ ap textOf e ∙ front-decides input (omega arith)
+decided bytes n enough input same =
+    elim (decLe (length input) (length bytes)) [
+      | yes l ↦ ap textOf (same ∙ take-all (length bytes) input l)
+      | no l ↦ ap textOf same ∙ more-decides (length bytes) input enough (omega arith)
     ]
 
-pub prints-first : (bytes : List ℕ) (n : ℕ) (area : List ℕ) (r : ℕ) (area′ : List ℕ) → length bytes ≡ kept
+pub prints-first : (bytes : List ℕ) (n : ℕ) (area : List ℕ) (r : ℕ) (area′ : List ℕ) → kept ≤ length bytes
     → Prints (textOf (take n bytes)) area r area′ → PrintsFront bytes n area r area′
-prints-first bytes n area r area′ full h = record { prints = h; decides = decided bytes n full }
+prints-first bytes n area r area′ enough h = record { prints = h; decides = decided bytes n enough }
 
 -- all of them, where n is not below their number
-pub prints-all : (bytes : List ℕ) (n : ℕ) (area : List ℕ) (r : ℕ) (area′ : List ℕ) → length bytes ≡ kept → length bytes ≤ n
+pub prints-all : (bytes : List ℕ) (n : ℕ) (area : List ℕ) (r : ℕ) (area′ : List ℕ) → kept ≤ length bytes → length bytes ≤ n
     → Prints (textOf bytes) area r area′ → PrintsFront bytes n area r area′
-prints-all bytes n area r area′ full l h = prints-first bytes n area r area′ full (rw (take-all n bytes l) h)
+prints-all bytes n area r area′ enough l h = prints-first bytes n area r area′ enough (rw (take-all n bytes l) h)
 
 refused-text : (f : File) → File56 f → ((m : Contents) → f ≡ File.Holds m → ⊥) → (n : ℕ) × ((n ≡ 5) ⊎ (n ≡ 6)) × (textFor f ≡ refusedLine n)
 unfolding textFor

@@ -19,12 +19,12 @@ run-requires-2 c κs = search needs
 returns : tie.Need-returns
 returns c =
     let s = c .before .before .before .before .before in
-    prints-first (s .args .bytes .now) (s .args .n) _ _ _ (search needs) (c .run .ensures)
+    prints-first (s .args .bytes .now) (s .args .n) _ _ _ (omega arith) (c .run .ensures)
 
 returns-2 : tie.Need-returns-2
 returns-2 c =
     let s = c .before .before .before .before in
-    prints-all (s .args .bytes .now) (s .args .n) _ _ _ (search needs) (omega arith) (c .run2 .ensures)
+    prints-all (s .args .bytes .now) (s .args .n) _ _ _ (omega arith) (omega arith) (c .run2 .ensures)
 
 pub run-front-spec : {M : Type 1} → statement M
 run-front-spec =

@@ -12,7 +12,7 @@ use Rattle.meshfile.proofs.Bounds.{files-are-short, front-decides as file-front
 use Rattle.meshfile.proofs.One.{File56, file-56}
 use Rattle.listing.specs.Listing.{refusedLine}
 use Rattle.program.specs.Program.{textFor, textOf, Prints, RunOne}
-use Rattle.program.specs.Promises.{kept, FrontDecides, LongRefused, PrintsFront}
+use Rattle.program.specs.Promises.{kept, FrontDecides, LongRefused, PrintsFront, RunFrontOne}
 
 module _ (text area : List ℕ) (r : ℕ) (area′ : List ℕ) (printed : Prints text area r area′) where
   pub prints-inside : r ≤ length area′
@@ -23,6 +23,9 @@ module _ (text area : List ℕ) (r : ℕ) (area′ : List ℕ) (printed : Prints
 
 pub run-one : RunOne
 run-one bytes area r₁ r₂ area₁ area₂ x y = (x .answers ∙ sym (y .answers), x .later ∙ sym (y .later))
+
+pub run-front-one : RunFrontOne
+run-front-one bytes n area r₁ r₂ area₁ area₂ x y = run-one (take n bytes) area r₁ r₂ area₁ area₂ (x .prints) (y .prints)
 
 -- ---- input that is longer than any file
 

@@ -45,3 +45,8 @@ LongRefused = (bytes : List ℕ) → 12318 < length bytes → (n : ℕ) × ((n �
 pub record PrintsFront (bytes : List ℕ) (n : ℕ) (area : List ℕ) (r : ℕ) (area′ : List ℕ) : Type 0 where
   pub prints : Prints (textOf (take n bytes)) area r area′
   pub decides : (input : List ℕ) → take n bytes ≡ take (length bytes) input → textOf (take n bytes) ≡ textOf input
+
+-- Any two answers that the contract of `run_front` allows are equal, and so is what stands in the area. (`run-front-one`)
+abbrev pub RunFrontOne : Type 0
+RunFrontOne = (bytes : List ℕ) (n : ℕ) (area : List ℕ) (r₁ r₂ : ℕ) (area₁ area₂ : List ℕ)
+    → PrintsFront bytes n area r₁ area₁ → PrintsFront bytes n area r₂ area₂ → (r₁ ≡ r₂) × (area₁ ≡ area₂)

@@ -10,7 +10,8 @@ use Rattle.ids.proofs.Same.{three-eq, three-refl, eqb-refl}
 use Rattle.table.specs.Rows.{homeRow, Found}
 use Rattle.table.proofs.Search.{home-below}
 use Rattle.cells.specs.declared.Code.{Code}
-use Rattle.cells.specs.Cells.{Cell, sameInteger, sameCell}
+use Rattle.cells.specs.Cells.{Cell, sameCell}
+use Rattle.ieee.specs.Integer.{sameInteger}
 use Rattle.cells.specs.Table.{coded, codeOf, sameCode, hashOf, homeOf}
 
 -- ---- one to one

@@ -2,11 +2,11 @@
 use mathlib.Core.Path.{_≡_}
 use mathlib.Core.Logic.{_≢_}
 use Prim.Native.Nat.{ℕ, zero, suc, _≤_, _<_}
-use mathlib.Core.Bool.{Bool, false, _&&_, cond}
+use mathlib.Core.Bool.{Bool, _&&_, cond}
 use mathlib.Core.List.{List}
-use lib.Dec.{eqb}
-use lib.IntN.{ℤ, pos, negsuc}
+use lib.IntN.{ℤ}
 use lib.Ieee.{Float, binary64, mul, toSigned}
+use Rattle.ieee.specs.Integer.{sameInteger}
 use Rattle.ieee.specs.Integral.{halfAway}
 use Rattle.vertices.specs.Vertices.{coordinate}
 
@@ -22,12 +22,6 @@ pub record Cell : Type 0 where
 
 unfoldable pub cellAt : List Float → Float → ℕ → Cell
 cellAt vs inv v = record { x = cellOf inv (coordinate vs 0 v); y = cellOf inv (coordinate vs 1 v); z = cellOf inv (coordinate vs 2 v) }
-
-unfoldable pub sameInteger : ℤ → ℤ → Bool
-sameInteger (pos m) (pos n) = eqb m n
-sameInteger (pos m) (negsuc n) = false
-sameInteger (negsuc m) (pos n) = false
-sameInteger (negsuc m) (negsuc n) = eqb m n
 
 unfoldable pub sameCell : Cell → Cell → Bool
 sameCell a b = sameInteger (a .x) (b .x) && (sameInteger (a .y) (b .y) && sameInteger (a .z) (b .z))

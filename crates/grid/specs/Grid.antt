@@ -13,10 +13,6 @@ half = ofBits binary32 0x3f00_0000
 
 -- ---- the cells along one axis
 
--- the length from lo to hi, never below 0
-unfoldable pub extent : Float → Float → Float
-extent lo hi = greatest (hi ⊖ lo) nought
-
 -- how many cells of a size a length has: 1 at least, 256 at most
 unfoldable pub cellsIn : Float → Float → ℕ
 cellsIn length size = max 1 (min (toUnsigned 64 (ceiling binary32 (length ⊘ size))) 256)
@@ -27,15 +23,15 @@ clamped m (pos n) = min n m
 clamped m (negsuc n) = 0
 
 -- which of n cells of width w from x on p is in: the first where it lies before them, the last where it lies behind
-unfoldable pub cellOf : Float → Float → ℕ → Float → ℕ
-cellOf x w n p = clamped (n - 1) (toSigned 63 (floor binary32 ((p ⊖ x) ⊘ w)))
+unfoldable pub cellAlong : Float → Float → ℕ → Float → ℕ
+cellAlong x w n p = clamped (n - 1) (toSigned 63 (floor binary32 ((p ⊖ x) ⊘ w)))
 
 -- the first and the last of those of three points
 unfoldable pub firstCell : Float → Float → ℕ → Float → Float → Float → ℕ
-firstCell x w n a b c = cellOf x w n (least (least a b) c)
+firstCell x w n a b c = cellAlong x w n (least (least a b) c)
 
 unfoldable pub lastCell : Float → Float → ℕ → Float → Float → Float → ℕ
-lastCell x w n a b c = cellOf x w n (greatest (greatest a b) c)
+lastCell x w n a b c = cellAlong x w n (greatest (greatest a b) c)
 
 -- the centre of cell i of those of width w from x on
 unfoldable pub centreOf : Float → Float → ℕ → Float

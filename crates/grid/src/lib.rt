@@ -2,7 +2,7 @@
 ghost use mathlib.Core.Path.{_≡_};
 ghost use Prim.Native.Nat.{_≤_, _<_};
 ghost use Rattle.grid.specs.Point.{pointIn, counts as isCounted};
-ghost use Rattle.grid.specs.Grid.{cellsIn, cellOf, firstCell, lastCell, centreOf, gridOf, Sized};
+ghost use Rattle.grid.specs.Grid.{cellsIn, cellAlong, firstCell, lastCell, centreOf, gridOf, Sized};
 
 // A triangle in the plane.
 pub struct Flat {
@@ -73,7 +73,7 @@ fn cells(length: f32, size: f32) -> usize
 // Which of n cells of width w from x on p is in. Between the first and the last the fraction is dropped, which is the floor.
 fn cell(x: f32, w: f32, n: usize, p: f32) -> usize
     requires { ⌜ (0 < n) × (n ≤ 256) ⌝ }
-    ensures { λ r. ⌜ (r ≡ cellOf x w n p) × (r < n) ⌝ }
+    ensures { λ r. ⌜ (r ≡ cellAlong x w n p) × (r < n) ⌝ }
 {
     let q = (p - x) / w;
     if q < (n - 1) as u16 as f32 {

@@ -9,7 +9,7 @@ use native.Mathlib.Decide.{decLt, decLe}
 use borrow.Author.Tests.{lt-ltb, le-ltb}
 use lib.Dec.{ltb}
 use lib.IntN.{pos}
-use Rattle.ids.specs.Uses.{Use, bit, sumBy, maxBy, counting, uses, signed, keys}
+use Rattle.ids.specs.Uses.{Use, bit, sumBy, maxBy, counting, uses, signedSum, keys}
 
 module _ {K : Type 0} (same : K → K → Bool) (same-eq : (a b : K) → same a b ≡ true → a ≡ b) (same-refl : (a : K) → same a a ≡ true) where
   -- what holds of the keys, by whether the first is used behind
@@ -107,12 +107,12 @@ module _ {K : Type 0} (same : K → K → Bool) (same-eq : (a b : K) → same a 
             ]
 
   -- a key that is not used has the sum 0
-  pub unused-zero : (k : K) (es : List (Use K)) → uses same k es ≡ 0 → signed same k es ≡ pos 0
-  unfolding uses signed bit counting
+  pub unused-zero : (k : K) (es : List (Use K)) → uses same k es ≡ 0 → signedSum same k es ≡ pos 0
+  unfolding uses signedSum bit counting
   unused-zero k [] z = refl
   unused-zero k (e ∷ es) z = go (same k (e .key)) refl (unused-zero k es)
     where
-      go : (t : Bool) → same k (e .key) ≡ t → (uses same k es ≡ 0 → signed same k es ≡ pos 0) → signed same k (e ∷ es) ≡ pos 0
+      go : (t : Bool) → same k (e .key) ≡ t → (uses same k es ≡ 0 → signedSum same k es ≡ pos 0) → signedSum same k (e ∷ es) ≡ pos 0
       go true h ih = absurd (omega (arith, z, ap bit h))
       go false h ih = rw h (ih (omega (arith, z)))
 

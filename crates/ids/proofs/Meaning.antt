@@ -8,7 +8,7 @@ use native.Mathlib.Decide.{decLt}
 use borrow.Author.Tests.{lt-ltb, le-ltb, eq-eqb, eqb-true}
 use lib.Dec.{ltb, eqb}
 use lib.IntN.{ℤ, pos, negsuc, natAbs}
-use Rattle.ids.specs.Uses.{Use, bit, uses, signed, keys, keysThat, largest}
+use Rattle.ids.specs.Uses.{Use, bit, uses, signedSum, keys, keysThat, largest}
 use Rattle.ids.specs.EdgeChain.{Edge, sameEdge, chain, present, unbalanced, crowded, unpaired, properEdges, boundaryFree, overIncident, closedManifold}
 use Rattle.ids.specs.FaceNet.{sameFace, faces, maxAbs, allCancel}
 use Rattle.ids.specs.Meaning.{Tells, BoundaryFree, OverIncident, ClosedManifold, AllCancel, LargestFaceSum}
@@ -53,7 +53,7 @@ not-true b e = rw e
 module _ {K : Type 0} (same : K → K → Bool) (same-eq : (a b : K) → same a b ≡ true → a ≡ b) (same-refl : (a : K) → same a a ≡ true)
     (test : ℕ → ℕ → Bool) (es : List (Use K)) where
   abbrev passes : K → Bool
-  passes k = test (uses same k es) (natAbs (signed same k es))
+  passes k = test (uses same k es) (natAbs (signedSum same k es))
 
   none-passes : eqb (keysThat same test es) 0 ≡ true → (k : K) → 0 < uses same k es → passes k ≡ false
   unfolding keysThat
@@ -76,15 +76,15 @@ module _ {K : Type 0} (same : K → K → Bool) (same-eq : (a b : K) → same a 
 
 -- every sum is 0 exactly where no key used is unbalanced
 module _ {K : Type 0} (same : K → K → Bool) (same-eq : (a b : K) → same a b ≡ true → a ≡ b) (same-refl : (a : K) → same a a ≡ true) (es : List (Use K)) where
-  pub balanced : eqb (keysThat same unbalanced es) 0 ≡ true → (k : K) → signed same k es ≡ pos 0
+  pub balanced : eqb (keysThat same unbalanced es) 0 ≡ true → (k : K) → signedSum same k es ≡ pos 0
   unfolding unbalanced
   balanced z k =
       elim (decLt 0 (uses same k es)) [
-        | yes l ↦ abs-zero (signed same k es) (eqb-true _ _ (not-false _ (none-passes same same-eq same-refl unbalanced es z k l)))
+        | yes l ↦ abs-zero (signedSum same k es) (eqb-true _ _ (not-false _ (none-passes same same-eq same-refl unbalanced es z k l)))
         | no l ↦ unused-zero same same-eq same-refl k es (omega arith)
       ]
 
-  pub unbalanced-none : ((k : K) → signed same k es ≡ pos 0) → eqb (keysThat same unbalanced es) 0 ≡ true
+  pub unbalanced-none : ((k : K) → signedSum same k es ≡ pos 0) → eqb (keysThat same unbalanced es) 0 ≡ true
   unfolding unbalanced
   unbalanced-none h = passes-none same same-eq same-refl unbalanced es (λ k l. not-true _ (eq-eqb _ _ (ap natAbs (h k))))
 
@@ -113,7 +113,7 @@ module _ (ids : List ℕ) where
 
   -- an edge that is used is paired
   paired : eqb (keysThat sameEdge unpaired (properEdges ids)) 0 ≡ true → (e : Edge) → 0 < uses sameEdge e (properEdges ids)
-      → (eqb (uses sameEdge e (properEdges ids)) 2 ≡ true) × (eqb (natAbs (signed sameEdge e (properEdges ids))) 0 ≡ true)
+      → (eqb (uses sameEdge e (properEdges ids)) 2 ≡ true) × (eqb (natAbs (signedSum sameEdge e (properEdges ids))) 0 ≡ true)
   unfolding unpaired
   paired z e l = both _ _ (not-false _ (none-passes sameEdge edge-eq edge-refl unpaired (properEdges ids) z e l))
 
@@ -141,8 +141,8 @@ module _ (ids : List ℕ) where
   unfolding maxAbs largest
   max-abs-is-largest = record {
     above = λ f. elim (decLt 0 (uses sameFace f (faces ids))) [
-      | yes l ↦ max-each sameFace face-eq face-refl (λ g. natAbs (signed sameFace g (faces ids))) (faces ids) f l
-      | no l ↦ (let z : natAbs (signed sameFace f (faces ids)) ≡ 0 = ap natAbs (unused-zero sameFace face-eq face-refl f (faces ids) (omega arith)) in omega arith)
+      | yes l ↦ max-each sameFace face-eq face-refl (λ g. natAbs (signedSum sameFace g (faces ids))) (faces ids) f l
+      | no l ↦ (let z : natAbs (signedSum sameFace f (faces ids)) ≡ 0 = ap natAbs (unused-zero sameFace face-eq face-refl f (faces ids) (omega arith)) in omega arith)
     ];
-    reached = λ l. let w = max-reached sameFace face-eq face-refl (λ g. natAbs (signed sameFace g (faces ids))) (faces ids) l in (w .0, w .2);
+    reached = λ l. let w = max-reached sameFace face-eq face-refl (λ g. natAbs (signedSum sameFace g (faces ids))) (faces ids) l in (w .0, w .2);
   }

@@ -10,7 +10,7 @@ use borrow.Author.Tests.{lt-ltb, le-leb, eq-eqb, ne-eqb, eqb-true, leb-true}
 use lib.Dec.{ltb, eqb}
 use lib.IntN.{natAbs}
 use lib.ListN.{length}
-use Rattle.ids.specs.Uses.{bit, times, uses, signed, keys, keysThat}
+use Rattle.ids.specs.Uses.{bit, times, uses, signedSum, keys, keysThat}
 use Rattle.ids.specs.EdgeChain.{Edge, sameEdge, edgesThat, present, incoherent, properEdges, windingCoherent}
 use Rattle.ids.specs.Meaning.{Tells, EachOnce, Incoherent, WindingCoherent}
 use Rattle.ids.proofs.Same.{both, edge-eq, edge-refl}
@@ -60,7 +60,7 @@ module _ (ids : List ℕ) where
   usesOf e = uses sameEdge e (properEdges ids)
 
   abbrev isBad : Edge → Bool
-  isBad e = incoherent (usesOf e) (natAbs (signed sameEdge e (properEdges ids)))
+  isBad e = incoherent (usesOf e) (natAbs (signedSum sameEdge e (properEdges ids)))
 
   abbrev bad : List Edge
   bad = passing isBad edges

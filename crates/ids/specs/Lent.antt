@@ -6,9 +6,13 @@ use mathlib.Core.List.{List, _++_}
 use lib.Dec.{ltb}
 use lib.ListN.{length, drop, replicate}
 
+-- the most floats a mesh may have, and the most ids
+abbrev pub mostEntries : ℕ
+mostEntries = 98304
+
 -- for i ids, a routine that needs so many words, and so many lent: the refusal's number, or 0 for none
 unfoldable pub refusal : ℕ → ℕ → ℕ → ℕ
-refusal i needed lent = cond (ltb 98304 i) 1 (cond (ltb lent needed) 3 0)
+refusal i needed lent = cond (ltb mostEntries i) 1 (cond (ltb lent needed) 3 0)
 
 -- the answer, or the refusal with its number
 unfoldable pub unlessRefused : {A : Type 0} → ℕ → (ℕ → A) → A → A

@@ -5,7 +5,7 @@ use mathlib.Core.List.{List}
 use Prim.Native.Nat.{ℕ, _*_, _≤_, _<_}
 use lib.IntN.{pos, natAbs}
 use lib.ListN.{length}
-use Rattle.ids.specs.Uses.{times, uses, signed}
+use Rattle.ids.specs.Uses.{times, uses, signedSum}
 use Rattle.ids.specs.EdgeChain.{Edge, sameEdge, chain, enough, properEdges, boundaryFree, overIncident, closedManifold, windingCoherent}
 use Rattle.ids.specs.FaceNet.{Face, sameFace, faces, maxAbs, allCancel}
 
@@ -17,7 +17,7 @@ pub record Tells (answer : Bool) (P : Type 0) : Type 0 where
 -- some edge exists and every sum is 0
 pub record BoundaryFree (ids : List ℕ) : Type 0 where
   pub some : (e : Edge) × (0 < uses sameEdge e (chain ids))
-  pub balanced : (e : Edge) → signed sameEdge e (chain ids) ≡ pos 0
+  pub balanced : (e : Edge) → signedSum sameEdge e (chain ids) ≡ pos 0
 
 -- some edge has more than 2 uses
 abbrev pub OverIncident : List ℕ → Type 0
@@ -27,16 +27,16 @@ OverIncident ids = (e : Edge) × (2 < uses sameEdge e (chain ids))
 pub record ClosedManifold (ids : List ℕ) : Type 0 where
   pub long-enough : enough (length ids) ≡ true
   pub twice : (e : Edge) → 0 < uses sameEdge e (properEdges ids) → uses sameEdge e (properEdges ids) ≡ 2
-  pub each-way : (e : Edge) → signed sameEdge e (properEdges ids) ≡ pos 0
+  pub each-way : (e : Edge) → signedSum sameEdge e (properEdges ids) ≡ pos 0
 
 -- every face's sum is 0
 abbrev pub AllCancel : List ℕ → Type 0
-AllCancel ids = (f : Face) → signed sameFace f (faces ids) ≡ pos 0
+AllCancel ids = (f : Face) → signedSum sameFace f (faces ids) ≡ pos 0
 
 -- m is the largest magnitude of a face's sum
 pub record LargestFaceSum (ids : List ℕ) (m : ℕ) : Type 0 where
-  pub above : (f : Face) → natAbs (signed sameFace f (faces ids)) ≤ m
-  pub reached : 0 < m → (f : Face) × (natAbs (signed sameFace f (faces ids)) ≡ m)
+  pub above : (f : Face) → natAbs (signedSum sameFace f (faces ids)) ≤ m
+  pub reached : 0 < m → (f : Face) × (natAbs (signedSum sameFace f (faces ids)) ≡ m)
 
 -- ---- `winding_coherent`
 
@@ -49,7 +49,7 @@ pub record EachOnce (P : Edge → Type 0) (edges : List Edge) : Type 0 where
 pub record Incoherent (ids : List ℕ) (e : Edge) : Type 0 where
   pub used : 0 < uses sameEdge e (properEdges ids)
   pub not-once : uses sameEdge e (properEdges ids) ≡ 1 → ⊥
-  pub not-paired : uses sameEdge e (properEdges ids) ≡ 2 → signed sameEdge e (properEdges ids) ≡ pos 0 → ⊥
+  pub not-paired : uses sameEdge e (properEdges ids) ≡ 2 → signedSum sameEdge e (properEdges ids) ≡ pos 0 → ⊥
 
 -- some edge exists, and at most one in fifty is incoherent
 pub record WindingCoherent (ids : List ℕ) : Type 0 where

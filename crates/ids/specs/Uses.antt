@@ -42,9 +42,9 @@ module _ {K : Type 0} (same : K → K → Bool) where
   uses k (e ∷ es) = bit (same k (e .key)) + uses k es
 
   -- k's signed sum: 1 for each use upwards, -1 for each other
-  unfoldable pub signed : K → List (Use K) → ℤ
-  signed k [] = pos 0
-  signed k (e ∷ es) = counting (same k (e .key)) (e .up) (signed k es)
+  unfoldable pub signedSum : K → List (Use K) → ℤ
+  signedSum k [] = pos 0
+  signedSum k (e ∷ es) = counting (same k (e .key)) (e .up) (signedSum k es)
 
   -- the keys used, each once
   unfoldable pub keys : List (Use K) → List K
@@ -53,8 +53,8 @@ module _ {K : Type 0} (same : K → K → Bool) where
 
   -- how many keys pass a test on their uses and the magnitude of their signed sum
   unfoldable pub keysThat : (ℕ → ℕ → Bool) → List (Use K) → ℕ
-  keysThat test es = sumBy (λ k. bit (test (uses k es) (natAbs (signed k es)))) (keys es)
+  keysThat test es = sumBy (λ k. bit (test (uses k es) (natAbs (signedSum k es)))) (keys es)
 
   -- the largest magnitude of a key's signed sum
   unfoldable pub largest : List (Use K) → ℕ
-  largest es = maxBy (λ k. natAbs (signed k es)) (keys es)
+  largest es = maxBy (λ k. natAbs (signedSum k es)) (keys es)

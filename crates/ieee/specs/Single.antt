@@ -2,6 +2,7 @@
 use Prim.Native.Nat.{ℕ}
 use lib.IntN.{pos}
 use lib.Ieee.{Float, binary32, add, sub, mul, div, ofBits, ofInt}
+use Rattle.ieee.specs.Order.{greatest}
 
 infixl 60 _⊕_ _⊖_
 infixl 65 _⊗_ _⊘_
@@ -27,3 +28,7 @@ tiny = ofBits binary32 0x2b8c_bccc
 -- a whole number as f32
 abbrev pub number : ℕ → Float
 number n = ofInt binary32 (pos n)
+
+-- the length from lo to hi, never below 0
+unfoldable pub extent : Float → Float → Float
+extent lo hi = greatest (hi ⊖ lo) nought

@@ -8,7 +8,7 @@ use lib.IntN.{ℤ, _+ℤ_}
 use lib.ListN.{length}
 use lib.Ieee.{Float, binary32}
 use Rattle.ieee.specs.Order.{least, greatest}
-use Rattle.grid.specs.Grid.{extent}
+use Rattle.ieee.specs.Single.{extent}
 use Rattle.vertices.specs.Vertices.{vertexCount, coordinate}
 use Rattle.sums.specs.declared.Bounds.{Bounds}
 use Rattle.sums.specs.Box.{lowest, highest, box, boxTo, boxVolume}

@@ -18,8 +18,8 @@ use Rattle.ieee.proofs.Integers.Floats.{ofInt-whole, toSigned-whole}
 use Rattle.ids.specs.EdgeChain.{around, boundaryFree, chain, crowded, enough, overIncident, present, sameEdge, step, unbalanced}
 use Rattle.ids.specs.Examples.{tetrahedron}
 use Rattle.ids.specs.Triangles.{distinct, overTriangles, triangle}
-use Rattle.ids.specs.Uses.{bit, counting, keys, keysThat, largest, maxBy, signed, sumBy, uses}
-use Rattle.grid.specs.Grid.{extent}
+use Rattle.ids.specs.Uses.{bit, counting, keys, keysThat, largest, maxBy, signedSum, sumBy, uses}
+use Rattle.ieee.specs.Single.{extent}
 use Rattle.vertices.specs.Vertices.{cornersInRange, inRange as inRangeOf}
 use Rattle.sums.specs.Box.{box, boxTo, boxVolume, highest, lowest}
 use Rattle.sums.specs.Facet.{facetOf, normal, part, partOf, rebased, size, tetra}
@@ -107,7 +107,7 @@ unfolding inRange integers shift
 moved-there = integers-meet (pos 16777214) (negsuc 16777215) (negsuc 6) corners (pos 1 ∷ []) (negsuc 4 ∷ []) (lit≤ tt) refl tt tt
 
 closed-here : recordOf (floats here) tetrahedron millimetre .«mesh_quality» ≡ Quality.Closed
-unfolding integers floats tetrahedron recordOf recordBy recordFrom verdict measures measuresFrom volumeOf totals totalsTo withPart withFacet onSlope slopeOf part partOf cornersInRange inRangeOf rebased normal size tetra facetOf triangle boxTo lowest highest boxVolume extent quality tooLarge nearZero byChain byFaces boundaryFree overIncident enough chain step around sameEdge present unbalanced crowded keysThat largest keys counting uses signed bit sumBy maxBy distinct overTriangles least greatest magnitude rounded rootRound closestRoot floorRoot digits root add sub mul div lt le eq neg sum round units odd numberSize climb span isNan ofBits ofFields ofInt
+unfolding integers floats tetrahedron recordOf recordBy recordFrom verdict measures measuresFrom volumeOf totals totalsTo withPart withFacet onSlope slopeOf part partOf cornersInRange inRangeOf rebased normal size tetra facetOf triangle boxTo lowest highest boxVolume extent quality tooLarge nearZero byChain byFaces boundaryFree overIncident enough chain step around sameEdge present unbalanced crowded keysThat largest keys counting uses signedSum bit sumBy maxBy distinct overTriangles least greatest magnitude rounded rootRound closestRoot floorRoot digits root add sub mul div lt le eq neg sum round units odd numberSize climb span isNan ofBits ofFields ofInt
 closed-here = refl
 
 -- the lowest x is 16,777,214 there and 0 here; it is that of vertex 0, whose cell has the numbers 167,772,150 and 0

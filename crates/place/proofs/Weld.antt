@@ -10,7 +10,8 @@ use lib.ListN.{length}
 use lib.Ieee.{Float}
 use Rattle.ieee.proofs.Integers.Order.{eq-whole, eq-moved}
 use Rattle.vertices.specs.Vertices.{vertexCount, coordinate}
-use Rattle.cells.specs.Cells.{cellOf, cellAt, sameInteger, sameCell, first, named}
+use Rattle.cells.specs.Cells.{cellOf, cellAt, sameCell, first, named}
+use Rattle.ieee.specs.Integer.{sameInteger}
 use Rattle.weld.specs.Weld.{epsilonOf, inverse, weldId, weldAll, unwelded, welded}
 use Rattle.refusals.specs.Refusals.{unitFits}
 use Rattle.qto.specs.Full.{distance}

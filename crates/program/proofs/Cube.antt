@@ -9,14 +9,14 @@ use Rattle.ieee.specs.Rounded.{rounded}
 use Rattle.ids.specs.EdgeChain.{around, boundaryFree, chain, crowded, enough, overIncident, present, sameEdge, step, unbalanced}
 use Rattle.ids.specs.Pieces.{any, apart, groups, has, pieces, shareId, solid, solids, those, touched}
 use Rattle.ids.specs.Triangles.{distinct, overTriangles, triangle}
-use Rattle.ids.specs.Uses.{bit, counting, keys, keysThat, maxBy, signed, sumBy, uses}
+use Rattle.ids.specs.Uses.{bit, counting, keys, keysThat, maxBy, signedSum, sumBy, uses}
 use Rattle.vertices.specs.Vertices.{cornersInRange, inRange}
-use Rattle.grid.specs.Grid.{extent}
+use Rattle.ieee.specs.Single.{extent}
 use Rattle.sums.specs.Box.{boxTo, boxVolume, highest, lowest}
 use Rattle.sums.specs.Facet.{facetOf, normal, part, partOf, rebased, size, tetra}
 use Rattle.sums.specs.Fine.{allFine}
 use Rattle.sums.specs.Totals.{onSlope, slopeOf, totalsTo, withFacet, withPart}
-use Rattle.cells.specs.Cells.{sameInteger}
+use Rattle.ieee.specs.Integer.{sameInteger}
 use Rattle.rows.specs.Rows.{inserted, largest, leastAbove, precedes, scaled, smallest, sorted}
 use Rattle.surfaces.specs.Surfaces.{keyOf, put, rows, sameKey, tenths}
 use Rattle.walk.specs.Walk.{bucketsTo, withSurface}
@@ -44,7 +44,7 @@ unfolding cube floatsOf checkOf unitFits workWords allFine magnitude le lt eq of
 cube-passes = refl
 
 cube-record : recordOf (floatsOf (cube .vertices)) (cube .ids) (ofBits binary32 (cube .unit)) ≡ cubeRecord
-unfolding cube floatsOf cubeRecord recordOf recordBy recordFrom verdict measures measuresFrom volumeOf surfaceOf totals totalsTo withPart withFacet onSlope slopeOf part partOf cornersInRange inRange rebased normal size tetra facetOf triangle boxTo lowest highest boxVolume extent quality tooLarge nearZero byChain byFaces boundaryFree overIncident enough chain step around sameEdge present unbalanced crowded keysThat keys counting uses signed bit sumBy maxBy distinct overTriangles best bestOf buckets surfaceRows bucketsTo withSurface tenths keyOf sameKey sameInteger put rows precedes inserted sorted scaled largest leastAbove smallest least greatest magnitude integral rounded rootRound closestRoot floorRoot digits root add sub mul div lt le eq neg sum round units odd numberSize climb span isNan ofBits ofFields ofInt toSigned
+unfolding cube floatsOf cubeRecord recordOf recordBy recordFrom verdict measures measuresFrom volumeOf surfaceOf totals totalsTo withPart withFacet onSlope slopeOf part partOf cornersInRange inRange rebased normal size tetra facetOf triangle boxTo lowest highest boxVolume extent quality tooLarge nearZero byChain byFaces boundaryFree overIncident enough chain step around sameEdge present unbalanced crowded keysThat keys counting uses signedSum bit sumBy maxBy distinct overTriangles best bestOf buckets surfaceRows bucketsTo withSurface tenths keyOf sameKey sameInteger put rows precedes inserted sorted scaled largest leastAbove smallest least greatest magnitude integral rounded rootRound closestRoot floorRoot digits root add sub mul div lt le eq neg sum round units odd numberSize climb span isNan ofBits ofFields ofInt toSigned
 cube-record = refl
 
 cube-rows : surfaceRows (floatsOf (cube .vertices)) (cube .ids) (ofBits binary32 (cube .unit)) ≡ cubeRows

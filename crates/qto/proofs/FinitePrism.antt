@@ -14,11 +14,11 @@ use lib.Ieee.Digits.{size-le, size-lt, size-reaches}
 use lib.Ieee.Exact.{HasValue}
 use lib.Ieee.Scale.{finite}
 use Rattle.ieee.specs.Order.{least}
-use Rattle.ieee.specs.Single.{_⊗_, _⊘_, nought, number}
+use Rattle.ieee.specs.Single.{_⊗_, _⊘_, nought, number, extent}
 use Rattle.ieee.proofs.Numbers.Basic.{size-gt}
 use Rattle.ieee.proofs.Order.Extremes.{least-from}
 use Rattle.ids.specs.Uses.{bit}
-use Rattle.grid.specs.Grid.{extent, cellsIn, gridOf}
+use Rattle.grid.specs.Grid.{cellsIn, gridOf}
 use Rattle.paint.specs.Covered.{covered}
 use Rattle.raster.specs.Footprint.{count, coveredCells, areaOn, footprintOver, cellSize, footprint}
 use Rattle.sums.specs.declared.Bounds.{Bounds}

@@ -10,10 +10,10 @@ use lib.Dec.{lit≤}
 use lib.Ieee.{Float, binary32, le, ofBits}
 use lib.ListN.{length, replicate, length-replicate, getD-replicate}
 use Rattle.ieee.specs.Order.{greatest}
-use Rattle.ieee.specs.Single.{_⊖_, _⊗_, _⊘_, nought, number}
+use Rattle.ieee.specs.Single.{_⊖_, _⊗_, _⊘_, nought, number, extent}
 use Rattle.ids.specs.Uses.{bit}
 use Rattle.grid.specs.declared.Grid.{Grid}
-use Rattle.grid.specs.Grid.{extent, gridOf, Sized}
+use Rattle.grid.specs.Grid.{gridOf, Sized}
 use Rattle.paint.specs.Covered.{covered}
 use Rattle.paint.specs.Painted.{Shows, Adds}
 use Rattle.raster.specs.Footprint.{count, coveredCells, areaOn, footprintOver, footprint}

@@ -4,10 +4,10 @@ use mathlib.Core.Bool.{Bool, _||_, cond}
 use mathlib.Core.List.{List}
 use lib.Ieee.{Float, binary32, le, ofBits}
 use Rattle.ieee.specs.Order.{greatest}
-use Rattle.ieee.specs.Single.{_⊗_, _⊘_, nought, number}
+use Rattle.ieee.specs.Single.{_⊗_, _⊘_, nought, number, extent}
 use Rattle.ids.specs.Uses.{bit}
 use Rattle.grid.specs.declared.Grid.{Grid}
-use Rattle.grid.specs.Grid.{extent, gridOf}
+use Rattle.grid.specs.Grid.{gridOf}
 use Rattle.paint.specs.Covered.{covered}
 use Rattle.raster.specs.declared.Axis.{Axis}
 

@@ -13,10 +13,9 @@ use lib.Ieee.Fits.{and-l, and-r}
 use lib.Ieee.Scale.{finite}
 use Rattle.ieee.specs.Magnitude.{magnitude}
 use Rattle.ieee.specs.Order.{least, greatest}
-use Rattle.ieee.specs.Single.{_⊖_, _⊗_, nought}
+use Rattle.ieee.specs.Single.{_⊖_, _⊗_, nought, extent}
 use Rattle.ieee.proofs.Order.Comparison.{le-trans}
 use Rattle.ieee.proofs.Order.Extremes.{least-from, least-left, least-right, greatest-from}
-use Rattle.grid.specs.Grid.{extent}
 use Rattle.vertices.specs.Vertices.{vertexCount, coordinate}
 use Rattle.sums.specs.declared.Bounds.{Bounds}
 use Rattle.sums.specs.Box.{lowest, highest, boxTo, box, boxVolume}

@@ -4,8 +4,7 @@ use mathlib.Core.Bool.{true, false}
 use mathlib.Core.List.{List, [], _∷_}
 use lib.Ieee.{Float, inf}
 use Rattle.ieee.specs.Order.{least, greatest}
-use Rattle.ieee.specs.Single.{_⊗_}
-use Rattle.grid.specs.Grid.{extent}
+use Rattle.ieee.specs.Single.{_⊗_, extent}
 use Rattle.vertices.specs.Vertices.{vertexCount, coordinate}
 use Rattle.sums.specs.declared.Bounds.{Bounds}
 

@@ -7,7 +7,7 @@ ghost use lib.ListN.{length};
 ghost use mathlib.Core.Bool.{false};
 ghost use Rattle.ieee.specs.Order.{greatest, least};
 ghost use Rattle.ieee.specs.Root.{root};
-ghost use Rattle.grid.specs.Grid.{extent as extentOf};
+ghost use Rattle.ieee.specs.Single.{extent as extentOf};
 ghost use Rattle.ids.specs.Triangles.{triangle, triangleCount};
 ghost use Rattle.vertices.specs.Vertices.{vertexCount};
 ghost use Rattle.sums.specs.Box.{boxTo, box, origin as originOf, boxVolume};

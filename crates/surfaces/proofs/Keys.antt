@@ -9,7 +9,7 @@ use lib.Ieee.{Float}
 use lib.ListN.{length}
 use Rattle.ids.proofs.Same.{three-eq, three-refl}
 use Rattle.ieee.specs.Single.{_⊕_, nought}
-use Rattle.cells.specs.Cells.{sameInteger}
+use Rattle.ieee.specs.Integer.{sameInteger}
 use Rattle.cells.proofs.Codes.{integer-eq, integer-refl}
 use Rattle.surfaces.specs.declared.Key.{Key}
 use Rattle.surfaces.specs.Surfaces.{sameKey, Bucket, put, areaFor, hasKey, Apart, AllAreas, rows}

@@ -7,7 +7,7 @@ use lib.IntN.{ℤ, pos}
 use lib.Ieee.{Float, binary32, ofBits, ofInt, toSigned}
 use Rattle.ieee.specs.Integral.{halfAway}
 use Rattle.ieee.specs.Single.{_⊕_, _⊗_, _⊘_, nought}
-use Rattle.cells.specs.Cells.{sameInteger}
+use Rattle.ieee.specs.Integer.{sameInteger}
 use Rattle.rows.specs.declared.PlanarSurface.{PlanarSurface}
 use Rattle.surfaces.specs.declared.Key.{Key}
 

@@ -5,7 +5,7 @@ use mathlib.Core.List.{List, [], _∷_}
 use Prim.Native.Nat.{ℕ, zero, suc, _+_}
 use native.Mathlib.Omega.{arith}
 use lib.IntN.{ℤ, pos, negsuc, sucℤ, predℤ, natAbs}
-use Rattle.ids.specs.Uses.{Use, uses, signed, counting, bit}
+use Rattle.ids.specs.Uses.{Use, uses, signedSum, counting, bit}
 use Rattle.table.specs.Counts.{magnitude}
 use Rattle.table.specs.Table.{ups}
 
@@ -43,11 +43,11 @@ twice-size (pos a) n u e = omega arith
 twice-size (negsuc a) n u e = omega arith
 
 module _ {K : Type 0} (same : K → K → Bool) (k : K) where
-  twice : (es : List (Use K)) → Twice (signed same k es) (uses same k es) (ups same k es)
-  unfolding signed uses ups Twice
+  twice : (es : List (Use K)) → Twice (signedSum same k es) (uses same k es) (ups same k es)
+  unfolding signedSum uses ups Twice
   twice [] = refl
-  twice (e ∷ es) = twice-more (same k (e .key)) (e .up) (signed same k es) (uses same k es) (ups same k es) (twice es)
+  twice (e ∷ es) = twice-more (same k (e .key)) (e .up) (signedSum same k es) (uses same k es) (ups same k es) (twice es)
 
   -- the magnitude of the signed sum, by the counts that a table keeps
-  pub sized : (es : List (Use K)) → natAbs (signed same k es) ≡ magnitude (uses same k es) (ups same k es)
-  sized es = twice-size (signed same k es) (uses same k es) (ups same k es) (twice es)
+  pub sized : (es : List (Use K)) → natAbs (signedSum same k es) ≡ magnitude (uses same k es) (ups same k es)
+  sized es = twice-size (signedSum same k es) (uses same k es) (ups same k es) (twice es)

@@ -12,7 +12,7 @@ use lib.IntN.{natAbs}
 use lib.Ieee.{Float, le}
 use Rattle.ieee.specs.Single.{nought}
 use Rattle.ids.specs.EdgeChain.{boundaryFree, overIncident}
-use Rattle.ids.specs.Uses.{signed}
+use Rattle.ids.specs.Uses.{signedSum}
 use Rattle.ids.specs.FaceNet.{sameFace, faces, maxAbs, allCancel}
 use Rattle.ids.proofs.Groups.{or-right}
 use Rattle.ids.proofs.Meaning.{and-true, all-cancel-tells, max-abs-is-largest}
@@ -29,7 +29,7 @@ cancelled-small ids h =
     elim (decLe (maxAbs ids) 1) [
       | yes l ↦ omega arith
       | no l ↦ (let w = max-abs-is-largest ids .reached (omega arith) in
-          let none : natAbs (signed sameFace (w .0) (faces ids)) ≡ 0 = ap natAbs (all-cancel-tells ids .sound h (w .0)) in
+          let none : natAbs (signedSum sameFace (w .0) (faces ids)) ≡ 0 = ap natAbs (all-cancel-tells ids .sound h (w .0)) in
           absurd (omega (arith, w .1, none)))
     ]
 

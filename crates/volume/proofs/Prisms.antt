@@ -3,7 +3,7 @@ use mathlib.Core.Path.{_≡_}
 use mathlib.Core.List.{List}
 use Prim.Native.Nat.{ℕ}
 use lib.Ieee.{Float, binary32, ofBits}
-use Rattle.grid.specs.Grid.{extent}
+use Rattle.ieee.specs.Single.{extent}
 use Rattle.raster.specs.declared.Axis.{Axis}
 use Rattle.raster.specs.Footprint.{axisNumber}
 use Rattle.sums.specs.declared.Bounds.{Bounds}

@@ -5,8 +5,7 @@ use mathlib.Core.List.{List}
 use lib.Ieee.{Float, inf, binary32, lt, le, ofBits}
 use Rattle.ieee.specs.Cube.{cubeAbove}
 use Rattle.ieee.specs.Order.{least}
-use Rattle.ieee.specs.Single.{_⊗_, nought}
-use Rattle.grid.specs.Grid.{extent}
+use Rattle.ieee.specs.Single.{_⊗_, nought, extent}
 use Rattle.raster.specs.Footprint.{footprint}
 use Rattle.sums.specs.declared.Bounds.{Bounds}
 use Rattle.verdict.specs.declared.Quality.{Quality}

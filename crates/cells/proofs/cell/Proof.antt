@@ -48,20 +48,8 @@ float-to-float-y : tie.Need-float-to-float-y
 float-to-float-y c =
     let number : T (not (isNan (c .before .before .args .x))) = same-no-nan (c .before .before .args .x) (c .before .if1 .left) in search (needs, number)
 
-bits64-requires : tie.Need-bits64-requires
-bits64-requires c κs = search needs
-
-half-size-requires : tie.Need-half-size-requires
-half-size-requires c κs = search needs
-
 coded-size-requires : tie.Need-coded-size-requires
 coded-size-requires c κs = small c .1
-
-to-i64-requires : tie.Need-to-i64-requires
-to-i64-requires c κs = search needs
-
-coded-requires : tie.Need-coded-requires
-coded-requires c κs = search needs
 
 returns-2 : tie.Need-returns-2
 unfolding cellOf
@@ -77,4 +65,5 @@ returns-3 c =
 pub cell-spec : {M : Type 1} → statement M
 cell-spec =
     tie.close
-    (tie.spec returns float-to-float-y bits64-requires half-size-requires coded-size-requires to-i64-requires coded-requires returns-2 returns-3)
+    (tie.spec returns float-to-float-y (search needs) (search needs) coded-size-requires (search needs) (search needs)
+    returns-2 returns-3)

@@ -8,36 +8,9 @@ use Rattle.cells.proofs.Words.{claimed}
 use Rattle.cells.proofs.claim.Statement.{statement}
 use Rattle.cells.proofs.claim.Tie as tie
 
-mul-word : tie.Need-mul-word
-mul-word c = search needs
-
-slice-read-word : tie.Need-slice-read-word
-slice-read-word c = search needs
-
-cast-part : tie.Need-cast-part
-cast-part c = search needs
-
-add-part : tie.Need-add-part
-add-part c = search needs
-
 add-part-2 : tie.Need-add-part-2
 unfolding slotIn
 add-part-2 c = omega (arith, c .before .before .pre .4, c .slice-known2 .given (c .before .before .args .r))
-
-mul-part : tie.Need-mul-part
-mul-part c = search needs
-
-slice-write-part : tie.Need-slice-write-part
-slice-write-part c = search needs
-
-mul-at : tie.Need-mul-at
-mul-at c = search needs
-
-mul-at-2 : tie.Need-mul-at-2
-mul-at-2 c = search needs
-
-add-at : tie.Need-add-at
-add-at c = search needs
 
 -- the writes keep the length
 long : (c : tie.After-put) → length (c .put .last .0) ≡ length (c .before .before .before .before .args .part .now)
@@ -49,14 +22,8 @@ long2 c = c .put2 .kept .0 ∙ long (c .before .before .before .before)
 put-requires : tie.Need-put-requires
 put-requires c κs = simp length-set (omega (arith, c .before .before .before .pre .3))
 
-add-put : tie.Need-add-put
-add-put c = search needs
-
 put-requires-2 : tie.Need-put-requires-2
 put-requires-2 c κs = omega (arith, long (c .before .before .before), c .before .before .before .before .before .before .before .pre .3)
-
-add-put-2 : tie.Need-add-put-2
-add-put-2 c = search needs
 
 put-requires-3 : tie.Need-put-requires-3
 put-requires-3 c κs = omega (arith, long2 (c .before .before .before), c .before .before .before .before .before .before .before .before .before .before .before .pre .3)
@@ -74,21 +41,6 @@ returns c =
 pub claim-spec : {M : Type 1} → statement M
 claim-spec =
     tie.close
-    (tie.spec
-    mul-word
-    slice-read-word
-    cast-part
-    add-part
-    add-part-2
-    mul-part
-    slice-write-part
-    mul-at
-    mul-at-2
-    add-at
-    put-requires
-    add-put
-    put-requires-2
-    add-put-2
-    put-requires-3
-    same-length
-    returns)
+    (tie.spec (search needs) (search needs) (search needs) (search needs) add-part-2 (search needs) (search needs)
+    (search needs) (search needs) (search needs) put-requires (search needs) put-requires-2 (search needs)
+    put-requires-3 same-length returns)

@@ -51,13 +51,4 @@ returns-2 c = rw (kept (c .before), rest-kept c) (down c .is)
 
 pub coded-spec : {M : Type 1} → statement M
 coded-spec =
-    tie.close
-    (tie.spec
-    cast-result
-    mul-result
-    sub-result
-    cast-result-2
-    mul-result-2
-    add-result
-    returns
-    returns-2)
+    tie.close (tie.spec cast-result mul-result sub-result cast-result-2 mul-result-2 add-result returns returns-2)

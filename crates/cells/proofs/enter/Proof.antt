@@ -12,32 +12,11 @@ use Rattle.cells.proofs.Welding.{welds-searchable, welds-new, welds-kno
 use Rattle.cells.proofs.enter.Statement.{statement}
 use Rattle.cells.proofs.enter.Tie as tie
 
-cell-at-requires : tie.Need-cell-at-requires
-cell-at-requires c κs = search needs
-
-hash-requires : tie.Need-hash-requires
-hash-requires c κs = search needs
-
-mul-home : tie.Need-mul-home
-mul-home c = search needs
-
-home-requires : tie.Need-home-requires
-home-requires c κs = search needs
-
 find-requires : tie.Need-find-requires
 find-requires c κs =
     let s = c .before .before .before .before .before .before in
     let a = s .args in
     (omega (arith, s .pre .0), c .before .home .ensures .1, omega (arith, s .pre .2), welds-searchable (vertexCount (a .vertices .now)) (a .vertices .now) (a .inv) (a .part .now) (a .v) (s .pre .1) (s .pre .3))
-
-mul-s : tie.Need-mul-s
-mul-s c = search needs
-
-slice-read-s : tie.Need-slice-read-s
-slice-read-s c = search needs
-
-cast-s : tie.Need-cast-s
-cast-s c = search needs
 
 -- what the search found
 module _ (c : tie.After-find) where
@@ -60,18 +39,6 @@ claim-requires c κs =
     let s = c .before .before .before .before .before .before .before .before .before .before in
     (omega (arith, s .pre .0), c .before .before .before .find .ensures .within, s .pre .1, s .pre .2, c .before .if1 .taken)
 
-note-requires : tie.Need-note-requires
-note-requires c κs = search needs
-
-sub-note : tie.Need-sub-note
-sub-note c = search needs
-
-note-requires-2 : tie.Need-note-requires-2
-note-requires-2 c κs = search needs
-
-same-length : tie.Need-same-length
-same-length c = search needs
-
 returns : tie.Need-returns
 unfolding slotIn
 returns c =
@@ -81,9 +48,6 @@ returns c =
     let u = c .before .before .before .before .before .before .claim .last .0 in
     rw (c .before .before .note .ensures) (welds-new (n q) (a .vertices .now) (a .inv) (a .part .now) (a .v) (q .find .result) (s .pre .1) (s .pre .3) (found q) u (c .before .before .before .before .before .before .before .before .if1 .taken) (omega (arith, c .before .before .before .before .before .before .claim .kept .0, s .pre .2))
     (subst (λ (x : Code). Claimed (n q) (q .find .result) (a .v) x (a .part .now) u) (c .before .before .before .before .before .before .before .before .before .before .before .before .before .before .cell-at .ensures) (c .before .before .before .before .before .before .claim .ensures)))
-
-same-length-2 : tie.Need-same-length-2
-same-length-2 c = search needs
 
 returns-2 : tie.Need-returns-2
 unfolding slotIn
@@ -96,20 +60,6 @@ returns-2 c =
 pub enter-spec : {M : Type 1} → statement M
 enter-spec =
     tie.close
-    (tie.spec
-    cell-at-requires
-    hash-requires
-    mul-home
-    home-requires
-    find-requires
-    mul-s
-    slice-read-s
-    cast-s
-    claim-requires
-    note-requires
-    sub-note
-    note-requires-2
-    same-length
-    returns
-    same-length-2
+    (tie.spec (search needs) (search needs) (search needs) (search needs) find-requires (search needs) (search needs)
+    (search needs) claim-requires (search needs) (search needs) (search needs) (search needs) returns (search needs)
     returns-2)

@@ -20,20 +20,8 @@ Inv-loop part n k start m r₀ r = (r < 2 * n) × Passed (2 * n) start (keyIn n 
 abbrev μ-loop : tie.MeasureT-loop
 μ-loop part n k start m r₀ r = 2 * n - dist (2 * n) start r
 
-mul-m : tie.Need-mul-m Inv-loop μ-loop
-mul-m c = search needs
-
 loop-holds : tie.Need-loop-holds Inv-loop μ-loop
 loop-holds c = let s = c .before in (s .pre .1, λ j l d. absurd (omega (arith, dist-here (2 * s .args .n) (s .args .start) (s .pre .1))))
-
-mul-s : tie.Need-mul-s Inv-loop μ-loop
-mul-s c = search needs
-
-shared-slice-read-s : tie.Need-shared-slice-read-s Inv-loop μ-loop
-shared-slice-read-s c = search needs
-
-cast-s : tie.Need-cast-s Inv-loop μ-loop
-cast-s c = search needs
 
 sub-same : tie.Need-sub-same Inv-loop μ-loop
 sub-same c = omega (arith, c .if1 .left)
@@ -43,9 +31,6 @@ unfolding slotIn
 same-requires c κs =
     let s = c .before .before .before .before in
     (s .pre .0, omega (arith, c .if1 .left, s .pre .3 .within (c .before .before .loop .r) (c .before .before .loop .inv .0)), s .pre .2)
-
-next-requires : tie.Need-next-requires Inv-loop μ-loop
-next-requires c κs = search needs
 
 -- what the test of slot r says: it holds the cell, or the search goes on
 module _ (c : tie.After-same Inv-loop μ-loop) where
@@ -98,18 +83,5 @@ returns-2 c = let l = c .before .before .before .before .loop in record { within
 pub find-spec : {M : Type 1} → statement M
 find-spec =
     tie.close
-    (tie.spec
-    Inv-loop
-    μ-loop
-    mul-m
-    loop-holds
-    mul-s
-    shared-slice-read-s
-    cast-s
-    sub-same
-    same-requires
-    next-requires
-    loop-less
-    loop-again
-    returns
-    returns-2)
+    (tie.spec Inv-loop μ-loop (search needs) loop-holds (search needs) (search needs) (search needs) sub-same
+    same-requires (search needs) loop-less loop-again returns returns-2)

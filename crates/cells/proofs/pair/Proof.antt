@@ -7,23 +7,8 @@ use Rattle.cells.specs.Table.{pair}
 use Rattle.cells.proofs.pair.Statement.{statement}
 use Rattle.cells.proofs.pair.Tie as tie
 
-mul-result : tie.Need-mul-result
-mul-result c = search needs
-
-shared-slice-read-result : tie.Need-shared-slice-read-result
-shared-slice-read-result c = search needs
-
 cast-result : tie.Need-cast-result
 cast-result c = omega (arith, c .shared-slice-known .given (c .before .args .at))
-
-add-result : tie.Need-add-result
-add-result c = search needs
-
-mul-result-2 : tie.Need-mul-result-2
-mul-result-2 c = search needs
-
-shared-slice-read-result-2 : tie.Need-shared-slice-read-result-2
-shared-slice-read-result-2 c = search needs
 
 cast-result-2 : tie.Need-cast-result-2
 cast-result-2 c = omega (arith, c .shared-slice-known2 .given (c .before .before .args .at + 1))
@@ -41,14 +26,5 @@ returns c = refl
 pub pair-spec : {M : Type 1} → statement M
 pair-spec =
     tie.close
-    (tie.spec
-    mul-result
-    shared-slice-read-result
-    cast-result
-    add-result
-    mul-result-2
-    shared-slice-read-result-2
-    cast-result-2
-    mul-result-3
-    add-result-2
-    returns)
+    (tie.spec (search needs) (search needs) cast-result (search needs) (search needs) (search needs) cast-result-2
+    mul-result-3 add-result-2 returns)

@@ -10,35 +10,8 @@ use borrow.Author.Needs.{needs}
 use Rattle.chain.proofs.coherent_in.Statement.{statement}
 use Rattle.chain.proofs.coherent_in.Tie as tie
 
-mul-m : tie.Need-mul-m
-mul-m c = search needs
-
-rows-requires : tie.Need-rows-requires
-rows-requires c κs = search needs
-
-clear-requires : tie.Need-clear-requires
-clear-requires c κs = search needs
-
 gather-requires : tie.Need-gather-requires
 gather-requires c κs = emptied _ _ _ _ (c .before .before .before .before .before .before .before .before .pre .0) (c .before .before .before .before .before .before .before .before .pre .1) (c .before .before .before .before .before .rows .ensures) (c .before .before .before .clear .ensures) (c .before .before .before .clear .kept .0)
-
-count-requires : tie.Need-count-requires
-count-requires c κs = search needs
-
-count-requires-2 : tie.Need-count-requires-2
-count-requires-2 c κs = search needs
-
-clear-requires-2 : tie.Need-clear-requires-2
-clear-requires-2 c κs = search needs
-
-enough-requires : tie.Need-enough-requires
-enough-requires c κs = search needs
-
-mul-result : tie.Need-mul-result
-mul-result c = search needs
-
-same-length : tie.Need-same-length
-same-length c = search needs
 
 returns : tie.Need-returns
 unfolding testOf edgesOf windingCoherent
@@ -55,15 +28,5 @@ returns c =
 pub coherent-in-spec : {M : Type 1} → statement M
 coherent-in-spec =
     tie.close
-    (tie.spec
-    mul-m
-    rows-requires
-    clear-requires
-    gather-requires
-    count-requires
-    count-requires-2
-    clear-requires-2
-    enough-requires
-    mul-result
-    same-length
-    returns)
+    (tie.spec (search needs) (search needs) (search needs) gather-requires (search needs) (search needs) (search needs)
+    (search needs) (search needs) (search needs) returns)

@@ -11,29 +11,14 @@ use borrow.Author.Needs.{needs}
 use Rattle.chain.proofs.edge_chain.Statement.{statement}
 use Rattle.chain.proofs.edge_chain.Tie as tie
 
-mul-m : tie.Need-mul-m
-mul-m c = search needs
-
-refusal-requires : tie.Need-refusal-requires
-refusal-requires c κs = search needs
-
 returns : tie.Need-returns
 returns c = gives-refusal _ _ _ _ _ (c .before .refusal .result) (c .before .refusal .ensures) (c .if1 .taken)
-
-sub-chain-in : tie.Need-sub-chain-in
-sub-chain-in c = search needs
-
-part-chain-in-start : tie.Need-part-chain-in-start
-part-chain-in-start c = search needs
 
 part-chain-in-end : tie.Need-part-chain-in-end
 part-chain-in-end c = omega (arith, refusal-none _ _ _ _ (c .before .refusal .ensures) (c .if1 .left) .1)
 
 chain-in-requires : tie.Need-chain-in-requires
 chain-in-requires c κs = let fine = refusal-none _ _ _ _ (c .before .before .refusal .ensures) (c .before .if1 .left) in (fine .0, omega (arith, fine .1))
-
-same-length : tie.Need-same-length
-same-length c = search needs
 
 returns-2 : tie.Need-returns-2
 unfolding cleared
@@ -48,13 +33,5 @@ returns-2 c =
 pub edge-chain-spec : {M : Type 1} → statement M
 edge-chain-spec =
     tie.close
-    (tie.spec
-    mul-m
-    refusal-requires
-    returns
-    sub-chain-in
-    part-chain-in-start
-    part-chain-in-end
-    chain-in-requires
-    same-length
-    returns-2)
+    (tie.spec (search needs) (search needs) returns (search needs) (search needs) part-chain-in-end chain-in-requires
+    (search needs) returns-2)

@@ -11,29 +11,14 @@ use borrow.Author.Needs.{needs}
 use Rattle.chain.proofs.face_net.Statement.{statement}
 use Rattle.chain.proofs.face_net.Tie as tie
 
-mul-m : tie.Need-mul-m
-mul-m c = search needs
-
-refusal-requires : tie.Need-refusal-requires
-refusal-requires c κs = search needs
-
 returns : tie.Need-returns
 returns c = gives-refusal _ _ _ _ _ (c .before .refusal .result) (c .before .refusal .ensures) (c .if1 .taken)
-
-sub-net-in : tie.Need-sub-net-in
-sub-net-in c = search needs
-
-part-net-in-start : tie.Need-part-net-in-start
-part-net-in-start c = search needs
 
 part-net-in-end : tie.Need-part-net-in-end
 part-net-in-end c = omega (arith, refusal-none _ _ _ _ (c .before .refusal .ensures) (c .if1 .left) .1)
 
 net-in-requires : tie.Need-net-in-requires
 net-in-requires c κs = let fine = refusal-none _ _ _ _ (c .before .before .refusal .ensures) (c .before .if1 .left) in (fine .0, omega (arith, fine .1))
-
-same-length : tie.Need-same-length
-same-length c = search needs
 
 returns-2 : tie.Need-returns-2
 unfolding cleared
@@ -48,13 +33,5 @@ returns-2 c =
 pub face-net-spec : {M : Type 1} → statement M
 face-net-spec =
     tie.close
-    (tie.spec
-    mul-m
-    refusal-requires
-    returns
-    sub-net-in
-    part-net-in-start
-    part-net-in-end
-    net-in-requires
-    same-length
-    returns-2)
+    (tie.spec (search needs) (search needs) returns (search needs) (search needs) part-net-in-end net-in-requires
+    (search needs) returns-2)

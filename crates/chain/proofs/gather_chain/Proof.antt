@@ -5,15 +5,6 @@ use borrow.Author.Needs.{needs}
 use Rattle.chain.proofs.gather_chain.Statement.{statement}
 use Rattle.chain.proofs.gather_chain.Tie as tie
 
-enough-requires : tie.Need-enough-requires
-enough-requires c κs = search needs
-
-gather-requires : tie.Need-gather-requires
-gather-requires c κs = search needs
-
-same-length : tie.Need-same-length
-same-length c = search needs
-
 returns : tie.Need-returns
 returns c = rw (chain-all (c .before .before .before .before .before .before .before .before .args .ids .now) (sym (c .before .before .before .before .before .enough .ensures) ∙ c .before .before .before .before .if1 .taken)) (c .before .before .gather .ensures)
 
@@ -22,4 +13,4 @@ returns-2 c = rw (chain-none (c .before .before .before .before .args .ids .now)
 
 pub gather-chain-spec : {M : Type 1} → statement M
 gather-chain-spec =
-    tie.close (tie.spec enough-requires gather-requires same-length returns returns-2)
+    tie.close (tie.spec (search needs) (search needs) (search needs) returns returns-2)

@@ -11,29 +11,14 @@ use borrow.Author.Needs.{needs}
 use Rattle.chain.proofs.is_closed_manifold.Statement.{statement}
 use Rattle.chain.proofs.is_closed_manifold.Tie as tie
 
-mul-m : tie.Need-mul-m
-mul-m c = search needs
-
-refusal-requires : tie.Need-refusal-requires
-refusal-requires c κs = search needs
-
 returns : tie.Need-returns
 returns c = gives-refusal _ _ _ _ _ (c .before .refusal .result) (c .before .refusal .ensures) (c .if1 .taken)
-
-sub-manifold-in : tie.Need-sub-manifold-in
-sub-manifold-in c = search needs
-
-part-manifold-in-start : tie.Need-part-manifold-in-start
-part-manifold-in-start c = search needs
 
 part-manifold-in-end : tie.Need-part-manifold-in-end
 part-manifold-in-end c = omega (arith, refusal-none _ _ _ _ (c .before .refusal .ensures) (c .if1 .left) .1)
 
 manifold-in-requires : tie.Need-manifold-in-requires
 manifold-in-requires c κs = let fine = refusal-none _ _ _ _ (c .before .before .refusal .ensures) (c .before .if1 .left) in (fine .0, omega (arith, fine .1))
-
-same-length : tie.Need-same-length
-same-length c = search needs
 
 returns-2 : tie.Need-returns-2
 unfolding cleared
@@ -48,13 +33,5 @@ returns-2 c =
 pub is-closed-manifold-spec : {M : Type 1} → statement M
 is-closed-manifold-spec =
     tie.close
-    (tie.spec
-    mul-m
-    refusal-requires
-    returns
-    sub-manifold-in
-    part-manifold-in-start
-    part-manifold-in-end
-    manifold-in-requires
-    same-length
-    returns-2)
+    (tie.spec (search needs) (search needs) returns (search needs) (search needs) part-manifold-in-end
+    manifold-in-requires (search needs) returns-2)

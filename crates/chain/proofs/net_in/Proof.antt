@@ -9,30 +9,12 @@ use Rattle.faces.proofs.Rows.{zero-table}
 use Rattle.chain.proofs.net_in.Statement.{statement}
 use Rattle.chain.proofs.net_in.Tie as tie
 
-mul-n : tie.Need-mul-n
-mul-n c = search needs
-
-mul-m : tie.Need-mul-m
-mul-m c = search needs
-
-clear-requires : tie.Need-clear-requires
-clear-requires c κs = search needs
-
 gather-requires : tie.Need-gather-requires
 gather-requires c κs =
     let s = c .before .before .before .before .before .before .before in
     let ids = s .args .ids .now in
     let k = c .before .before .before .clear in
     (s .pre .0, omega arith, omega (arith, s .pre .0), omega (arith, s .pre .1, k .kept), rw (k .ensures, cleared-all (4 * (length ids / 3)) (s .args .part .now) (omega (arith, s .pre .1))) (zero-table ids (2 * (length ids / 3)) (4 * (length ids / 3)) (omega arith) (λ l. omega arith)))
-
-tally-faces-requires : tie.Need-tally-faces-requires
-tally-faces-requires c κs = search needs
-
-clear-requires-2 : tie.Need-clear-requires-2
-clear-requires-2 c κs = search needs
-
-same-length : tie.Need-same-length
-same-length c = search needs
 
 returns : tie.Need-returns
 returns c =
@@ -44,12 +26,5 @@ returns c =
 pub net-in-spec : {M : Type 1} → statement M
 net-in-spec =
     tie.close
-    (tie.spec
-    mul-n
-    mul-m
-    clear-requires
-    gather-requires
-    tally-faces-requires
-    clear-requires-2
-    same-length
+    (tie.spec (search needs) (search needs) (search needs) gather-requires (search needs) (search needs) (search needs)
     returns)

@@ -11,29 +11,14 @@ use borrow.Author.Needs.{needs}
 use Rattle.chain.proofs.winding_coherent.Statement.{statement}
 use Rattle.chain.proofs.winding_coherent.Tie as tie
 
-mul-m : tie.Need-mul-m
-mul-m c = search needs
-
-refusal-requires : tie.Need-refusal-requires
-refusal-requires c κs = search needs
-
 returns : tie.Need-returns
 returns c = gives-refusal _ _ _ _ _ (c .before .refusal .result) (c .before .refusal .ensures) (c .if1 .taken)
-
-sub-coherent-in : tie.Need-sub-coherent-in
-sub-coherent-in c = search needs
-
-part-coherent-in-start : tie.Need-part-coherent-in-start
-part-coherent-in-start c = search needs
 
 part-coherent-in-end : tie.Need-part-coherent-in-end
 part-coherent-in-end c = omega (arith, refusal-none _ _ _ _ (c .before .refusal .ensures) (c .if1 .left) .1)
 
 coherent-in-requires : tie.Need-coherent-in-requires
 coherent-in-requires c κs = let fine = refusal-none _ _ _ _ (c .before .before .refusal .ensures) (c .before .if1 .left) in (fine .0, omega (arith, fine .1))
-
-same-length : tie.Need-same-length
-same-length c = search needs
 
 returns-2 : tie.Need-returns-2
 unfolding cleared
@@ -48,13 +33,5 @@ returns-2 c =
 pub winding-coherent-spec : {M : Type 1} → statement M
 winding-coherent-spec =
     tie.close
-    (tie.spec
-    mul-m
-    refusal-requires
-    returns
-    sub-coherent-in
-    part-coherent-in-start
-    part-coherent-in-end
-    coherent-in-requires
-    same-length
-    returns-2)
+    (tie.spec (search needs) (search needs) returns (search needs) (search needs) part-coherent-in-end
+    coherent-in-requires (search needs) returns-2)

@@ -120,22 +120,5 @@ returns-3 c =
 pub below-cube-spec : {M : Type 1} → statement M
 below-cube-spec =
     tie.close
-    (tie.spec
-    Inv-loop
-    μ-loop
-    returns
-    mul-square
-    shl-n
-    div-q
-    rem-rest
-    loop-holds
-    returns-2
-    mul-d
-    mul-q
-    div-q-2
-    add-q
-    rem-rest-2
-    sub-i
-    loop-less
-    loop-again
-    returns-3)
+    (tie.spec Inv-loop μ-loop returns mul-square shl-n div-q rem-rest loop-holds returns-2 mul-d mul-q div-q-2 add-q
+    rem-rest-2 sub-i loop-less loop-again returns-3)

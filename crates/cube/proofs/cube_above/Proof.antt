@@ -5,15 +5,6 @@ use Rattle.ieee.proofs.Patterns.Back.{read-back}
 use Rattle.cube.proofs.cube_above.Statement.{statement}
 use Rattle.cube.proofs.cube_above.Tie as tie
 
-bits32-requires : tie.Need-bits32-requires
-bits32-requires c κs = search needs
-
-bits32-requires-2 : tie.Need-bits32-requires-2
-bits32-requires-2 c κs = search needs
-
-cube-above-bits-requires : tie.Need-cube-above-bits-requires
-cube-above-bits-requires c κs = search needs
-
 returns : tie.Need-returns
 returns c =
     let start = c .before .before .before in
@@ -21,4 +12,4 @@ returns c =
 
 pub cube-above-spec : {M : Type 1} → statement M
 cube-above-spec =
-    tie.close (tie.spec bits32-requires bits32-requires-2 cube-above-bits-requires returns)
+    tie.close (tie.spec (search needs) (search needs) (search needs) returns)

@@ -7,18 +7,6 @@ use Rattle.ieee.proofs.Patterns.Fields.{exp-is}
 use Rattle.cube.proofs.cube_above_bits.Statement.{statement}
 use Rattle.cube.proofs.cube_above_bits.Tie as tie
 
-digits-requires : tie.Need-digits-requires
-digits-requires c κs = search needs
-
-place-requires : tie.Need-place-requires
-place-requires c κs = search needs
-
-digits-requires-2 : tie.Need-digits-requires-2
-digits-requires-2 c κs = search needs
-
-place-requires-2 : tie.Need-place-requires-2
-place-requires-2 c κs = search needs
-
 sizes-above-requires : tie.Need-sizes-above-requires
 sizes-above-requires c κs =
     let start = c .before .before .before .before .before .before .before in
@@ -43,13 +31,5 @@ returns-4 c =
 pub cube-above-bits-spec : {M : Type 1} → statement M
 cube-above-bits-spec =
     tie.close
-    (tie.spec
-    digits-requires
-    place-requires
-    digits-requires-2
-    place-requires-2
-    sizes-above-requires
-    returns
-    returns-2
-    returns-3
-    returns-4)
+    (tie.spec (search needs) (search needs) (search needs) (search needs) sizes-above-requires returns returns-2
+    returns-3 returns-4)

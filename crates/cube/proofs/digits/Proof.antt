@@ -6,9 +6,6 @@ use Rattle.ieee.proofs.Patterns.Fields.{sig-above, sig-zero}
 use Rattle.cube.proofs.digits.Statement.{statement}
 use Rattle.cube.proofs.digits.Tie as tie
 
-add-result : tie.Need-add-result
-add-result c = search needs
-
 returns : tie.Need-returns
 returns c = (sig-zero binary32 _ _ (c .if1 .taken), omega arith)
 
@@ -16,4 +13,5 @@ returns-2 : tie.Need-returns-2
 returns-2 c = (sig-above binary32 _ _ (c .if1 .left), omega arith)
 
 pub digits-spec : {M : Type 1} → statement M
-digits-spec = tie.close (tie.spec add-result returns returns-2)
+digits-spec =
+    tie.close (tie.spec (search needs) returns returns-2)

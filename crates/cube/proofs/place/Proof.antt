@@ -6,9 +6,6 @@ use Rattle.ieee.proofs.Patterns.Fields.{exp-is}
 use Rattle.cube.proofs.place.Statement.{statement}
 use Rattle.cube.proofs.place.Tie as tie
 
-sub-result : tie.Need-sub-result
-sub-result c = search needs
-
 returns : tie.Need-returns
 returns c = omega (arith, exp-is (c .before .args .b % 2 ^ 31 / 2 ^ 23))
 
@@ -16,4 +13,5 @@ returns-2 : tie.Need-returns-2
 returns-2 c = omega (arith, exp-is (c .before .args .b % 2 ^ 31 / 2 ^ 23))
 
 pub place-spec : {M : Type 1} → statement M
-place-spec = tie.close (tie.spec sub-result returns returns-2)
+place-spec =
+    tie.close (tie.spec (search needs) returns returns-2)

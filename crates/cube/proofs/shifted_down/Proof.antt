@@ -6,14 +6,9 @@ use Rattle.ieee.proofs.Numbers.Basic.{below-pow}
 use Rattle.cube.proofs.shifted_down.Statement.{statement}
 use Rattle.cube.proofs.shifted_down.Tie as tie
 
-shr-result : tie.Need-shr-result
-shr-result c = search needs
-
-returns : tie.Need-returns
-returns c = search needs
-
 returns-2 : tie.Need-returns-2
 returns-2 c = let start = c .before in sym (div-eq-of-lt (below-pow (start .args .n) 64 (start .args .k) (start .fits .n .fits) (c .if1 .left)))
 
 pub shifted-down-spec : {M : Type 1} → statement M
-shifted-down-spec = tie.close (tie.spec shr-result returns returns-2)
+shifted-down-spec =
+    tie.close (tie.spec (search needs) (search needs) returns-2)

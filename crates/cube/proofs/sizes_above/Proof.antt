@@ -9,18 +9,6 @@ use Rattle.ieee.proofs.Numbers.Basic.{square-below}
 use Rattle.cube.proofs.sizes_above.Statement.{statement}
 use Rattle.cube.proofs.sizes_above.Tie as tie
 
-mul-left : tie.Need-mul-left
-mul-left c = search needs
-
-add-left : tie.Need-add-left
-add-left c = search needs
-
-mul-right : tie.Need-mul-right
-mul-right c = search needs
-
-add-right : tie.Need-add-right
-add-right c = search needs
-
 mul-below-cube : tie.Need-mul-below-cube
 mul-below-cube c = let start = c .before in omega (arith, square-below (start .args .b) 24 (start .pre .2))
 
@@ -29,12 +17,6 @@ below-cube-requires c κs = let start = c .before in (start .pre .0, square-belo
 
 mul-shifted-down : tie.Need-mul-shifted-down
 mul-shifted-down c = let start = c .before in omega (arith, square-below (start .args .b) 24 (start .pre .2))
-
-sub-shifted-down : tie.Need-sub-shifted-down
-sub-shifted-down c = search needs
-
-shifted-down-requires : tie.Need-shifted-down-requires
-shifted-down-requires c κs = search needs
 
 below-cube-requires-2 : tie.Need-below-cube-requires-2
 below-cube-requires-2 c κs =
@@ -58,16 +40,5 @@ returns-2 c =
 pub sizes-above-spec : {M : Type 1} → statement M
 sizes-above-spec =
     tie.close
-    (tie.spec
-    mul-left
-    add-left
-    mul-right
-    add-right
-    mul-below-cube
-    below-cube-requires
-    mul-shifted-down
-    sub-shifted-down
-    shifted-down-requires
-    below-cube-requires-2
-    returns
-    returns-2)
+    (tie.spec (search needs) (search needs) (search needs) (search needs) mul-below-cube below-cube-requires
+    mul-shifted-down (search needs) (search needs) below-cube-requires-2 returns returns-2)

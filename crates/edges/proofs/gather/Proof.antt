@@ -19,44 +19,11 @@ loop-holds c =
     let s = c .before .before in
     (omega arith, refl, gathering-none (s .args .whole) (s .args .ids .now) (s .args .n) (s .args .work .now) (s .pre .4))
 
-add-loop : tie.Need-add-loop Inv-loop μ-loop
-add-loop c = search needs
-
-mul-triangle-by : tie.Need-mul-triangle-by Inv-loop μ-loop
-mul-triangle-by c = search needs
-
-shared-slice-read-triangle-by : tie.Need-shared-slice-read-triangle-by Inv-loop μ-loop
-shared-slice-read-triangle-by c = search needs
-
-add-triangle-by : tie.Need-add-triangle-by Inv-loop μ-loop
-add-triangle-by c = search needs
-
-mul-triangle-by-2 : tie.Need-mul-triangle-by-2 Inv-loop μ-loop
-mul-triangle-by-2 c = search needs
-
-shared-slice-read-triangle-by-2 : tie.Need-shared-slice-read-triangle-by-2 Inv-loop μ-loop
-shared-slice-read-triangle-by-2 c = search needs
-
-add-triangle-by-2 : tie.Need-add-triangle-by-2 Inv-loop μ-loop
-add-triangle-by-2 c = search needs
-
-mul-triangle-by-3 : tie.Need-mul-triangle-by-3 Inv-loop μ-loop
-mul-triangle-by-3 c = search needs
-
-shared-slice-read-triangle-by-3 : tie.Need-shared-slice-read-triangle-by-3 Inv-loop μ-loop
-shared-slice-read-triangle-by-3 c = search needs
-
 triangle-by-requires : tie.Need-triangle-by-requires Inv-loop μ-loop
 triangle-by-requires c κs =
     let s = c .before .before .before .before .before .before .before .before in
     let l = c .before .before .before .before .before .loop in
     (s .pre .2, omega (arith, s .pre .3, l .inv .1), gathering-room (s .args .whole) (s .args .ids .now) (s .args .n) (l .work) (l .i) (l .inv .2) (s .pre .0) (s .pre .1) (omega arith))
-
-add-i : tie.Need-add-i Inv-loop μ-loop
-add-i c = search needs
-
-loop-less : tie.Need-loop-less Inv-loop μ-loop
-loop-less c = search needs
 
 loop-again : tie.Need-loop-again Inv-loop μ-loop
 loop-again c =
@@ -67,9 +34,6 @@ loop-again c =
     let more : l .i + 2 < length (s .args .ids .now) = omega arith in
     (omega arith, omega (arith, k .kept, l .inv .1), gathering-next (s .args .whole) (s .args .ids .now) (s .args .n) (l .work) (l .i) g (k .last .0) more (k .ensures (g .so-far) (g .means)))
 
-same-length : tie.Need-same-length Inv-loop μ-loop
-same-length c = search needs
-
 returns : tie.Need-returns Inv-loop μ-loop
 returns c =
     let s = c .before .before .before .before in
@@ -79,22 +43,6 @@ returns c =
 pub gather-spec : {M : Type 1} → statement M
 gather-spec =
     tie.close
-    (tie.spec
-    Inv-loop
-    μ-loop
-    loop-holds
-    add-loop
-    mul-triangle-by
-    shared-slice-read-triangle-by
-    add-triangle-by
-    mul-triangle-by-2
-    shared-slice-read-triangle-by-2
-    add-triangle-by-2
-    mul-triangle-by-3
-    shared-slice-read-triangle-by-3
-    triangle-by-requires
-    add-i
-    loop-less
-    loop-again
-    same-length
-    returns)
+    (tie.spec Inv-loop μ-loop loop-holds (search needs) (search needs) (search needs) (search needs) (search needs)
+    (search needs) (search needs) (search needs) (search needs) triangle-by-requires (search needs) (search needs)
+    loop-again (search needs) returns)

@@ -17,36 +17,6 @@ abbrev μ-loop : tie.MeasureT-loop
 loop-holds : tie.Need-loop-holds Inv-loop μ-loop
 loop-holds c = behind-first (c .before .args .area .now) (c .before .args .at) (c .before .args .n) (c .before .pre .0) (c .before .pre .5)
 
-add-loop : tie.Need-add-loop Inv-loop μ-loop
-add-loop c = search needs
-
-mul-p : tie.Need-mul-p Inv-loop μ-loop
-mul-p c = search needs
-
-slice-read-p : tie.Need-slice-read-p Inv-loop μ-loop
-slice-read-p c = search needs
-
-add-q : tie.Need-add-q Inv-loop μ-loop
-add-q c = search needs
-
-mul-q : tie.Need-mul-q Inv-loop μ-loop
-mul-q c = search needs
-
-slice-read-q : tie.Need-slice-read-q Inv-loop μ-loop
-slice-read-q c = search needs
-
-add-r : tie.Need-add-r Inv-loop μ-loop
-add-r c = search needs
-
-mul-r : tie.Need-mul-r Inv-loop μ-loop
-mul-r c = search needs
-
-slice-read-r : tie.Need-slice-read-r Inv-loop μ-loop
-slice-read-r c = search needs
-
-slice-relend-prefix-triangle : tie.Need-slice-relend-prefix-triangle Inv-loop μ-loop
-slice-relend-prefix-triangle c = search needs
-
 slice-aggregate-triangle : tie.Need-slice-aggregate-triangle Inv-loop μ-loop
 slice-aggregate-triangle c =
     let s = c .before .before .before .before .before .before .before in
@@ -61,12 +31,6 @@ triangle-requires c κs =
       omega (arith, s .pre .4, length-take-le (s .args .at) (l .area) (omega (arith, l .inv .past))),
       behind-room (s .args .area .now) (s .args .at) (s .args .n) (l .area) (l .i) (l .inv) (s .pre .1) (s .pre .2) (omega arith),
     )
-
-add-i : tie.Need-add-i Inv-loop μ-loop
-add-i c = search needs
-
-loop-less : tie.Need-loop-less Inv-loop μ-loop
-loop-less c = search needs
 
 loop-again : tie.Need-loop-again Inv-loop μ-loop
 loop-again c =
@@ -87,24 +51,6 @@ returns c =
 pub gather-behind-spec : {M : Type 1} → statement M
 gather-behind-spec =
     tie.close
-    (tie.spec
-    Inv-loop
-    μ-loop
-    loop-holds
-    add-loop
-    mul-p
-    slice-read-p
-    add-q
-    mul-q
-    slice-read-q
-    add-r
-    mul-r
-    slice-read-r
-    slice-relend-prefix-triangle
-    slice-aggregate-triangle
-    triangle-requires
-    add-i
-    loop-less
-    loop-again
-    same-length
-    returns)
+    (tie.spec Inv-loop μ-loop loop-holds (search needs) (search needs) (search needs) (search needs) (search needs)
+    (search needs) (search needs) (search needs) (search needs) (search needs) slice-aggregate-triangle
+    triangle-requires (search needs) (search needs) loop-again same-length returns)

@@ -16,4 +16,5 @@ unfolding crowded bit
 returns-2 c = (rw (le-ltb 2 (c .before .args .uses) (omega (arith, c .if1 .left)), gate-zero), omega arith)
 
 pub one-crowded-spec : {M : Type 1} → statement M
-one-crowded-spec = tie.close (tie.spec returns returns-2)
+one-crowded-spec =
+    tie.close (tie.spec returns returns-2)

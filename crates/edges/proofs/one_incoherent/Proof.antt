@@ -4,11 +4,9 @@ use Rattle.edges.proofs.Pairs.{incoherent-one}
 use Rattle.edges.proofs.one_incoherent.Statement.{statement}
 use Rattle.edges.proofs.one_incoherent.Tie as tie
 
-cast-result : tie.Need-cast-result
-cast-result c = search needs
-
 returns : tie.Need-returns
 returns c = incoherent-one (c .args .uses) (c .args .ups)
 
 pub one-incoherent-spec : {M : Type 1} → statement M
-one-incoherent-spec = tie.close (tie.spec cast-result returns)
+one-incoherent-spec =
+    tie.close (tie.spec (search needs) returns)

@@ -15,4 +15,5 @@ unfolding present bit
 returns-2 c = (rw (gate-pos (c .before .args .uses) 1 (omega arith)), omega arith)
 
 pub one-present-spec : {M : Type 1} → statement M
-one-present-spec = tie.close (tie.spec returns returns-2)
+one-present-spec =
+    tie.close (tie.spec returns returns-2)

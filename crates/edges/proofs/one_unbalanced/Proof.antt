@@ -24,4 +24,5 @@ returns-2 c =
     (rw (gate-pos m (bit (unbalanced m (magnitude m p))) (omega arith), ne-eqb (magnitude m p) 0 (λ z. omega arith)), omega arith)
 
 pub one-unbalanced-spec : {M : Type 1} → statement M
-one-unbalanced-spec = tie.close (tie.spec returns returns-2)
+one-unbalanced-spec =
+    tie.close (tie.spec returns returns-2)

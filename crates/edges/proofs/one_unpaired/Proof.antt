@@ -10,9 +10,6 @@ use Rattle.edges.proofs.Pairs.{unpaired-one}
 use Rattle.edges.proofs.one_unpaired.Statement.{statement}
 use Rattle.edges.proofs.one_unpaired.Tie as tie
 
-cast-result : tie.Need-cast-result
-cast-result c = search needs
-
 -- what is shown of y holds of x
 from : (x y z : ℕ) → (y ≡ z) × (y ≤ 1) → x ≡ y → (x ≡ z) × (x ≤ 1)
 from x y z h e = (e ∙ h .0, rw e (h .1))
@@ -36,4 +33,5 @@ returns c =
     ])
 
 pub one-unpaired-spec : {M : Type 1} → statement M
-one-unpaired-spec = tie.close (tie.spec cast-result returns)
+one-unpaired-spec =
+    tie.close (tie.spec (search needs) returns)

@@ -8,39 +8,21 @@ use Rattle.edges.proofs.Tally.{test-rest}
 use Rattle.edges.proofs.passes.Statement.{statement}
 use Rattle.edges.proofs.passes.Tie as tie
 
-add-uses : tie.Need-add-uses
-add-uses c = search needs
-
-one-present-requires : tie.Need-one-present-requires
-one-present-requires c κs = search needs
-
 returns : tie.Need-returns
 unfolding testOf present usesIn upsIn
 returns c = rw (c .before .if1 .taken) (c .one-present .ensures)
-
-one-unbalanced-requires : tie.Need-one-unbalanced-requires
-one-unbalanced-requires c κs = search needs
 
 returns-2 : tie.Need-returns-2
 unfolding testOf usesIn upsIn
 returns-2 c = rw (c .before .if2 .taken) (c .one-unbalanced .ensures)
 
-one-crowded-requires : tie.Need-one-crowded-requires
-one-crowded-requires c κs = search needs
-
 returns-3 : tie.Need-returns-3
 unfolding testOf crowded usesIn upsIn
 returns-3 c = rw (c .before .if3 .taken) (c .one-crowded .ensures)
 
-one-unpaired-requires : tie.Need-one-unpaired-requires
-one-unpaired-requires c κs = search needs
-
 returns-4 : tie.Need-returns-4
 unfolding testOf usesIn upsIn
 returns-4 c = rw (c .before .if4 .taken) (c .one-unpaired .ensures)
-
-one-incoherent-requires : tie.Need-one-incoherent-requires
-one-incoherent-requires c κs = search needs
 
 returns-5 : tie.Need-returns-5
 unfolding usesIn upsIn
@@ -49,15 +31,5 @@ returns-5 c = rw (test-rest (c .before .before .before .before .before .args .te
 pub passes-spec : {M : Type 1} → statement M
 passes-spec =
     tie.close
-    (tie.spec
-    add-uses
-    one-present-requires
-    returns
-    one-unbalanced-requires
-    returns-2
-    one-crowded-requires
-    returns-3
-    one-unpaired-requires
-    returns-4
-    one-incoherent-requires
-    returns-5)
+    (tie.spec (search needs) (search needs) returns (search needs) returns-2 (search needs) returns-3 (search needs)
+    returns-4 (search needs) returns-5)

@@ -40,9 +40,6 @@ proper-step-requires-3 c κs =
     let l = step-length (s .args .b) (s .args .c) in
     (s .pre .0, omega (arith, s .pre .1, k .kept, j .kept), room-after (s .args .n) (j .last .0) (k .last .0) 2 1 (properStep (s .args .b) (s .args .c)) (omega arith) (omega arith) w (k .ensures (w .so-far) (w .means)))
 
-same-length : tie.Need-same-length
-same-length c = search needs
-
 returns : tie.Need-returns
 unfolding aroundProper
 returns c =
@@ -51,10 +48,4 @@ returns c =
 
 pub proper-triangle-spec : {M : Type 1} → statement M
 proper-triangle-spec =
-    tie.close
-    (tie.spec
-    proper-step-requires
-    proper-step-requires-2
-    proper-step-requires-3
-    same-length
-    returns)
+    tie.close (tie.spec proper-step-requires proper-step-requires-2 proper-step-requires-3 (search needs) returns)

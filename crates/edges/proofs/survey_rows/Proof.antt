@@ -20,42 +20,6 @@ loop-holds : tie.Need-loop-holds Inv-loop μ-loop
 unfolding sumTo
 loop-holds c = (omega arith, refl, refl, refl, omega arith, omega arith, omega arith)
 
-mul-word : tie.Need-mul-word Inv-loop μ-loop
-mul-word c = search needs
-
-add-word : tie.Need-add-word Inv-loop μ-loop
-add-word c = search needs
-
-mul-word-2 : tie.Need-mul-word-2 Inv-loop μ-loop
-mul-word-2 c = search needs
-
-shared-slice-read-word : tie.Need-shared-slice-read-word Inv-loop μ-loop
-shared-slice-read-word c = search needs
-
-passes-requires : tie.Need-passes-requires Inv-loop μ-loop
-passes-requires c κs = search needs
-
-add-present : tie.Need-add-present Inv-loop μ-loop
-add-present c = search needs
-
-passes-requires-2 : tie.Need-passes-requires-2 Inv-loop μ-loop
-passes-requires-2 c κs = search needs
-
-add-unbalanced : tie.Need-add-unbalanced Inv-loop μ-loop
-add-unbalanced c = search needs
-
-passes-requires-3 : tie.Need-passes-requires-3 Inv-loop μ-loop
-passes-requires-3 c κs = search needs
-
-add-crowded : tie.Need-add-crowded Inv-loop μ-loop
-add-crowded c = search needs
-
-add-i : tie.Need-add-i Inv-loop μ-loop
-add-i c = search needs
-
-loop-less : tie.Need-loop-less Inv-loop μ-loop
-loop-less c = search needs
-
 loop-again : tie.Need-loop-again Inv-loop μ-loop
 unfolding rowBit testOf
 loop-again c =
@@ -75,21 +39,6 @@ returns c =
 pub survey-rows-spec : {M : Type 1} → statement M
 survey-rows-spec =
     tie.close
-    (tie.spec
-    Inv-loop
-    μ-loop
-    loop-holds
-    mul-word
-    add-word
-    mul-word-2
-    shared-slice-read-word
-    passes-requires
-    add-present
-    passes-requires-2
-    add-unbalanced
-    passes-requires-3
-    add-crowded
-    add-i
-    loop-less
-    loop-again
+    (tie.spec Inv-loop μ-loop loop-holds (search needs) (search needs) (search needs) (search needs) (search needs)
+    (search needs) (search needs) (search needs) (search needs) (search needs) (search needs) (search needs) loop-again
     returns)

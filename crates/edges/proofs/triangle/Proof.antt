@@ -12,9 +12,6 @@ use borrow.Author.Needs.{needs}
 use Rattle.edges.proofs.triangle.Statement.{statement}
 use Rattle.edges.proofs.triangle.Tie as tie
 
-distinct-requires : tie.Need-distinct-requires
-distinct-requires c κs = search needs
-
 returns : tie.Need-returns
 returns c = λ es m. rw (around-none _ (sym (c .before .distinct .ensures) ∙ not-true (c .before .distinct .result) (c .if1 .taken)), append-none) m
 
@@ -45,9 +42,6 @@ walk-requires-3 c κs =
     let w = second first in
     (s .pre .0, omega (arith, s .pre .1, k .kept, j .kept), room-after (s .args .n) (j .last .0) (k .last .0) 2 1 (step (s .args .b) (s .args .c) ∷ []) (omega arith) (omega arith) w (k .ensures (w .so-far) (w .means)))
 
-same-length : tie.Need-same-length
-same-length c = search needs
-
 returns-2 : tie.Need-returns-2
 returns-2 c =
     let three = sym (c .before .before .before .before .before .before .before .before .before .before .before .before .before .distinct .ensures) ∙ not-false (c .before .before .before .before .before .before .before .before .before .before .before .before .before .distinct .result) (c .before .before .before .before .before .before .before .before .before .before .before .before .if1 .left) in
@@ -55,12 +49,4 @@ returns-2 c =
 
 pub triangle-spec : {M : Type 1} → statement M
 triangle-spec =
-    tie.close
-    (tie.spec
-    distinct-requires
-    returns
-    walk-requires
-    walk-requires-2
-    walk-requires-3
-    same-length
-    returns-2)
+    tie.close (tie.spec (search needs) returns walk-requires walk-requires-2 walk-requires-3 (search needs) returns-2)

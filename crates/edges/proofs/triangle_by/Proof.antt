@@ -4,21 +4,9 @@ use Rattle.edges.specs.Tests.{edgesOf}
 use Rattle.edges.proofs.triangle_by.Statement.{statement}
 use Rattle.edges.proofs.triangle_by.Tie as tie
 
-triangle-requires : tie.Need-triangle-requires
-triangle-requires c κs = search needs
-
-proper-triangle-requires : tie.Need-proper-triangle-requires
-proper-triangle-requires c κs = search needs
-
-same-length : tie.Need-same-length
-same-length c = search needs
-
 returns : tie.Need-returns
 unfolding edgesOf
 returns c = λ es m. rw (c .before .before .before .before .if1 .taken) (c .before .before .triangle .ensures es m)
-
-same-length-2 : tie.Need-same-length-2
-same-length-2 c = search needs
 
 returns-2 : tie.Need-returns-2
 unfolding edgesOf
@@ -26,11 +14,4 @@ returns-2 c = λ es m. rw (c .before .before .before .before .if1 .left) (c .bef
 
 pub triangle-by-spec : {M : Type 1} → statement M
 triangle-by-spec =
-    tie.close
-    (tie.spec
-    triangle-requires
-    proper-triangle-requires
-    same-length
-    returns
-    same-length-2
-    returns-2)
+    tie.close (tie.spec (search needs) (search needs) (search needs) returns (search needs) returns-2)

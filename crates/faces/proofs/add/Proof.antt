@@ -5,32 +5,17 @@ use Rattle.faces.proofs.Rows.{room-free}
 use Rattle.faces.proofs.add.Statement.{statement}
 use Rattle.faces.proofs.add.Tie as tie
 
-sort-requires : tie.Need-sort-requires
-sort-requires c κs = search needs
-
-hash-requires : tie.Need-hash-requires
-hash-requires c κs = search needs
-
-home-requires : tie.Need-home-requires
-home-requires c κs = search needs
-
 find-requires : tie.Need-find-requires
 find-requires c κs =
     let s = c .before .before .before .before .before .before in
     let w = s .pre .4 in
     (s .pre .0, c .before .home .ensures .1, s .pre .2, s .pre .3, w .3 .named, room-free (s .args .ids .now) (s .args .n) (s .args .work .now) w)
 
-weight-requires : tie.Need-weight-requires
-weight-requires c κs = search needs
-
 bump-requires : tie.Need-bump-requires
 bump-requires c κs =
     let s = c .before .before .before .before .before .before .before .before .before in
     let a = s .args in
     bump-fits (a .ids .now) (a .n) (a .work .now) (a .t) (c .before .before .before .before .home .result) (c .before .before .find .result) (c .weight .result) _ (s .pre .0) (s .pre .1) (s .pre .2) (s .pre .3) (s .pre .4) (c .before .before .find .ensures) (c .weight .ensures)
-
-same-length : tie.Need-same-length
-same-length c = search needs
 
 returns : tie.Need-returns
 returns c =
@@ -41,12 +26,5 @@ returns c =
 pub add-spec : {M : Type 1} → statement M
 add-spec =
     tie.close
-    (tie.spec
-    sort-requires
-    hash-requires
-    home-requires
-    find-requires
-    weight-requires
-    bump-requires
-    same-length
+    (tie.spec (search needs) (search needs) (search needs) find-requires (search needs) bump-requires (search needs)
     returns)

@@ -11,30 +11,12 @@ use Rattle.faces.proofs.Rows.{room-free}
 use Rattle.faces.proofs.add_behind.Statement.{statement}
 use Rattle.faces.proofs.add_behind.Tie as tie
 
-mul-sort : tie.Need-mul-sort
-mul-sort c = search needs
-
-sub-sort : tie.Need-sub-sort
-sub-sort c = search needs
-
-part-sort-start : tie.Need-part-sort-start
-part-sort-start c = search needs
-
-part-sort-end : tie.Need-part-sort-end
-part-sort-end c = search needs
-
 sort-requires : tie.Need-sort-requires
 sort-requires c κs =
     let s = c .before .before .before in
     let at = s .args .at in
     let area = s .args .area .now in
     rw (part-to-end area at) (ids-few at area (s .pre .1), s .pre .2)
-
-hash-requires : tie.Need-hash-requires
-hash-requires c κs = search needs
-
-home-requires : tie.Need-home-requires
-home-requires c κs = search needs
 
 find-behind-requires : tie.Need-find-behind-requires
 find-behind-requires c κs =
@@ -43,27 +25,12 @@ find-behind-requires c κs =
     let area = s .args .area .now in
     (s .pre .0, s .pre .1, c .before .home .ensures .1, s .pre .3, s .pre .4, s .pre .5 .3 .named, room-free (drop at area) (s .args .n) (take at area) (s .pre .5))
 
-mul-weight : tie.Need-mul-weight
-mul-weight c = search needs
-
-sub-weight : tie.Need-sub-weight
-sub-weight c = search needs
-
-part-weight-start : tie.Need-part-weight-start
-part-weight-start c = search needs
-
-part-weight-end : tie.Need-part-weight-end
-part-weight-end c = search needs
-
 weight-requires : tie.Need-weight-requires
 weight-requires c κs =
     let s = c .before .before .before .before .before .before .before .before .before .before in
     let at = s .args .at in
     let area = s .args .area .now in
     rw (part-to-end area at) (ids-few at area (s .pre .1), s .pre .2)
-
-slice-relend-prefix-bump : tie.Need-slice-relend-prefix-bump
-slice-relend-prefix-bump c = search needs
 
 slice-aggregate-bump : tie.Need-slice-aggregate-bump
 slice-aggregate-bump c =
@@ -79,9 +46,6 @@ bump-requires c κs =
     let area = s .args .area .now in
     bump-fits (drop at area) (s .args .n) (take at area) (s .args .t) (c .before .before .before .before .before .before .home .result) (c .before .before .before .before .find-behind .result) (c .before .weight .result) _ (ids-few at area (s .pre .1)) (s .pre .2) (s .pre .3) (omega (arith, s .pre .4, length-take-le at area (s .pre .0))) (s .pre .5) (c .before .before .before .before .find-behind .ensures) (rw (part-to-end area at) at (c .before .weight .ensures))
 
-same-length : tie.Need-same-length
-same-length c = search needs
-
 returns : tie.Need-returns
 returns c =
     let s = c .before .before .before .before .before .before .before .before .before .before .before .before .before .before .before in
@@ -93,22 +57,6 @@ returns c =
 pub add-behind-spec : {M : Type 1} → statement M
 add-behind-spec =
     tie.close
-    (tie.spec
-    mul-sort
-    sub-sort
-    part-sort-start
-    part-sort-end
-    sort-requires
-    hash-requires
-    home-requires
-    find-behind-requires
-    mul-weight
-    sub-weight
-    part-weight-start
-    part-weight-end
-    weight-requires
-    slice-relend-prefix-bump
-    slice-aggregate-bump
-    bump-requires
-    same-length
-    returns)
+    (tie.spec (search needs) (search needs) (search needs) (search needs) sort-requires (search needs) (search needs)
+    find-behind-requires (search needs) (search needs) (search needs) (search needs) weight-requires (search needs)
+    slice-aggregate-bump bump-requires (search needs) returns)

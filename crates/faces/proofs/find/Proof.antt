@@ -23,32 +23,11 @@ abbrev μ-loop : tie.MeasureT-loop
 loop-holds : tie.Need-loop-holds Inv-loop μ-loop
 loop-holds c = let s = c .before .before in (s .pre .1, λ j l d. absurd (omega (arith, dist-here (s .args .n) (s .args .start) (s .pre .1))))
 
-mul-at : tie.Need-mul-at Inv-loop μ-loop
-mul-at c = search needs
-
-add-if1 : tie.Need-add-if1 Inv-loop μ-loop
-add-if1 c = search needs
-
-mul-if1 : tie.Need-mul-if1 Inv-loop μ-loop
-mul-if1 c = search needs
-
-shared-slice-read-if1 : tie.Need-shared-slice-read-if1 Inv-loop μ-loop
-shared-slice-read-if1 c = search needs
-
-mul-same : tie.Need-mul-same Inv-loop μ-loop
-mul-same c = search needs
-
-shared-slice-read-same : tie.Need-shared-slice-read-same Inv-loop μ-loop
-shared-slice-read-same c = search needs
-
 cast-same : tie.Need-cast-same Inv-loop μ-loop
 cast-same c = omega (arith, c .shared-slice-known4 .given (2 * c .before .before .before .loop .r))
 
 same-requires : tie.Need-same-requires Inv-loop μ-loop
 same-requires c κs = let s = c .before .before .before .before .before .before in (s .pre .0, s .pre .4 (c .before .before .before .loop .r) (c .before .before .before .loop .inv .0))
-
-next-requires : tie.Need-next-requires Inv-loop μ-loop
-next-requires c κs = search needs
 
 -- what the test of row r says: it holds the face, or the search goes on
 module _ (c : tie.After-same Inv-loop μ-loop) where
@@ -98,20 +77,5 @@ returns-2 c = let l = c .before .before .before .before .before .loop in record 
 pub find-spec : {M : Type 1} → statement M
 find-spec =
     tie.close
-    (tie.spec
-    Inv-loop
-    μ-loop
-    loop-holds
-    mul-at
-    add-if1
-    mul-if1
-    shared-slice-read-if1
-    mul-same
-    shared-slice-read-same
-    cast-same
-    same-requires
-    next-requires
-    loop-less
-    loop-again
-    returns
-    returns-2)
+    (tie.spec Inv-loop μ-loop loop-holds (search needs) (search needs) (search needs) (search needs) (search needs)
+    (search needs) cast-same same-requires (search needs) loop-less loop-again returns returns-2)

@@ -8,18 +8,6 @@ use lib.Seq.{length-take-le}
 use Rattle.faces.proofs.find_behind.Statement.{statement}
 use Rattle.faces.proofs.find_behind.Tie as tie
 
-mul-find : tie.Need-mul-find
-mul-find c = search needs
-
-sub-find : tie.Need-sub-find
-sub-find c = search needs
-
-part-find-start : tie.Need-part-find-start
-part-find-start c = search needs
-
-part-find-end : tie.Need-part-find-end
-part-find-end c = search needs
-
 slice-aggregate-find : tie.Need-slice-aggregate-find
 slice-aggregate-find c = let s = c .before .before .before in sym (length-take-le (s .args .at) (s .args .area .now) (s .pre .0))
 
@@ -36,11 +24,4 @@ returns c = let s = c .before .before .before .before in rw (part-to-end (s .arg
 pub find-behind-spec : {M : Type 1} → statement M
 find-behind-spec =
     tie.close
-    (tie.spec
-    mul-find
-    sub-find
-    part-find-start
-    part-find-end
-    slice-aggregate-find
-    find-requires
-    returns)
+    (tie.spec (search needs) (search needs) (search needs) (search needs) slice-aggregate-find find-requires returns)

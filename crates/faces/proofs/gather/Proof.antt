@@ -28,12 +28,6 @@ triangle-requires c κs =
     let more : l .t < triangleCount (a .ids .now) = omega arith in
     (s .pre .0, more, s .pre .2, omega (arith, s .pre .3, l .inv .1), summing-room (a .ids .now) (a .n) (l .work) (l .t) (l .inv .2) (s .pre .0) (s .pre .1) more)
 
-add-t : tie.Need-add-t Inv-loop μ-loop
-add-t c = search needs
-
-loop-less : tie.Need-loop-less Inv-loop μ-loop
-loop-less c = search needs
-
 loop-again : tie.Need-loop-again Inv-loop μ-loop
 loop-again c =
     let a = c .before .before .before .before .before .before .before .before .args in
@@ -42,9 +36,6 @@ loop-again c =
     let k = c .before .before .triangle in
     let w = l .inv .2 in
     (omega arith, omega (arith, k .kept, l .inv .1), summing-next (a .ids .now) (a .n) (l .work) (l .t) w (k .last .1 .0) more (k .ensures (w .so-far) (w .means)))
-
-same-length : tie.Need-same-length Inv-loop μ-loop
-same-length c = search needs
 
 returns : tie.Need-returns Inv-loop μ-loop
 returns c =
@@ -55,13 +46,5 @@ returns c =
 pub gather-spec : {M : Type 1} → statement M
 gather-spec =
     tie.close
-    (tie.spec
-    Inv-loop
-    μ-loop
-    loop-holds
-    triangle-requires
-    add-t
-    loop-less
-    loop-again
-    same-length
+    (tie.spec Inv-loop μ-loop loop-holds triangle-requires (search needs) (search needs) loop-again (search needs)
     returns)

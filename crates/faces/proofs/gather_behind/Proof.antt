@@ -16,9 +16,6 @@ Inv-loop area₀ at n m t₀ area t = (t ≤ m) × (length area ≡ length area�
 abbrev μ-loop : tie.MeasureT-loop
 μ-loop area₀ at n m t₀ area t = m - t
 
-sub-m : tie.Need-sub-m Inv-loop μ-loop
-sub-m c = search needs
-
 loop-holds : tie.Need-loop-holds Inv-loop μ-loop
 loop-holds c =
     let s = c .before in
@@ -35,12 +32,6 @@ triangle-behind-requires c κs =
     let more : l .t < triangleCount ids = rw length-drop (omega arith) in
     (omega (arith, s .pre .0, l .inv .1), omega (arith, s .pre .1, l .inv .1), rw (l .inv .2) more, s .pre .3, s .pre .4, rw (l .inv .2) (summing-room ids (a .n) (take (a .at) (l .area)) (l .t) w (ids-few (a .at) (a .area .now) (s .pre .1)) (s .pre .2) more))
 
-add-t : tie.Need-add-t Inv-loop μ-loop
-add-t c = search needs
-
-loop-less : tie.Need-loop-less Inv-loop μ-loop
-loop-less c = search needs
-
 loop-again : tie.Need-loop-again Inv-loop μ-loop
 loop-again c =
     let s = c .before .before .before .before .before .before .before in
@@ -52,9 +43,6 @@ loop-again c =
     let k = c .before .before .triangle-behind in
     let adds = rw (l .inv .2) at (k .ensures .adds) in
     (omega arith, omega (arith, k .kept, l .inv .1), k .ensures .same ∙ l .inv .2, summing-next ids (a .n) (take (a .at) (l .area)) (l .t) w (take (a .at) (k .last .0)) more (adds (w .so-far) (w .means)))
-
-same-length : tie.Need-same-length Inv-loop μ-loop
-same-length c = search needs
 
 returns : tie.Need-returns Inv-loop μ-loop
 returns c =
@@ -69,14 +57,5 @@ returns c =
 pub gather-behind-spec : {M : Type 1} → statement M
 gather-behind-spec =
     tie.close
-    (tie.spec
-    Inv-loop
-    μ-loop
-    sub-m
-    loop-holds
-    triangle-behind-requires
-    add-t
-    loop-less
-    loop-again
-    same-length
-    returns)
+    (tie.spec Inv-loop μ-loop (search needs) loop-holds triangle-behind-requires (search needs) (search needs)
+    loop-again (search needs) returns)

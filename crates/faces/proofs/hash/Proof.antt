@@ -5,28 +5,11 @@ use borrow.Author.Needs.{needs}
 use Rattle.faces.proofs.hash.Statement.{statement}
 use Rattle.faces.proofs.hash.Tie as tie
 
-mul-part : tie.Need-mul-part
-mul-part c = search needs
-
-mul-more : tie.Need-mul-more
-mul-more c = search needs
-
-add-more : tie.Need-add-more
-add-more c = search needs
-
-mul-result : tie.Need-mul-result
-mul-result c = search needs
-
-add-result : tie.Need-add-result
-add-result c = search needs
-
-cast-result : tie.Need-cast-result
-cast-result c = search needs
-
 returns : tie.Need-returns
 unfolding hashOf
 returns c = refl
 
 pub hash-spec : {M : Type 1} → statement M
 hash-spec =
-    tie.close (tie.spec mul-part mul-more add-more mul-result add-result cast-result returns)
+    tie.close
+    (tie.spec (search needs) (search needs) (search needs) (search needs) (search needs) (search needs) returns)

@@ -25,35 +25,8 @@ loop-holds : tie.Need-loop-holds Inv-loop μ-loop
 unfolding sumTo maxTo
 loop-holds c = (omega arith, refl, refl, omega arith)
 
-mul-at : tie.Need-mul-at Inv-loop μ-loop
-mul-at c = search needs
-
-add-size : tie.Need-add-size Inv-loop μ-loop
-add-size c = search needs
-
-mul-size : tie.Need-mul-size Inv-loop μ-loop
-mul-size c = search needs
-
-shared-slice-read-size : tie.Need-shared-slice-read-size Inv-loop μ-loop
-shared-slice-read-size c = search needs
-
-size-requires : tie.Need-size-requires Inv-loop μ-loop
-size-requires c κs = search needs
-
-greater-requires : tie.Need-greater-requires Inv-loop μ-loop
-greater-requires c κs = search needs
-
-cast-off : tie.Need-cast-off Inv-loop μ-loop
-cast-off c = search needs
-
 add-off : tie.Need-add-off Inv-loop μ-loop
 add-off c = omega (arith, byte-small (ltb 0 (c .before .size .result)))
-
-add-i : tie.Need-add-i Inv-loop μ-loop
-add-i c = search needs
-
-loop-less : tie.Need-loop-less Inv-loop μ-loop
-loop-less c = search needs
 
 loop-again : tie.Need-loop-again Inv-loop μ-loop
 loop-again c =
@@ -76,19 +49,5 @@ returns c =
 pub net-spec : {M : Type 1} → statement M
 net-spec =
     tie.close
-    (tie.spec
-    Inv-loop
-    μ-loop
-    loop-holds
-    mul-at
-    add-size
-    mul-size
-    shared-slice-read-size
-    size-requires
-    greater-requires
-    cast-off
-    add-off
-    add-i
-    loop-less
-    loop-again
-    returns)
+    (tie.spec Inv-loop μ-loop loop-holds (search needs) (search needs) (search needs) (search needs) (search needs)
+    (search needs) (search needs) add-off (search needs) (search needs) loop-again returns)

@@ -4,12 +4,10 @@ use Rattle.ids.specs.FaceNet.{sameFace}
 use Rattle.faces.proofs.same.Statement.{statement}
 use Rattle.faces.proofs.same.Tie as tie
 
-sort-requires : tie.Need-sort-requires
-sort-requires c κs = search needs
-
 returns : tie.Need-returns
 unfolding sameFace
 returns c = rw (c .before .before .before .sort .ensures)
 
 pub same-spec : {M : Type 1} → statement M
-same-spec = tie.close (tie.spec sort-requires returns)
+same-spec =
+    tie.close (tie.spec (search needs) returns)

@@ -5,9 +5,6 @@ use Rattle.table.specs.Counts.{usesIn, upsIn, magnitude}
 use Rattle.faces.proofs.size.Statement.{statement}
 use Rattle.faces.proofs.size.Tie as tie
 
-sub-result : tie.Need-sub-result
-sub-result c = search needs
-
 returns : tie.Need-returns
 unfolding usesIn upsIn magnitude
 returns c = omega arith
@@ -17,4 +14,5 @@ unfolding usesIn upsIn magnitude
 returns-2 c = omega arith
 
 pub size-spec : {M : Type 1} → statement M
-size-spec = tie.close (tie.spec sub-result returns returns-2)
+size-spec =
+    tie.close (tie.spec (search needs) returns returns-2)

@@ -8,27 +8,12 @@ use Rattle.faces.proofs.Turns.{face-none, face-one}
 use Rattle.faces.proofs.triangle_behind.Statement.{statement}
 use Rattle.faces.proofs.triangle_behind.Tie as tie
 
-mul-distinct-at : tie.Need-mul-distinct-at
-mul-distinct-at c = search needs
-
-sub-distinct-at : tie.Need-sub-distinct-at
-sub-distinct-at c = search needs
-
-part-distinct-at-start : tie.Need-part-distinct-at-start
-part-distinct-at-start c = search needs
-
-part-distinct-at-end : tie.Need-part-distinct-at-end
-part-distinct-at-end c = search needs
-
 distinct-at-requires : tie.Need-distinct-at-requires
 distinct-at-requires c κs =
     let s = c .before .before .before in
     let at = s .args .at in
     let area = s .args .area .now in
     rw (part-to-end area at) (ids-few at area (s .pre .1), s .pre .2)
-
-same-length : tie.Need-same-length
-same-length c = search needs
 
 returns : tie.Need-returns
 returns c =
@@ -37,12 +22,6 @@ returns c =
     let area = s .args .area .now in
     let told = sym (rw (part-to-end area at) at (c .before .distinct-at .ensures)) ∙ not-true (c .before .distinct-at .result) (c .if1 .taken) in
     record { same = refl; adds = λ es m. rw (face-none es _ told) m }
-
-add-behind-requires : tie.Need-add-behind-requires
-add-behind-requires c κs = search needs
-
-same-length-2 : tie.Need-same-length-2
-same-length-2 c = search needs
 
 returns-2 : tie.Need-returns-2
 returns-2 c =
@@ -56,14 +35,5 @@ returns-2 c =
 pub triangle-behind-spec : {M : Type 1} → statement M
 triangle-behind-spec =
     tie.close
-    (tie.spec
-    mul-distinct-at
-    sub-distinct-at
-    part-distinct-at-start
-    part-distinct-at-end
-    distinct-at-requires
-    same-length
-    returns
-    add-behind-requires
-    same-length-2
-    returns-2)
+    (tie.spec (search needs) (search needs) (search needs) (search needs) distinct-at-requires (search needs) returns
+    (search needs) (search needs) returns-2)

@@ -6,9 +6,6 @@ use Rattle.forest.proofs.Roots.{roots, joined-up, joined-down}
 use Rattle.forest.proofs.join.Statement.{statement}
 use Rattle.forest.proofs.join.Tie as tie
 
-root-requires : tie.Need-root-requires
-root-requires c κs = search needs
-
 root-requires-2 : tie.Need-root-requires-2
 root-requires-2 c κs =
     let s = c .before .before .before .before .before .before in
@@ -31,18 +28,12 @@ hang-requires-2 c κs =
     let z = roots (s .args .work .now) (root .last .0) (root2 .last .0) (s .args .work .now) (s .args .a) (s .args .b) (root .result) (root2 .result) (s .pre .0) (s .pre .1) (root .kept .0) (root2 .kept .0 ∙ root .kept .0) (s .pre .2) (root .ensures) (root2 .ensures) (s .pre .3) in
     (omega (arith, root .kept .0, root2 .kept .0), omega arith)
 
-same-length : tie.Need-same-length
-same-length c = search needs
-
 returns : tie.Need-returns
 returns c =
     let s = c .before .before .before .before .before .before .before .before .before .before .before .before .before .before in
     let root = c .before .before .before .before .before .before .before .before .before .before .before .root in
     let root2 = c .before .before .before .before .before .before .before .root2 in
     joined-up (s .args .work .now) (root .last .0) (root2 .last .0) _ (s .args .a) (s .args .b) (root .result) (root2 .result) (s .pre .0) (s .pre .1) (root .kept .0) (root2 .kept .0 ∙ root .kept .0) (s .pre .2) (root .ensures) (root2 .ensures) (s .pre .3) (c .before .before .before .before .if1 .taken) (c .before .before .hang .ensures)
-
-same-length-2 : tie.Need-same-length-2
-same-length-2 c = search needs
 
 returns-2 : tie.Need-returns-2
 returns-2 c =
@@ -54,12 +45,5 @@ returns-2 c =
 pub join-spec : {M : Type 1} → statement M
 join-spec =
     tie.close
-    (tie.spec
-    root-requires
-    root-requires-2
-    hang-requires
-    hang-requires-2
-    same-length
-    returns
-    same-length-2
+    (tie.spec (search needs) root-requires-2 hang-requires hang-requires-2 (search needs) returns (search needs)
     returns-2)

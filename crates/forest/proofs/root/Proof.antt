@@ -20,9 +20,6 @@ parent-requires c κs =
     let l = c .before .loop in
     omega (arith, l .inv .inside, l .inv .long)
 
-same-length : tie.Need-same-length Inv-loop μ-loop
-same-length c = search needs
-
 returns : tie.Need-returns Inv-loop μ-loop
 returns c =
     let s = c .before .before .before .before .before in
@@ -36,9 +33,6 @@ parent-requires-2 c κs =
     let l = c .before .before .before .before .loop in
     let parent = c .before .before .parent in
     omega (arith, l .inv .long, next-inside (s .args .work .now) (l .work) (s .args .t) (l .x) (l .inv) (s .pre .2) (parent .result) (parent .ensures))
-
-hang-requires : tie.Need-hang-requires Inv-loop μ-loop
-hang-requires c κs = search needs
 
 loop-less : tie.Need-loop-less Inv-loop μ-loop
 loop-less c =
@@ -59,14 +53,5 @@ loop-again c =
 pub root-spec : {M : Type 1} → statement M
 root-spec =
     tie.close
-    (tie.spec
-    Inv-loop
-    μ-loop
-    loop-holds
-    parent-requires
-    same-length
-    returns
-    parent-requires-2
-    hang-requires
-    loop-less
-    loop-again)
+    (tie.spec Inv-loop μ-loop loop-holds parent-requires (search needs) returns parent-requires-2 (search needs)
+    loop-less loop-again)

@@ -5,12 +5,6 @@ use Rattle.grid.specs.Grid.{cellsIn}
 use Rattle.grid.proofs.cells.Statement.{statement}
 use Rattle.grid.proofs.cells.Tie as tie
 
-ceiling32-requires : tie.Need-ceiling32-requires
-ceiling32-requires c κs = search needs
-
-to-u64-requires : tie.Need-to-u64-requires
-to-u64-requires c κs = search needs
-
 returns : tie.Need-returns
 unfolding cellsIn
 returns c = rw (← c .before .before .ceiling32 .ensures, ← c .before .to-u64 .ensures) (omega arith)
@@ -24,4 +18,5 @@ unfolding cellsIn
 returns-3 c = rw (← c .before .before .before .ceiling32 .ensures, ← c .before .before .to-u64 .ensures) (omega arith)
 
 pub cells-spec : {M : Type 1} → statement M
-cells-spec = tie.close (tie.spec ceiling32-requires to-u64-requires returns returns-2 returns-3)
+cells-spec =
+    tie.close (tie.spec (search needs) (search needs) returns returns-2 returns-3)

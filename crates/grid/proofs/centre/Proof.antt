@@ -5,15 +5,10 @@ use Rattle.grid.specs.Grid.{centreOf}
 use Rattle.grid.proofs.centre.Statement.{statement}
 use Rattle.grid.proofs.centre.Tie as tie
 
-cast-result : tie.Need-cast-result
-cast-result c = search needs
-
-int-to-float-result : tie.Need-int-to-float-result
-int-to-float-result c = search needs
-
 returns : tie.Need-returns
 unfolding centreOf
 returns c = refl
 
 pub centre-spec : {M : Type 1} → statement M
-centre-spec = tie.close (tie.spec cast-result int-to-float-result returns)
+centre-spec =
+    tie.close (tie.spec (search needs) (search needs) returns)

@@ -12,4 +12,5 @@ unfolding counts side
 returns c = ap not (sym (magnitude-below _ tiny))
 
 pub counts-spec : {M : Type 1} → statement M
-counts-spec = tie.close (tie.spec returns)
+counts-spec =
+    tie.close (tie.spec returns)

@@ -4,18 +4,10 @@ use Rattle.grid.specs.Grid.{firstCell}
 use Rattle.grid.proofs.first_cell.Statement.{statement}
 use Rattle.grid.proofs.first_cell.Tie as tie
 
-least32-requires : tie.Need-least32-requires
-least32-requires c κs = search needs
-
-least32-requires-2 : tie.Need-least32-requires-2
-least32-requires-2 c κs = search needs
-
-cell-requires : tie.Need-cell-requires
-cell-requires c κs = search needs
-
 returns : tie.Need-returns
 unfolding firstCell
 returns c = rw (← c .before .before .least32 .ensures, ← c .before .least322 .ensures) (c .cell .ensures)
 
 pub first-cell-spec : {M : Type 1} → statement M
-first-cell-spec = tie.close (tie.spec least32-requires least32-requires-2 cell-requires returns)
+first-cell-spec =
+    tie.close (tie.spec (search needs) (search needs) (search needs) returns)

@@ -19,4 +19,5 @@ returns-3 c =
     first-neither (start .args .px) (start .args .py) (start .args .t) (c .before .if1 .left) (c .if2 .left)
 
 pub point-in-triangle-spec : {M : Type 1} → statement M
-point-in-triangle-spec = tie.close (tie.spec returns returns-2 returns-3)
+point-in-triangle-spec =
+    tie.close (tie.spec returns returns-2 returns-3)

@@ -5,18 +5,6 @@ use Rattle.ieee.proofs.Patterns.Integer.{none-size, shift-size}
 use Rattle.integers.proofs.cut_size.Statement.{statement}
 use Rattle.integers.proofs.cut_size.Tie as tie
 
-add-result : tie.Need-add-result
-add-result c = search needs
-
-mul-result : tie.Need-mul-result
-mul-result c = search needs
-
-sub-result : tie.Need-sub-result
-sub-result c = search needs
-
-shr-result : tie.Need-shr-result
-shr-result c = search needs
-
 returns : tie.Need-returns
 returns c = none-size (c .before .args .e) (c .before .args .t) (c .before .pre .1) (omega (arith, c .if1 .taken))
 
@@ -24,4 +12,5 @@ returns-2 : tie.Need-returns-2
 returns-2 c = shift-size (c .before .args .e) (c .before .args .t) (c .if1 .left) (c .before .pre .0)
 
 pub cut-size-spec : {M : Type 1} → statement M
-cut-size-spec = tie.close (tie.spec add-result mul-result sub-result shr-result returns returns-2)
+cut-size-spec =
+    tie.close (tie.spec (search needs) (search needs) (search needs) (search needs) returns returns-2)

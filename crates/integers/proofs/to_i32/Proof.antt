@@ -27,15 +27,6 @@ negative c =
     below-zero w32 31 (lit≤ tt) (lit< tt) (called .before .before .args .x) (called .bits64 .result) (c .before .cut-size .result) (is called)
     (omega arith) (c .before .cut-size .ensures) (c .if2 .left)
 
-f32-to-f64-with-nan-requires : tie.Need-f32-to-f64-with-nan-requires
-f32-to-f64-with-nan-requires c κs = search needs
-
-bits64-requires : tie.Need-bits64-requires
-bits64-requires c κs = search needs
-
-cut-size-requires : tie.Need-cut-size-requires
-cut-size-requires c κs = search needs
-
 cast-n : tie.Need-cast-n
 cast-n c =
     let called = c .before .before in
@@ -75,4 +66,5 @@ returns-5 c =
 pub to-i32-spec : {M : Type 1} → statement M
 to-i32-spec =
     tie.close
-    (tie.spec f32-to-f64-with-nan-requires bits64-requires cut-size-requires cast-n sub-result returns returns-2 returns-3 returns-4 returns-5)
+    (tie.spec (search needs) (search needs) (search needs) cast-n sub-result returns returns-2 returns-3 returns-4
+    returns-5)

@@ -6,14 +6,9 @@ use Rattle.ieee.proofs.Order.Ranges.{signed-kept}
 use Rattle.integers.proofs.to_i64_bits.Statement.{statement}
 use Rattle.integers.proofs.to_i64_bits.Tie as tie
 
-f64-of-requires : tie.Need-f64-of-requires
-f64-of-requires c κs = search needs
-
-to-i64-requires : tie.Need-to-i64-requires
-to-i64-requires c κs = search needs
-
 returns : tie.Need-returns
 returns c = cc (signed-kept w64 (ofBits binary64 (c .before .before .args .b)))
 
 pub to-i64-bits-spec : {M : Type 1} → statement M
-to-i64-bits-spec = tie.close (tie.spec f64-of-requires to-i64-requires returns)
+to-i64-bits-spec =
+    tie.close (tie.spec (search needs) (search needs) returns)

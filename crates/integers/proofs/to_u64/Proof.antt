@@ -20,12 +20,10 @@ returns : tie.Need-returns
 unfolding ofBits
 returns c = sym (unsigned-end 64 (c .before .args .x) (reaches-above 64 (c .before .args .x) (c .if1 .taken)))
 
-returns-2 : tie.Need-returns-2
-returns-2 c = search needs
-
 returns-3 : tie.Need-returns-3
 unfolding neg ofBits
 returns-3 c = sym (unsigned-low 64 (c .before .before .args .x) (c .if2 .left))
 
 pub to-u64-spec : {M : Type 1} → statement M
-to-u64-spec = tie.close (tie.spec truncating-f32-to-u64-requires returns returns-2 returns-3)
+to-u64-spec =
+    tie.close (tie.spec truncating-f32-to-u64-requires returns (search needs) returns-3)

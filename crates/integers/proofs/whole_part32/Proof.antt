@@ -21,9 +21,6 @@ range start = field-range (start .args .x) (toBits binary32 (start .args .x)) (i
 float-to-bits-b : tie.Need-float-to-bits-b
 float-to-bits-b c = le-right (fin false 1 (pos 0)) (c .args .x) (c .pre .0)
 
-add-result : tie.Need-add-result
-add-result c = search needs
-
 sub-result : tie.Need-sub-result
 sub-result c = range c .1
 
@@ -34,4 +31,5 @@ returns : tie.Need-returns
 returns c = whole-part (c .args .x) (toBits binary32 (c .args .x)) (is c) (c .pre .0) (c .pre .1)
 
 pub whole-part32-spec : {M : Type 1} → statement M
-whole-part32-spec = tie.close (tie.spec float-to-bits-b add-result sub-result shr-result returns)
+whole-part32-spec =
+    tie.close (tie.spec float-to-bits-b (search needs) sub-result shr-result returns)

@@ -6,18 +6,10 @@ use Rattle.listing.proofs.Outcomes.{areas-fit}
 use Rattle.listing.proofs.areas_short.Statement.{statement}
 use Rattle.listing.proofs.areas_short.Tie as tie
 
-mul-result : tie.Need-mul-result
-mul-result c = search needs
-
-mul-result-2 : tie.Need-mul-result-2
-mul-result-2 c = search needs
-
-add-result : tie.Need-add-result
-add-result c = search needs
-
 returns : tie.Need-returns
 unfolding textBytes
 returns c = record { is = refl; room = areas-fit (c .args .n) (c .args .surfaces) (c .args .text) }
 
 pub areas-short-spec : {M : Type 1} → statement M
-areas-short-spec = tie.close (tie.spec mul-result mul-result-2 add-result returns)
+areas-short-spec =
+    tie.close (tie.spec (search needs) (search needs) (search needs) returns)

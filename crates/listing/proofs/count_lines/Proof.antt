@@ -6,21 +6,6 @@ use Rattle.spelling.proofs.Puts.{puts-both}
 use Rattle.listing.proofs.count_lines.Statement.{statement}
 use Rattle.listing.proofs.count_lines.Tie as tie
 
-slice-aggregate-count-line : tie.Need-slice-aggregate-count-line
-slice-aggregate-count-line c = search needs
-
-count-line-requires : tie.Need-count-line-requires
-count-line-requires c κs = search needs
-
-slice-aggregate-count-line-2 : tie.Need-slice-aggregate-count-line-2
-slice-aggregate-count-line-2 c = search needs
-
-count-line-requires-2 : tie.Need-count-line-requires-2
-count-line-requires-2 c κs = search needs
-
-same-length : tie.Need-same-length
-same-length c = search needs
-
 returns : tie.Need-returns
 unfolding line countLines
 returns c =
@@ -30,11 +15,4 @@ returns c =
 
 pub count-lines-spec : {M : Type 1} → statement M
 count-lines-spec =
-    tie.close
-    (tie.spec
-    slice-aggregate-count-line
-    count-line-requires
-    slice-aggregate-count-line-2
-    count-line-requires-2
-    same-length
-    returns)
+    tie.close (tie.spec (search needs) (search needs) (search needs) (search needs) (search needs) returns)

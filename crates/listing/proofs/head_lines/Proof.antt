@@ -5,21 +5,6 @@ use Rattle.listing.specs.Listing.{headLines}
 use Rattle.listing.proofs.head_lines.Statement.{statement}
 use Rattle.listing.proofs.head_lines.Tie as tie
 
-trust-lines-requires : tie.Need-trust-lines-requires
-trust-lines-requires c κs = search needs
-
-number-lines-requires : tie.Need-number-lines-requires
-number-lines-requires c κs = search needs
-
-prism-line-requires : tie.Need-prism-line-requires
-prism-line-requires c κs = search needs
-
-count-lines-requires : tie.Need-count-lines-requires
-count-lines-requires c κs = search needs
-
-same-length : tie.Need-same-length
-same-length c = search needs
-
 returns : tie.Need-returns
 unfolding headLines
 returns c =
@@ -31,11 +16,4 @@ returns c =
 
 pub head-lines-spec : {M : Type 1} → statement M
 head-lines-spec =
-    tie.close
-    (tie.spec
-    trust-lines-requires
-    number-lines-requires
-    prism-line-requires
-    count-lines-requires
-    same-length
-    returns)
+    tie.close (tie.spec (search needs) (search needs) (search needs) (search needs) (search needs) returns)

@@ -10,12 +10,6 @@ use Rattle.spelling.proofs.Puts.{puts-both}
 use Rattle.listing.proofs.list.Statement.{statement}
 use Rattle.listing.proofs.list.Tie as tie
 
-cast-n : tie.Need-cast-n
-cast-n c = search needs
-
-areas-short-requires : tie.Need-areas-short-requires
-areas-short-requires c κs = search needs
-
 returns : tie.Need-returns
 returns c =
     let k = c .before in
@@ -24,9 +18,6 @@ returns c =
 
 head-lines-requires : tie.Need-head-lines-requires
 head-lines-requires c κs = omega (arith, c .before .before .areas-short .ensures .room (c .before .if1 .left) .1)
-
-mul-row-lines : tie.Need-mul-row-lines
-mul-row-lines c = search needs
 
 slice-aggregate-row-lines : tie.Need-slice-aggregate-row-lines
 slice-aggregate-row-lines c =
@@ -40,9 +31,6 @@ row-lines-requires c κs =
     let room = h .before .areas-short .ensures .room (h .if1 .left) in
     (length-take-le _ (h .before .before .before .before .before .args .surfaces .now) (room .0), omega (arith, room .1, k .head-lines .ensures .1, k .head-lines .kept .0))
 
-same-length : tie.Need-same-length
-same-length c = search needs
-
 returns-2 : tie.Need-returns-2
 unfolding listingFor listingOf
 returns-2 c =
@@ -55,13 +43,5 @@ returns-2 c =
 pub list-spec : {M : Type 1} → statement M
 list-spec =
     tie.close
-    (tie.spec
-    cast-n
-    areas-short-requires
-    returns
-    head-lines-requires
-    mul-row-lines
-    slice-aggregate-row-lines
-    row-lines-requires
-    same-length
-    returns-2)
+    (tie.spec (search needs) (search needs) returns head-lines-requires (search needs) slice-aggregate-row-lines
+    row-lines-requires (search needs) returns-2)

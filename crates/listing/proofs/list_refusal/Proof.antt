@@ -9,15 +9,6 @@ use Rattle.listing.proofs.list_refusal.Tie as tie
 returns : tie.Need-returns
 returns c = refusal-short (c .before .before .args .n) (c .before .before .args .text .now) (search needs)
 
-slice-aggregate-count-line : tie.Need-slice-aggregate-count-line
-slice-aggregate-count-line c = search needs
-
-count-line-requires : tie.Need-count-line-requires
-count-line-requires c κs = search needs
-
-same-length : tie.Need-same-length
-same-length c = search needs
-
 returns-2 : tie.Need-returns-2
 unfolding refusedLine line
 returns-2 c =
@@ -27,5 +18,4 @@ returns-2 c =
 
 pub list-refusal-spec : {M : Type 1} → statement M
 list-refusal-spec =
-    tie.close
-    (tie.spec returns slice-aggregate-count-line count-line-requires same-length returns-2)
+    tie.close (tie.spec returns (search needs) (search needs) (search needs) returns-2)

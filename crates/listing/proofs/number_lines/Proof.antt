@@ -6,23 +6,13 @@ use Rattle.listing.proofs.Lines.{spells-puts, number-lines}
 use Rattle.listing.proofs.number_lines.Statement.{statement}
 use Rattle.listing.proofs.number_lines.Tie as tie
 
-slice-aggregate-fill : tie.Need-slice-aggregate-fill
-slice-aggregate-fill c = search needs
-
-slice-aggregate-fill-2 : tie.Need-slice-aggregate-fill-2
-slice-aggregate-fill-2 c = search needs
-
 fill-requires : tie.Need-fill-requires
 unfolding filledAt filled bits hex
 fill-requires c κs = search needs
-
-same-length : tie.Need-same-length
-same-length c = search needs
 
 returns : tie.Need-returns
 returns c = spells-puts (number-lines (c .before .before .before .before .before .before .before .args .q)) (c .before .before .fill .ensures)
 
 pub number-lines-spec : {M : Type 1} → statement M
 number-lines-spec =
-    tie.close
-    (tie.spec slice-aggregate-fill slice-aggregate-fill-2 fill-requires same-length returns)
+    tie.close (tie.spec (search needs) (search needs) fill-requires (search needs) returns)

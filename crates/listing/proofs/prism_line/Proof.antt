@@ -9,33 +9,12 @@ use Rattle.listing.proofs.prism_line.Tie as tie
 enum-told : tie.Need-enum-told
 enum-told c = search needs
 
-slice-aggregate-put : tie.Need-slice-aggregate-put
-slice-aggregate-put c = search needs
-
-put-requires : tie.Need-put-requires
-put-requires c κs = search needs
-
-enum-known-prism : tie.Need-enum-known-prism
-enum-known-prism c = search needs
-
-slice-aggregate-fill : tie.Need-slice-aggregate-fill
-slice-aggregate-fill c = search needs
-
-slice-aggregate-fill-2 : tie.Need-slice-aggregate-fill-2
-slice-aggregate-fill-2 c = search needs
-
 fill-requires : tie.Need-fill-requires
 unfolding filledAt filled bits hex
 fill-requires c κs = search needs
 
-same-length : tie.Need-same-length
-same-length c = search needs
-
 returns : tie.Need-returns
 returns c = rw (c .before .before .before .before .before .enum-told .given .1) (spells-puts prism-none (c .before .before .put .ensures))
-
-same-length-2 : tie.Need-same-length-2
-same-length-2 c = search needs
 
 returns-2 : tie.Need-returns-2
 returns-2 c = rw (c .before .before .before .before .before .before .before .prism .given .1) (spells-puts (prism-bits _) (c .before .before .fill .ensures))
@@ -43,15 +22,5 @@ returns-2 c = rw (c .before .before .before .before .before .before .before .pri
 pub prism-line-spec : {M : Type 1} → statement M
 prism-line-spec =
     tie.close
-    (tie.spec
-    enum-told
-    slice-aggregate-put
-    put-requires
-    enum-known-prism
-    slice-aggregate-fill
-    slice-aggregate-fill-2
-    fill-requires
-    same-length
-    returns
-    same-length-2
-    returns-2)
+    (tie.spec enum-told (search needs) (search needs) (search needs) (search needs) (search needs) fill-requires
+    (search needs) returns (search needs) returns-2)

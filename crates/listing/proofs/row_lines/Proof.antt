@@ -19,41 +19,11 @@ loop-holds c =
     let l = lines-room (s .args .surfaces .now) (s .args .n) (s .pre .0) in
     (search needs, left-all (s .args .at) (linesFrom (s .args .surfaces .now) 0) (s .args .out .now) (omega (arith, s .pre .1)))
 
-slice-aggregate-fill : tie.Need-slice-aggregate-fill Inv-loop μ-loop
-slice-aggregate-fill c = search needs
-
-mul-fill : tie.Need-mul-fill Inv-loop μ-loop
-mul-fill c = search needs
-
-mul-fill-2 : tie.Need-mul-fill-2 Inv-loop μ-loop
-mul-fill-2 c = search needs
-
-add-fill : tie.Need-add-fill Inv-loop μ-loop
-add-fill c = search needs
-
-mul-fill-3 : tie.Need-mul-fill-3 Inv-loop μ-loop
-mul-fill-3 c = search needs
-
-sub-fill : tie.Need-sub-fill Inv-loop μ-loop
-sub-fill c = search needs
-
-part-fill-start : tie.Need-part-fill-start Inv-loop μ-loop
-part-fill-start c = search needs
-
-part-fill-end : tie.Need-part-fill-end Inv-loop μ-loop
-part-fill-end c = search needs
-
 fill-requires : tie.Need-fill-requires Inv-loop μ-loop
 fill-requires c κs =
     let l = c .before .before .before .before in
     let s = l .before .before .before .args .surfaces .now in
     left-room (l .loop .inv .1) (rowText s (l .loop .i)) (linesFrom s (l .loop .i + 1)) (lines-next s (l .loop .i) (search needs))
-
-add-i : tie.Need-add-i Inv-loop μ-loop
-add-i c = search needs
-
-loop-less : tie.Need-loop-less Inv-loop μ-loop
-loop-less c = search needs
 
 loop-again : tie.Need-loop-again Inv-loop μ-loop
 loop-again c =
@@ -61,30 +31,12 @@ loop-again c =
     let l = k .before .before .before .before .before in
     (search needs, left-less (l .loop .inv .1) _ _ (lines-next (l .before .before .before .args .surfaces .now) (l .loop .i) (search needs)) (k .fill .ensures))
 
-same-length : tie.Need-same-length Inv-loop μ-loop
-same-length c = search needs
-
 returns : tie.Need-returns Inv-loop μ-loop
 returns c = left-none (c .before .loop .inv .1) (lines-end (c .before .before .before .before .args .surfaces .now) (c .before .loop .i) (search needs))
 
 pub row-lines-spec : {M : Type 1} → statement M
 row-lines-spec =
     tie.close
-    (tie.spec
-    Inv-loop
-    μ-loop
-    loop-holds
-    slice-aggregate-fill
-    mul-fill
-    mul-fill-2
-    add-fill
-    mul-fill-3
-    sub-fill
-    part-fill-start
-    part-fill-end
-    fill-requires
-    add-i
-    loop-less
-    loop-again
-    same-length
+    (tie.spec Inv-loop μ-loop loop-holds (search needs) (search needs) (search needs) (search needs) (search needs)
+    (search needs) (search needs) (search needs) fill-requires (search needs) (search needs) loop-again (search needs)
     returns)

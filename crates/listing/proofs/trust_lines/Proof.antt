@@ -6,45 +6,6 @@ use Rattle.listing.proofs.Lines.{spells-puts, at-number, quality-line, 
 use Rattle.listing.proofs.trust_lines.Statement.{statement}
 use Rattle.listing.proofs.trust_lines.Tie as tie
 
-slice-aggregate-put-line : tie.Need-slice-aggregate-put-line
-slice-aggregate-put-line c = search needs
-
-quality-number-requires : tie.Need-quality-number-requires
-quality-number-requires c κs = search needs
-
-put-line-requires : tie.Need-put-line-requires
-put-line-requires c κs = search needs
-
-slice-aggregate-put-line-2 : tie.Need-slice-aggregate-put-line-2
-slice-aggregate-put-line-2 c = search needs
-
-cast-put-line : tie.Need-cast-put-line
-cast-put-line c = search needs
-
-put-line-requires-2 : tie.Need-put-line-requires-2
-put-line-requires-2 c κs = search needs
-
-slice-aggregate-put-line-3 : tie.Need-slice-aggregate-put-line-3
-slice-aggregate-put-line-3 c = search needs
-
-method-number-requires : tie.Need-method-number-requires
-method-number-requires c κs = search needs
-
-put-line-requires-3 : tie.Need-put-line-requires-3
-put-line-requires-3 c κs = search needs
-
-slice-aggregate-put-line-4 : tie.Need-slice-aggregate-put-line-4
-slice-aggregate-put-line-4 c = search needs
-
-profile-number-requires : tie.Need-profile-number-requires
-profile-number-requires c κs = search needs
-
-put-line-requires-4 : tie.Need-put-line-requires-4
-put-line-requires-4 c κs = search needs
-
-same-length : tie.Need-same-length
-same-length c = search needs
-
 returns : tie.Need-returns
 unfolding trustLines
 returns c =
@@ -62,18 +23,5 @@ returns c =
 pub trust-lines-spec : {M : Type 1} → statement M
 trust-lines-spec =
     tie.close
-    (tie.spec
-    slice-aggregate-put-line
-    quality-number-requires
-    put-line-requires
-    slice-aggregate-put-line-2
-    cast-put-line
-    put-line-requires-2
-    slice-aggregate-put-line-3
-    method-number-requires
-    put-line-requires-3
-    slice-aggregate-put-line-4
-    profile-number-requires
-    put-line-requires-4
-    same-length
-    returns)
+    (tie.spec (search needs) (search needs) (search needs) (search needs) (search needs) (search needs) (search needs)
+    (search needs) (search needs) (search needs) (search needs) (search needs) (search needs) returns)

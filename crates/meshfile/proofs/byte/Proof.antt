@@ -4,9 +4,6 @@ use borrow.Author.Needs.{needs}
 use Rattle.meshfile.proofs.byte.Statement.{statement}
 use Rattle.meshfile.proofs.byte.Tie as tie
 
-shared-slice-read-result : tie.Need-shared-slice-read-result
-shared-slice-read-result c = search needs
-
 cast-result : tie.Need-cast-result
 cast-result c = omega (arith, c .shared-slice-known .given (c .before .args .at))
 
@@ -14,4 +11,5 @@ returns : tie.Need-returns
 returns c = (search needs, omega (arith, c .shared-slice-known .given (c .before .args .at)))
 
 pub byte-spec : {M : Type 1} → statement M
-byte-spec = tie.close (tie.spec shared-slice-read-result cast-result returns)
+byte-spec =
+    tie.close (tie.spec (search needs) cast-result returns)

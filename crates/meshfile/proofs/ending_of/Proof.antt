@@ -11,15 +11,6 @@ use Rattle.meshfile.proofs.ending_of.Tie as tie
 returns : tie.Need-returns
 returns c = ending-none (now (c .before .before .args .bytes)) (c .if1 .taken)
 
-front-of-requires : tie.Need-front-of-requires
-front-of-requires c κs = search needs
-
-enum-known-found : tie.Need-enum-known-found
-enum-known-found c = search needs
-
-enum-known-found-2 : tie.Need-enum-known-found-2
-enum-known-found-2 c = search needs
-
 flags-in-requires : tie.Need-flags-in-requires
 flags-in-requires c κs = flags-front _ (now (c .before .before .before .before .before .before .args .bytes)) (sym (c .before .before .before .front-of .ensures) ∙ c .before .found2 .given .1)
 
@@ -36,12 +27,4 @@ returns-3 c =
 
 pub ending-of-spec : {M : Type 1} → statement M
 ending-of-spec =
-    tie.close
-    (tie.spec
-    returns
-    front-of-requires
-    enum-known-found
-    enum-known-found-2
-    flags-in-requires
-    returns-2
-    returns-3)
+    tie.close (tie.spec returns (search needs) (search needs) (search needs) flags-in-requires returns-2 returns-3)

@@ -7,15 +7,6 @@ use Rattle.meshfile.proofs.Endings.{flags-unknown, bytes-behind, flags-
 use Rattle.meshfile.proofs.flags_in.Statement.{statement}
 use Rattle.meshfile.proofs.flags_in.Tie as tie
 
-byte-requires : tie.Need-byte-requires
-byte-requires c κs = search needs
-
-byte-requires-2 : tie.Need-byte-requires-2
-byte-requires-2 c κs = search needs
-
-flags-fit-requires : tie.Need-flags-fit-requires
-flags-fit-requires c κs = search needs
-
 returns : tie.Need-returns
 returns c =
     let s = c .before .before .before .before .before .args in
@@ -23,9 +14,6 @@ returns c =
     let defect = c .before .before .byte2 in
     let fit = c .before .flags-fit in
     flags-unknown (s .n) (clip .result) (defect .result) (s .bytes .now) (clip .ensures .0) (defect .ensures .0) (sym (fit .ensures) ∙ not-true (fit .result) (c .if1 .taken))
-
-add-if2 : tie.Need-add-if2
-add-if2 c = search needs
 
 returns-2 : tie.Need-returns-2
 returns-2 c =
@@ -45,5 +33,4 @@ returns-3 c =
 
 pub flags-in-spec : {M : Type 1} → statement M
 flags-in-spec =
-    tie.close
-    (tie.spec byte-requires byte-requires-2 flags-fit-requires returns add-if2 returns-2 returns-3)
+    tie.close (tie.spec (search needs) (search needs) (search needs) returns (search needs) returns-2 returns-3)

@@ -12,22 +12,10 @@ returns c =
     let s = c .before .before .args in
     header-cut (s .kind) (s .bytes .now) (omega (arith, c .if1 .taken))
 
-half-requires : tie.Need-half-requires
-half-requires c κs = search needs
-
 returns-2 : tie.Need-returns-2
 returns-2 c =
     let s = c .before .before .before .before .args in
     wrong-kind (s .kind) (s .bytes .now) (omega (arith, c .before .before .if1 .left)) (λ q. c .if2 .taken (c .before .half .ensures ∙ q))
-
-word-requires : tie.Need-word-requires
-word-requires c κs = search needs
-
-cast-n : tie.Need-cast-n
-cast-n c = search needs
-
-length-fits-requires : tie.Need-length-fits-requires
-length-fits-requires c κs = search needs
 
 returns-3 : tie.Need-returns-3
 returns-3 c =
@@ -44,9 +32,6 @@ returns-4 c =
     let size = c .before .before .before .word in
     let fit = c .before .before .length-fits in
     too-many (s .kind) (s .bytes .now) (omega (arith, c .before .before .before .before .before .before .if1 .left)) same (size .result) (sym (size .ensures)) (sym (fit .ensures) ∙ not-false (fit .result) (c .before .if3 .left)) (omega (arith, c .if4 .taken))
-
-add-if5 : tie.Need-add-if5
-add-if5 c = search needs
 
 returns-5 : tie.Need-returns-5
 returns-5 c =
@@ -67,15 +52,5 @@ returns-6 c =
 pub front-of-spec : {M : Type 1} → statement M
 front-of-spec =
     tie.close
-    (tie.spec
-    returns
-    half-requires
-    returns-2
-    word-requires
-    cast-n
-    length-fits-requires
-    returns-3
-    returns-4
-    add-if5
-    returns-5
-    returns-6)
+    (tie.spec returns (search needs) returns-2 (search needs) (search needs) (search needs) returns-3 returns-4
+    (search needs) returns-5 returns-6)

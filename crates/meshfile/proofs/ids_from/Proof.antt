@@ -8,15 +8,6 @@ use Rattle.meshfile.proofs.Fronts.{room-of, rest-is}
 use Rattle.meshfile.proofs.ids_from.Statement.{statement}
 use Rattle.meshfile.proofs.ids_from.Tie as tie
 
-front-of-requires : tie.Need-front-of-requires
-front-of-requires c κs = search needs
-
-enum-known-found : tie.Need-enum-known-found
-enum-known-found c = search needs
-
-enum-known-found-2 : tie.Need-enum-known-found-2
-enum-known-found-2 c = search needs
-
 add-ending-of : tie.Need-add-ending-of
 add-ending-of c = omega (arith, room-of 3 _ (now (c .before .before .before .before .before .args .bytes)) _ (c .before .before .before .front-of .ensures) (c .before .found2 .given .1))
 
@@ -25,15 +16,6 @@ sub-ending-of c = room-of 3 _ (now (c .before .before .before .before .before .a
 
 part-ending-of-start : tie.Need-part-ending-of-start
 part-ending-of-start c = room-of 3 _ (now (c .before .before .before .before .before .args .bytes)) _ (c .before .before .before .front-of .ensures) (c .before .found2 .given .1)
-
-part-ending-of-end : tie.Need-part-ending-of-end
-part-ending-of-end c = search needs
-
-ending-of-requires : tie.Need-ending-of-requires
-ending-of-requires c κs = search needs
-
-parts-by-requires : tie.Need-parts-by-requires
-parts-by-requires c κs = search needs
 
 returns : tie.Need-returns
 unfolding idsFrom
@@ -46,15 +28,5 @@ returns-2 c = rw (← c .before .before .before .before .before .before .front-o
 pub ids-from-spec : {M : Type 1} → statement M
 ids-from-spec =
     tie.close
-    (tie.spec
-    front-of-requires
-    enum-known-found
-    enum-known-found-2
-    add-ending-of
-    sub-ending-of
-    part-ending-of-start
-    part-ending-of-end
-    ending-of-requires
-    parts-by-requires
-    returns
-    returns-2)
+    (tie.spec (search needs) (search needs) (search needs) add-ending-of sub-ending-of part-ending-of-start
+    (search needs) (search needs) (search needs) returns returns-2)

@@ -8,15 +8,6 @@ use Rattle.meshfile.proofs.Fronts.{room-of, rest-is}
 use Rattle.meshfile.proofs.layout_of.Statement.{statement}
 use Rattle.meshfile.proofs.layout_of.Tie as tie
 
-front-of-requires : tie.Need-front-of-requires
-front-of-requires c κs = search needs
-
-enum-known-found : tie.Need-enum-known-found
-enum-known-found c = search needs
-
-enum-known-found-2 : tie.Need-enum-known-found-2
-enum-known-found-2 c = search needs
-
 add-vertices-from : tie.Need-add-vertices-from
 add-vertices-from c = omega (arith, room-of 1 _ (now (c .before .before .before .before .before .args .bytes)) _ (c .before .before .before .front-of .ensures) (c .before .found2 .given .1))
 
@@ -25,12 +16,6 @@ sub-vertices-from c = room-of 1 _ (now (c .before .before .before .before .befor
 
 part-vertices-from-start : tie.Need-part-vertices-from-start
 part-vertices-from-start c = room-of 1 _ (now (c .before .before .before .before .before .args .bytes)) _ (c .before .before .before .front-of .ensures) (c .before .found2 .given .1)
-
-part-vertices-from-end : tie.Need-part-vertices-from-end
-part-vertices-from-end c = search needs
-
-vertices-from-requires : tie.Need-vertices-from-requires
-vertices-from-requires c κs = search needs
 
 returns : tie.Need-returns
 unfolding layoutOf unitFrom
@@ -43,14 +28,5 @@ returns-2 c = rw (← c .before .before .before .before .before .front-of .ensur
 pub layout-of-spec : {M : Type 1} → statement M
 layout-of-spec =
     tie.close
-    (tie.spec
-    front-of-requires
-    enum-known-found
-    enum-known-found-2
-    add-vertices-from
-    sub-vertices-from
-    part-vertices-from-start
-    part-vertices-from-end
-    vertices-from-requires
-    returns
-    returns-2)
+    (tie.spec (search needs) (search needs) (search needs) add-vertices-from sub-vertices-from part-vertices-from-start
+    (search needs) (search needs) returns returns-2)

@@ -17,4 +17,5 @@ unfolding lengthFits
 returns-3 c = rw (ne-eqb _ _ (c .before .if1 .left), ne-eqb _ _ (c .if2 .left))
 
 pub length-fits-spec : {M : Type 1} → statement M
-length-fits-spec = tie.close (tie.spec returns returns-2 returns-3)
+length-fits-spec =
+    tie.close (tie.spec returns returns-2 returns-3)

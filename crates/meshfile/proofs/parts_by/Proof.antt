@@ -4,12 +4,6 @@ use Rattle.meshfile.specs.Steps.{partsBy}
 use Rattle.meshfile.proofs.parts_by.Statement.{statement}
 use Rattle.meshfile.proofs.parts_by.Tie as tie
 
-enum-known-end : tie.Need-enum-known-end
-enum-known-end c = search needs
-
-enum-known-end-2 : tie.Need-enum-known-end-2
-enum-known-end-2 c = search needs
-
 returns : tie.Need-returns
 unfolding partsBy
 returns c = rw (c .before .end .given .1)
@@ -19,4 +13,5 @@ unfolding partsBy
 returns-2 c = rw (c .before .end2 .given .1)
 
 pub parts-by-spec : {M : Type 1} → statement M
-parts-by-spec = tie.close (tie.spec enum-known-end enum-known-end-2 returns returns-2)
+parts-by-spec =
+    tie.close (tie.spec (search needs) (search needs) returns returns-2)

@@ -18,35 +18,11 @@ abbrev μ-loop : tie.MeasureT-loop
 loop-holds : tie.Need-loop-holds Inv-loop μ-loop
 loop-holds c = (omega arith, refl, put-none (ofBits binary32) (c .before .before .args .bytes .now) (c .before .before .args .vertices .now))
 
-mul-word : tie.Need-mul-word Inv-loop μ-loop
-mul-word c = search needs
-
-word-requires : tie.Need-word-requires Inv-loop μ-loop
-word-requires c κs = search needs
-
-f32-of-requires : tie.Need-f32-of-requires Inv-loop μ-loop
-f32-of-requires c κs = search needs
-
-mul-vertices : tie.Need-mul-vertices Inv-loop μ-loop
-mul-vertices c = search needs
-
-slice-write-vertices : tie.Need-slice-write-vertices Inv-loop μ-loop
-slice-write-vertices c = search needs
-
-add-i : tie.Need-add-i Inv-loop μ-loop
-add-i c = search needs
-
-loop-less : tie.Need-loop-less Inv-loop μ-loop
-loop-less c = search needs
-
 loop-again : tie.Need-loop-again Inv-loop μ-loop
 loop-again c =
     let b = c .before .before .before .before .before .before .args .bytes .now in
     let l = c .before .before .before .loop in
     (search needs, search needs, rw (c .f32-of .ensures) (put-next (ofBits binary32) b (l .i) (l .vertices) (c .before .word .result) (omega arith) (omega arith) (c .before .word .ensures) (l .inv .2)))
-
-same-length : tie.Need-same-length Inv-loop μ-loop
-same-length c = search needs
 
 returns : tie.Need-returns Inv-loop μ-loop
 returns c =
@@ -57,17 +33,5 @@ returns c =
 pub put-floats-spec : {M : Type 1} → statement M
 put-floats-spec =
     tie.close
-    (tie.spec
-    Inv-loop
-    μ-loop
-    loop-holds
-    mul-word
-    word-requires
-    f32-of-requires
-    mul-vertices
-    slice-write-vertices
-    add-i
-    loop-less
-    loop-again
-    same-length
-    returns)
+    (tie.spec Inv-loop μ-loop loop-holds (search needs) (search needs) (search needs) (search needs) (search needs)
+    (search needs) (search needs) loop-again (search needs) returns)

@@ -4,15 +4,6 @@ use Rattle.meshfile.proofs.Gives.{refused, short, given, fits}
 use Rattle.meshfile.proofs.read.Statement.{statement}
 use Rattle.meshfile.proofs.read.Tie as tie
 
-layout-of-requires : tie.Need-layout-of-requires
-layout-of-requires c κs = search needs
-
-enum-known-found : tie.Need-enum-known-found
-enum-known-found c = search needs
-
-enum-known-found-2 : tie.Need-enum-known-found-2
-enum-known-found-2 c = search needs
-
 returns : tie.Need-returns
 returns c =
     let s = c .before .before .before .before .before .before .before .before .before .before .args in
@@ -33,12 +24,6 @@ returns-2 c =
     let l = c .before .before .before .layout-of in
     refused (s .bytes .now) (s .vertices .now) (s .ids .now) _ (l .result) (l .ensures) (c .before .found .given .1)
 
-same-length : tie.Need-same-length
-same-length c = search needs
-
-same-length-2 : tie.Need-same-length-2
-same-length-2 c = search needs
-
 returns-3 : tie.Need-returns-3
 returns-3 c =
     let s = c .before .before .before .before .before .before .before .before .before .before .before .before .before .before .before .before .before .args in
@@ -49,13 +34,5 @@ returns-3 c =
 pub read-spec : {M : Type 1} → statement M
 read-spec =
     tie.close
-    (tie.spec
-    layout-of-requires
-    enum-known-found
-    enum-known-found-2
-    returns
-    fill-requires
-    returns-2
-    same-length
-    same-length-2
+    (tie.spec (search needs) (search needs) (search needs) returns fill-requires returns-2 (search needs) (search needs)
     returns-3)

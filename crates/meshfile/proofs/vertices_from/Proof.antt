@@ -8,15 +8,6 @@ use Rattle.meshfile.proofs.Fronts.{room-of, rest-is}
 use Rattle.meshfile.proofs.vertices_from.Statement.{statement}
 use Rattle.meshfile.proofs.vertices_from.Tie as tie
 
-front-of-requires : tie.Need-front-of-requires
-front-of-requires c κs = search needs
-
-enum-known-found : tie.Need-enum-known-found
-enum-known-found c = search needs
-
-enum-known-found-2 : tie.Need-enum-known-found-2
-enum-known-found-2 c = search needs
-
 add-ids-from : tie.Need-add-ids-from
 add-ids-from c = omega (arith, room-of 2 _ (now (c .before .before .before .before .before .args .bytes)) _ (c .before .before .before .front-of .ensures) (c .before .found2 .given .1))
 
@@ -25,12 +16,6 @@ sub-ids-from c = room-of 2 _ (now (c .before .before .before .before .before .ar
 
 part-ids-from-start : tie.Need-part-ids-from-start
 part-ids-from-start c = room-of 2 _ (now (c .before .before .before .before .before .args .bytes)) _ (c .before .before .before .front-of .ensures) (c .before .found2 .given .1)
-
-part-ids-from-end : tie.Need-part-ids-from-end
-part-ids-from-end c = search needs
-
-ids-from-requires : tie.Need-ids-from-requires
-ids-from-requires c κs = search needs
 
 returns : tie.Need-returns
 unfolding verticesFrom
@@ -43,14 +28,5 @@ returns-2 c = rw (← c .before .before .before .before .before .front-of .ensur
 pub vertices-from-spec : {M : Type 1} → statement M
 vertices-from-spec =
     tie.close
-    (tie.spec
-    front-of-requires
-    enum-known-found
-    enum-known-found-2
-    add-ids-from
-    sub-ids-from
-    part-ids-from-start
-    part-ids-from-end
-    ids-from-requires
-    returns
-    returns-2)
+    (tie.spec (search needs) (search needs) (search needs) add-ids-from sub-ids-from part-ids-from-start (search needs)
+    (search needs) returns returns-2)

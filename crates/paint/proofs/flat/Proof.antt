@@ -3,35 +3,10 @@ use borrow.Author.Needs.{needs}
 use Rattle.paint.proofs.flat.Statement.{statement}
 use Rattle.paint.proofs.flat.Tie as tie
 
-coordinate-requires : tie.Need-coordinate-requires
-coordinate-requires c κs = search needs
-
-coordinate-requires-2 : tie.Need-coordinate-requires-2
-coordinate-requires-2 c κs = search needs
-
-coordinate-requires-3 : tie.Need-coordinate-requires-3
-coordinate-requires-3 c κs = search needs
-
-coordinate-requires-4 : tie.Need-coordinate-requires-4
-coordinate-requires-4 c κs = search needs
-
-coordinate-requires-5 : tie.Need-coordinate-requires-5
-coordinate-requires-5 c κs = search needs
-
-coordinate-requires-6 : tie.Need-coordinate-requires-6
-coordinate-requires-6 c κs = search needs
-
 returns : tie.Need-returns
 returns c = λ i. record { ax = c .before .before .before .before .before .coordinate .ensures i; ay = c .before .before .before .before .coordinate2 .ensures i; bx = c .before .before .before .coordinate3 .ensures i; by = c .before .before .coordinate4 .ensures i; cx = c .before .coordinate5 .ensures i; cy = c .coordinate6 .ensures i }
 
 pub flat-spec : {M : Type 1} → statement M
 flat-spec =
     tie.close
-    (tie.spec
-    coordinate-requires
-    coordinate-requires-2
-    coordinate-requires-3
-    coordinate-requires-4
-    coordinate-requires-5
-    coordinate-requires-6
-    returns)
+    (tie.spec (search needs) (search needs) (search needs) (search needs) (search needs) (search needs) returns)

@@ -6,18 +6,6 @@ use Rattle.paint.proofs.Painting.{adds-false, adds-again, adds-one}
 use Rattle.paint.proofs.mark.Statement.{statement}
 use Rattle.paint.proofs.mark.Tie as tie
 
-slice-read-if1 : tie.Need-slice-read-if1
-slice-read-if1 c = search needs
-
-point-in-triangle-requires : tie.Need-point-in-triangle-requires
-point-in-triangle-requires c κs = search needs
-
-slice-write-part : tie.Need-slice-write-part
-slice-write-part c = search needs
-
-same-length : tie.Need-same-length
-same-length c = search needs
-
 returns : tie.Need-returns
 returns c =
     let s = c .before .before .before .before .before in
@@ -37,12 +25,4 @@ returns-3 c =
 
 pub mark-spec : {M : Type 1} → statement M
 mark-spec =
-    tie.close
-    (tie.spec
-    slice-read-if1
-    point-in-triangle-requires
-    slice-write-part
-    same-length
-    returns
-    returns-2
-    returns-3)
+    tie.close (tie.spec (search needs) (search needs) (search needs) (search needs) returns returns-2 returns-3)

@@ -5,27 +5,6 @@ use Rattle.paint.proofs.Covering.{fills-in, fills-out}
 use Rattle.paint.proofs.paint.Statement.{statement}
 use Rattle.paint.proofs.paint.Tie as tie
 
-counts-requires : tie.Need-counts-requires
-counts-requires c κs = search needs
-
-first-cell-requires : tie.Need-first-cell-requires
-first-cell-requires c κs = search needs
-
-last-cell-requires : tie.Need-last-cell-requires
-last-cell-requires c κs = search needs
-
-first-cell-requires-2 : tie.Need-first-cell-requires-2
-first-cell-requires-2 c κs = search needs
-
-last-cell-requires-2 : tie.Need-last-cell-requires-2
-last-cell-requires-2 c κs = search needs
-
-paint-box-requires : tie.Need-paint-box-requires
-paint-box-requires c κs = search needs
-
-same-length : tie.Need-same-length
-same-length c = search needs
-
 returns : tie.Need-returns
 returns c =
     let a = c .before .before .before .before .before .before .before .before .before .before .before .args in
@@ -43,13 +22,5 @@ returns-2 c =
 pub paint-spec : {M : Type 1} → statement M
 paint-spec =
     tie.close
-    (tie.spec
-    counts-requires
-    first-cell-requires
-    last-cell-requires
-    first-cell-requires-2
-    last-cell-requires-2
-    paint-box-requires
-    same-length
-    returns
-    returns-2)
+    (tie.spec (search needs) (search needs) (search needs) (search needs) (search needs) (search needs) (search needs)
+    returns returns-2)

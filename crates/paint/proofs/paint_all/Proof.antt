@@ -21,24 +21,12 @@ loop-holds c =
     let a = c .before .before .before .args in
     (omega arith, refl, covered-first (a .vertices .now) (a .u) (a .v) (a .g) (a .ids .now) (a .part .now))
 
-paint-triangle-requires : tie.Need-paint-triangle-requires Inv-loop μ-loop
-paint-triangle-requires c κs = search needs
-
-add-t : tie.Need-add-t Inv-loop μ-loop
-add-t c = search needs
-
-loop-less : tie.Need-loop-less Inv-loop μ-loop
-loop-less c = search needs
-
 loop-again : tie.Need-loop-again Inv-loop μ-loop
 loop-again c =
     let a = c .before .before .before .before .before .before .before .before .before .args in
     let l = c .before .before .before .before .before .loop in
     let p = c .before .before .paint-triangle in
     (omega arith, omega (arith, p .kept, l .inv .1), covered-next (a .vertices .now) (a .u) (a .v) (a .g) (a .ids .now) (l .t) (l .inv .2) (p .ensures))
-
-same-length : tie.Need-same-length Inv-loop μ-loop
-same-length c = search needs
 
 returns : tie.Need-returns Inv-loop μ-loop
 returns c =
@@ -49,13 +37,4 @@ returns c =
 pub paint-all-spec : {M : Type 1} → statement M
 paint-all-spec =
     tie.close
-    (tie.spec
-    Inv-loop
-    μ-loop
-    loop-holds
-    paint-triangle-requires
-    add-t
-    loop-less
-    loop-again
-    same-length
-    returns)
+    (tie.spec Inv-loop μ-loop loop-holds (search needs) (search needs) (search needs) loop-again (search needs) returns)

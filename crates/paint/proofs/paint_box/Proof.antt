@@ -20,24 +20,12 @@ loop-holds c =
     let a = c .before .args in
     (omega arith, omega arith, refl, box-first (a .g) (a .t) (a .lo) (a .hi) (a .first) (a .part .now))
 
-paint-row-requires : tie.Need-paint-row-requires Inv-loop μ-loop
-paint-row-requires c κs = search needs
-
-add-j : tie.Need-add-j Inv-loop μ-loop
-add-j c = search needs
-
-loop-less : tie.Need-loop-less Inv-loop μ-loop
-loop-less c = search needs
-
 loop-again : tie.Need-loop-again Inv-loop μ-loop
 loop-again c =
     let a = c .before .before .before .before .before .before .before .args in
     let l = c .before .before .before .before .before .loop in
     let p = c .before .before .paint-row in
     (omega arith, omega arith, omega (arith, p .kept, l .inv .2), box-next (a .g) (a .t) (a .lo) (a .hi) (a .first) (l .j) (omega arith) (l .inv .3) (p .ensures))
-
-same-length : tie.Need-same-length Inv-loop μ-loop
-same-length c = search needs
 
 returns : tie.Need-returns Inv-loop μ-loop
 returns c =
@@ -48,13 +36,4 @@ returns c =
 pub paint-box-spec : {M : Type 1} → statement M
 paint-box-spec =
     tie.close
-    (tie.spec
-    Inv-loop
-    μ-loop
-    loop-holds
-    paint-row-requires
-    add-j
-    loop-less
-    loop-again
-    same-length
-    returns)
+    (tie.spec Inv-loop μ-loop loop-holds (search needs) (search needs) (search needs) loop-again (search needs) returns)

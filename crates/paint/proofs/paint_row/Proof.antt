@@ -18,9 +18,6 @@ abbrev μ-loop : tie.MeasureT-loop
 mul-row : tie.Need-mul-row Inv-loop μ-loop
 mul-row c = let a = c .before .before .args in omega (arith, in-grid (a .g .nx) (a .g .ny) 0 (a .j) (omega arith) (omega arith))
 
-centre-requires : tie.Need-centre-requires Inv-loop μ-loop
-centre-requires c κs = search needs
-
 loop-holds : tie.Need-loop-holds Inv-loop μ-loop
 loop-holds c =
     let a = c .before .before .before .args in
@@ -29,20 +26,11 @@ loop-holds c =
 add-mark : tie.Need-add-mark Inv-loop μ-loop
 add-mark c = let a = c .before .before .before .before .before .before .args in omega (arith, in-grid (a .g .nx) (a .g .ny) (c .before .before .loop .i) (a .j) (omega arith) (omega arith))
 
-centre-requires-2 : tie.Need-centre-requires-2 Inv-loop μ-loop
-centre-requires-2 c κs = search needs
-
 mark-requires : tie.Need-mark-requires Inv-loop μ-loop
 mark-requires c κs =
     let a = c .before .before .before .before .before .before .before .args in
     let l = c .before .before .before .loop in
     omega (arith, in-grid (a .g .nx) (a .g .ny) (l .i) (a .j) (omega arith) (omega arith), l .inv .2)
-
-add-i : tie.Need-add-i Inv-loop μ-loop
-add-i c = search needs
-
-loop-less : tie.Need-loop-less Inv-loop μ-loop
-loop-less c = search needs
 
 loop-again : tie.Need-loop-again Inv-loop μ-loop
 loop-again c =
@@ -53,9 +41,6 @@ loop-again c =
     let y = c .before .before .before .before .before .before .before .centre in
     (omega arith, omega arith, omega (arith, m .kept, l .inv .2), row-next (a .g) (a .t) (a .j) (a .lo) (l .i) (x .result) (y .result) (omega arith) (omega arith) (x .ensures) (y .ensures) (l .inv .3) (m .ensures))
 
-same-length : tie.Need-same-length Inv-loop μ-loop
-same-length c = search needs
-
 returns : tie.Need-returns Inv-loop μ-loop
 returns c =
     let a = c .before .before .before .before .before .args in
@@ -65,17 +50,5 @@ returns c =
 pub paint-row-spec : {M : Type 1} → statement M
 paint-row-spec =
     tie.close
-    (tie.spec
-    Inv-loop
-    μ-loop
-    mul-row
-    centre-requires
-    loop-holds
-    add-mark
-    centre-requires-2
-    mark-requires
-    add-i
-    loop-less
-    loop-again
-    same-length
-    returns)
+    (tie.spec Inv-loop μ-loop mul-row (search needs) loop-holds add-mark (search needs) mark-requires (search needs)
+    (search needs) loop-again (search needs) returns)

@@ -7,36 +7,6 @@ use Rattle.paint.proofs.Covering.{covers-in, covers-out}
 use Rattle.paint.proofs.paint_triangle.Statement.{statement}
 use Rattle.paint.proofs.paint_triangle.Tie as tie
 
-mul-at : tie.Need-mul-at
-mul-at c = search needs
-
-mul-a : tie.Need-mul-a
-mul-a c = search needs
-
-shared-slice-read-a : tie.Need-shared-slice-read-a
-shared-slice-read-a c = search needs
-
-add-b : tie.Need-add-b
-add-b c = search needs
-
-mul-b : tie.Need-mul-b
-mul-b c = search needs
-
-shared-slice-read-b : tie.Need-shared-slice-read-b
-shared-slice-read-b c = search needs
-
-add-c : tie.Need-add-c
-add-c c = search needs
-
-mul-c : tie.Need-mul-c
-mul-c c = search needs
-
-shared-slice-read-c : tie.Need-shared-slice-read-c
-shared-slice-read-c c = search needs
-
-corners-in-range-requires : tie.Need-corners-in-range-requires
-corners-in-range-requires c κs = search needs
-
 flat-requires : tie.Need-flat-requires
 unfolding triangle
 flat-requires c κs =
@@ -44,12 +14,6 @@ flat-requires c κs =
     let a = s .args in
     let below = corners-below (a .vertices .now) (triangle (a .ids .now) (a .t)) (sym (c .before .before .corners-in-range .ensures) ∙ c .before .if1 .taken) in
     (s .pre .1, s .pre .2, below .0, below .1, below .2)
-
-paint-requires : tie.Need-paint-requires
-paint-requires c κs = search needs
-
-same-length : tie.Need-same-length
-same-length c = search needs
 
 returns : tie.Need-returns
 unfolding triangle
@@ -66,19 +30,5 @@ returns-2 c =
 pub paint-triangle-spec : {M : Type 1} → statement M
 paint-triangle-spec =
     tie.close
-    (tie.spec
-    mul-at
-    mul-a
-    shared-slice-read-a
-    add-b
-    mul-b
-    shared-slice-read-b
-    add-c
-    mul-c
-    shared-slice-read-c
-    corners-in-range-requires
-    flat-requires
-    paint-requires
-    same-length
-    returns
-    returns-2)
+    (tie.spec (search needs) (search needs) (search needs) (search needs) (search needs) (search needs) (search needs)
+    (search needs) (search needs) (search needs) flat-requires (search needs) (search needs) returns returns-2)

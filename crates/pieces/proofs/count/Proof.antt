@@ -29,12 +29,6 @@ one-root-requires c κs =
 add-roots : tie.Need-add-roots Inv-loop μ-loop
 add-roots c = omega (arith, c .one-root .ensures .1, c .before .before .before .before .before .pre)
 
-add-t : tie.Need-add-t Inv-loop μ-loop
-add-t c = search needs
-
-loop-less : tie.Need-loop-less Inv-loop μ-loop
-loop-less c = search needs
-
 loop-again : tie.Need-loop-again Inv-loop μ-loop
 loop-again c =
     let one-root = c .one-root in
@@ -52,13 +46,4 @@ returns c =
 pub count-spec : {M : Type 1} → statement M
 count-spec =
     tie.close
-    (tie.spec
-    Inv-loop
-    μ-loop
-    loop-holds
-    one-root-requires
-    add-roots
-    add-t
-    loop-less
-    loop-again
-    returns)
+    (tie.spec Inv-loop μ-loop loop-holds one-root-requires add-roots (search needs) (search needs) loop-again returns)

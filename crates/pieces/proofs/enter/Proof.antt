@@ -13,9 +13,6 @@ use Rattle.pieces.proofs.Rows.{followed-past, followed-free, entered-sa
 use Rattle.pieces.proofs.enter.Statement.{statement}
 use Rattle.pieces.proofs.enter.Tie as tie
 
-distinct-at-requires : tie.Need-distinct-at-requires
-distinct-at-requires c κs = search needs
-
 returns : tie.Need-returns
 unfolding solid
 returns c =
@@ -24,23 +21,11 @@ returns c =
     let flat : solid (s .args .ids .now) (s .args .c / 3) ≡ false = sym (solid-call .ensures) ∙ not-true (solid-call .result) (c .if1 .taken) in
     entered-same (s .pre .3) (λ e y. true≢false (sym y ∙ flat)) (λ f y. absurd (true≢false (sym y ∙ flat))) (λ free some. refl)
 
-seek-requires : tie.Need-seek-requires
-seek-requires c κs = search needs
-
-same-length : tie.Need-same-length
-same-length c = search needs
-
 returns-2 : tie.Need-returns-2
 returns-2 c =
     let q = c .before .seek .ensures in
     let s = c .before .before .before .before .before .before .before in
     entered-same (s .pre .3) (λ e y. true≢false (sym e)) (followed-past (s .pre .3) (s .args .c) q (c .if2 .taken)) (λ free some. absurd (never-past (s .pre .2 .0) (home-in _ _ _ (omega arith)) q free (c .if2 .taken)))
-
-slot-requires : tie.Need-slot-requires
-slot-requires c κs = search needs
-
-sub-join : tie.Need-sub-join
-sub-join c = search needs
 
 join-requires : tie.Need-join-requires
 join-requires c κs =
@@ -48,9 +33,6 @@ join-requires c κs =
     let s = c .before .before .before .before .before .before .before .before .before .before .before in
     let lr : seek .result < length (s .args .work .now) = omega (arith, seek .ensures .within, c .before .before .before .before .if2 .left) in
     (omega (arith, c .before .before .slot .ensures, c .before .if3 .taken, s .pre .3 .corners (seek .result) lr), omega arith, omega arith, good-forest (s .pre .4))
-
-same-length-2 : tie.Need-same-length-2
-same-length-2 c = search needs
 
 returns-3 : tie.Need-returns-3
 unfolding solid
@@ -67,26 +49,11 @@ returns-3 c =
     let lr : seek .result < length t = omega (arith, q .within, c .before .before .before .before .before .before .before .if2 .left) in
     entered-joined ids t _ (s .args .odd) (s .args .limit) (s .args .spare) (s .args .c) (seek .result) (s .pre .3) q lr (s .pre .1) sc (slot .result) (slot .ensures) (join .kept .0) (c .before .before .before .before .if3 .taken) (join .ensures)
 
-same-length-3 : tie.Need-same-length-3
-same-length-3 c = search needs
-
 returns-4 : tie.Need-returns-4
 returns-4 c =
     let q = c .before .before .before .before .before .seek .ensures in
     let s = c .before .before .before .before .before .before .before .before .before .before .before in
     entered-same (s .pre .3) (λ e y. true≢false (sym e)) (followed-free (s .pre .3) (s .args .c) q (sym (c .before .before .slot .ensures) ∙ c .before .if3 .left)) (λ free some. absurd (omega arith))
-
-add-hold : tie.Need-add-hold
-add-hold c = search needs
-
-hold-requires : tie.Need-hold-requires
-hold-requires c κs = search needs
-
-sub-t14 : tie.Need-sub-t14
-sub-t14 c = search needs
-
-same-length-4 : tie.Need-same-length-4
-same-length-4 c = search needs
 
 returns-5 : tie.Need-returns-5
 unfolding solid
@@ -105,21 +72,6 @@ returns-5 c =
 pub enter-spec : {M : Type 1} → statement M
 enter-spec =
     tie.close
-    (tie.spec
-    distinct-at-requires
-    returns
-    seek-requires
-    same-length
-    returns-2
-    slot-requires
-    sub-join
-    join-requires
-    same-length-2
-    returns-3
-    same-length-3
-    returns-4
-    add-hold
-    hold-requires
-    sub-t14
-    same-length-4
+    (tie.spec (search needs) returns (search needs) (search needs) returns-2 (search needs) (search needs) join-requires
+    (search needs) returns-3 (search needs) returns-4 (search needs) (search needs) (search needs) (search needs)
     returns-5)

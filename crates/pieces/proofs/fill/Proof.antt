@@ -16,17 +16,8 @@ Inv-loop ids work₀ odd limit from n spare₀ c₀ work spare c = (length work 
 abbrev μ-loop : tie.MeasureT-loop
 μ-loop ids work₀ odd limit from n spare₀ c₀ work spare c = 3 * length work₀ - c
 
-mul-spare : tie.Need-mul-spare Inv-loop μ-loop
-mul-spare c = search needs
-
-add-spare : tie.Need-add-spare Inv-loop μ-loop
-add-spare c = search needs
-
 loop-holds : tie.Need-loop-holds Inv-loop μ-loop
 loop-holds c = let s = c .before .before in (refl, filling-none (s .pre .1) (s .pre .3) (omega arith))
-
-mul-loop : tie.Need-mul-loop Inv-loop μ-loop
-mul-loop c = search needs
 
 enter-requires : tie.Need-enter-requires Inv-loop μ-loop
 enter-requires c κs =
@@ -34,20 +25,11 @@ enter-requires c κs =
     let l = c .before .before .loop in
     ((omega arith, s .pre .0 .1), omega arith, (s .pre .2 .0, omega arith), rw (l .inv .0) (l .inv .1 .slots), labelled-then (s .pre .4) (l .inv .1 .more))
 
-same-length : tie.Need-same-length Inv-loop μ-loop
-same-length c = search needs
-
 returns : tie.Need-returns Inv-loop μ-loop
 returns c =
     let enter = c .before .before .before .before .enter in
     let l = c .before .before .before .before .before .before .before .loop in
     filled-short (l .inv .1) (rw (l .inv .0) at (enter .ensures)) (not-true (enter .result .entered) (c .if1 .taken))
-
-add-c : tie.Need-add-c Inv-loop μ-loop
-add-c c = search needs
-
-loop-less : tie.Need-loop-less Inv-loop μ-loop
-loop-less c = search needs
 
 loop-again : tie.Need-loop-again Inv-loop μ-loop
 loop-again c =
@@ -55,27 +37,11 @@ loop-again c =
     let l = c .before .before .before .before .before .before .before .loop in
     (omega (arith, enter .kept, l .inv .0), filling-next (l .inv .1) (rw (l .inv .0) at (enter .ensures)) (enter .result .spare) (omega arith) (not-false (enter .result .entered) (c .if1 .left)))
 
-same-length-2 : tie.Need-same-length-2 Inv-loop μ-loop
-same-length-2 c = search needs
-
 returns-2 : tie.Need-returns-2 Inv-loop μ-loop
 returns-2 c = filled-all (c .before .loop .inv .1) (omega arith)
 
 pub fill-spec : {M : Type 1} → statement M
 fill-spec =
     tie.close
-    (tie.spec
-    Inv-loop
-    μ-loop
-    mul-spare
-    add-spare
-    loop-holds
-    mul-loop
-    enter-requires
-    same-length
-    returns
-    add-c
-    loop-less
-    loop-again
-    same-length-2
-    returns-2)
+    (tie.spec Inv-loop μ-loop (search needs) (search needs) loop-holds (search needs) enter-requires (search needs)
+    returns (search needs) (search needs) loop-again (search needs) returns-2)

@@ -25,9 +25,6 @@ loop-holds c =
     let z = dist-here (length work) (s .args .at) (s .pre .1) in
     (s .pre .1, omega arith, s .pre .2 .0, λ j l d. absurd (omega arith))
 
-slot-requires : tie.Need-slot-requires Inv-loop μ-loop
-slot-requires c κs = search needs
-
 returns : tie.Need-returns Inv-loop μ-loop
 returns c =
     let s = c .before .before .before .before .before in
@@ -35,9 +32,6 @@ returns c =
     let ids = s .args .ids .now in
     let work = s .args .work .now in
     sought-here (length work) (s .args .limit) (s .args .at) (s .pre .1) (keyIn ids (slotIn work)) (slotIn work) (s .args .k) (l .r) (l .left) (l .inv .0) (l .inv .1) (l .inv .2) (l .inv .3) (λ u. absurd (omega (arith, c .before .slot .ensures, c .if1 .taken)))
-
-sub-key : tie.Need-sub-key Inv-loop μ-loop
-sub-key c = search needs
 
 key-requires : tie.Need-key-requires Inv-loop μ-loop
 key-requires c κs =
@@ -55,9 +49,6 @@ returns-2 c =
     let work = s .args .work .now in
     sought-here (length work) (s .args .limit) (s .args .at) (s .pre .1) (keyIn ids (slotIn work)) (slotIn work) (s .args .k) (l .r) (l .left) (l .inv .0) (l .inv .1) (l .inv .2) (l .inv .3) (λ u. ap (λ (x : ℕ). keyOf ids (x - 1)) (sym (c .before .before .before .slot .ensures)) ∙ sym (c .before .key .ensures) ∙ c .if2 .taken)
 
-sub-left : tie.Need-sub-left Inv-loop μ-loop
-sub-left c = search needs
-
 returns-3 : tie.Need-returns-3 Inv-loop μ-loop
 returns-3 c =
     let slot = c .before .before .before .before .slot in
@@ -67,12 +58,6 @@ returns-3 c =
     let work = s .args .work .now in
     let used : 0 < slotIn work (l .r) = omega (arith, slot .ensures, c .before .before .before .if1 .left) in
     sought-none (length work) (s .args .limit) (s .args .at) (s .pre .1) (keyIn ids (slotIn work)) (slotIn work) (s .args .k) (l .r) (l .left) (l .inv .0) (l .inv .1) (l .inv .2) (l .inv .3) used (λ e. c .before .if2 .left (c .before .before .key .ensures ∙ ap (λ (x : ℕ). keyOf ids (x - 1)) (slot .ensures) ∙ e)) (omega arith)
-
-next-requires : tie.Need-next-requires Inv-loop μ-loop
-next-requires c κs = search needs
-
-loop-less : tie.Need-loop-less Inv-loop μ-loop
-loop-less c = search needs
 
 loop-again : tie.Need-loop-again Inv-loop μ-loop
 loop-again c =
@@ -88,17 +73,5 @@ loop-again c =
 pub find-spec : {M : Type 1} → statement M
 find-spec =
     tie.close
-    (tie.spec
-    Inv-loop
-    μ-loop
-    loop-holds
-    slot-requires
-    returns
-    sub-key
-    key-requires
-    returns-2
-    sub-left
-    returns-3
-    next-requires
-    loop-less
-    loop-again)
+    (tie.spec Inv-loop μ-loop loop-holds (search needs) returns (search needs) key-requires returns-2 (search needs)
+    returns-3 (search needs) (search needs) loop-again)

@@ -22,9 +22,6 @@ abbrev μ-loop : tie.MeasureT-loop
 loop-holds : tie.Need-loop-holds Inv-loop μ-loop
 loop-holds c = (refl, grown-none (λ f i la lb. absurd (omega arith)))
 
-mul-loop : tie.Need-mul-loop Inv-loop μ-loop
-mul-loop c = search needs
-
 enter-requires : tie.Need-enter-requires Inv-loop μ-loop
 enter-requires c κs =
     let s = c .before .before .before .before .before in
@@ -33,12 +30,6 @@ enter-requires c κs =
     let l = c .before .before .loop in
     let g = l .inv .1 in
     ((omega arith, s .pre .0 .1), omega arith, (s .pre .1 .0, omega arith), rw (l .inv .0) (along (Slots ids (s .args .odd) (s .args .limit) (length t)) t (l .work) (g .slots) (s .pre .2)), labelled-then (s .pre .3) (g .more))
-
-add-c : tie.Need-add-c Inv-loop μ-loop
-add-c c = search needs
-
-loop-less : tie.Need-loop-less Inv-loop μ-loop
-loop-less c = search needs
 
 loop-again : tie.Need-loop-again Inv-loop μ-loop
 loop-again c =
@@ -52,23 +43,11 @@ loop-again c =
     let n = along (λ (o : ℕ → ℕ). Grown ids (l .work) (enter .last .1 .0) (Followed ids (length t) o (l .c))) (l .work) t (λ i. sym (g .slots i)) w in
     (omega (arith, enter .kept, l .inv .0), grown-then g n (followed-next ids (length t) (slotIn t) (s .args .from) (l .c)))
 
-same-length : tie.Need-same-length Inv-loop μ-loop
-same-length c = search needs
-
 returns : tie.Need-returns Inv-loop μ-loop
 returns c = grown-map (c .before .loop .inv .1) (λ g p i la lb. p i la (omega arith))
 
 pub follow-spec : {M : Type 1} → statement M
 follow-spec =
     tie.close
-    (tie.spec
-    Inv-loop
-    μ-loop
-    loop-holds
-    mul-loop
-    enter-requires
-    add-c
-    loop-less
-    loop-again
-    same-length
-    returns)
+    (tie.spec Inv-loop μ-loop loop-holds (search needs) enter-requires (search needs) (search needs) loop-again
+    (search needs) returns)

@@ -15,12 +15,6 @@ Inv-loop ids work₀ corners c₀ work c = (length work ≡ length work₀) × J
 abbrev μ-loop : tie.MeasureT-loop
 μ-loop ids work₀ corners c₀ work c = 3 * length work₀ - c
 
-plant-requires : tie.Need-plant-requires Inv-loop μ-loop
-plant-requires c κs = search needs
-
-mul-corners : tie.Need-mul-corners Inv-loop μ-loop
-mul-corners c = search needs
-
 loop-holds : tie.Need-loop-holds Inv-loop μ-loop
 loop-holds c =
     let plant = c .before .before .plant in
@@ -44,23 +38,11 @@ loop-again c =
     let l = c .before .before .before .before .before .loop in
     (omega (arith, pass .kept, l .inv .0), joining-next (l .inv .1) (rw (l .inv .0) at (pass .ensures)))
 
-same-length : tie.Need-same-length Inv-loop μ-loop
-same-length c = search needs
-
 returns : tie.Need-returns Inv-loop μ-loop
 returns c = let l = c .before .loop in joined-all (l .inv .0) (l .inv .1) (omega arith)
 
 pub join-all-spec : {M : Type 1} → statement M
 join-all-spec =
     tie.close
-    (tie.spec
-    Inv-loop
-    μ-loop
-    plant-requires
-    mul-corners
-    loop-holds
-    pass-requires
-    loop-less
-    loop-again
-    same-length
+    (tie.spec Inv-loop μ-loop (search needs) (search needs) loop-holds pass-requires loop-less loop-again (search needs)
     returns)

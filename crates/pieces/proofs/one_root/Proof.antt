@@ -7,12 +7,6 @@ use Rattle.pieces.proofs.Roots.{root-yes, root-other, root-flat}
 use Rattle.pieces.proofs.one_root.Statement.{statement}
 use Rattle.pieces.proofs.one_root.Tie as tie
 
-parent-requires : tie.Need-parent-requires
-parent-requires c κs = search needs
-
-distinct-at-requires : tie.Need-distinct-at-requires
-distinct-at-requires c κs = search needs
-
 returns : tie.Need-returns
 unfolding solid
 returns c =
@@ -31,4 +25,5 @@ returns-3 c =
     (root-other (s .args .ids .now) (s .args .work .now) (s .args .t) (λ e. c .if1 .left (c .before .parent .ensures ∙ e)), omega arith)
 
 pub one-root-spec : {M : Type 1} → statement M
-one-root-spec = tie.close (tie.spec parent-requires distinct-at-requires returns returns-2 returns-3)
+one-root-spec =
+    tie.close (tie.spec (search needs) (search needs) returns returns-2 returns-3)

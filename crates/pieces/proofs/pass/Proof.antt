@@ -6,15 +6,6 @@ use Rattle.pieces.proofs.Passes.{swept}
 use Rattle.pieces.proofs.pass.Statement.{statement}
 use Rattle.pieces.proofs.pass.Tie as tie
 
-free-requires : tie.Need-free-requires
-free-requires c κs = search needs
-
-odd-of-requires : tie.Need-odd-of-requires
-odd-of-requires c κs = search needs
-
-limit-of-requires : tie.Need-limit-of-requires
-limit-of-requires c κs = search needs
-
 fill-requires : tie.Need-fill-requires
 fill-requires c κs =
     let free = c .before .before .before .before .before .free in
@@ -36,9 +27,6 @@ follow-requires c κs =
     let p = fill .ensures .more (z .0) (good-kept lu (free .ensures .parents) (z .1)) in
     ((omega (arith, lu, lv), s .pre .0 .1), (omega (arith, limit, lu), omega (arith, limit, lu, lv)), rw lv (fill .ensures .slots), (p .label, p .good))
 
-same-length : tie.Need-same-length
-same-length c = search needs
-
 returns : tie.Need-returns
 returns c =
     let free = c .before .before .before .before .before .before .before .before .before .before .before .before .free in
@@ -52,11 +40,4 @@ returns c =
 pub pass-spec : {M : Type 1} → statement M
 pass-spec =
     tie.close
-    (tie.spec
-    free-requires
-    odd-of-requires
-    limit-of-requires
-    fill-requires
-    follow-requires
-    same-length
-    returns)
+    (tie.spec (search needs) (search needs) (search needs) fill-requires follow-requires (search needs) returns)

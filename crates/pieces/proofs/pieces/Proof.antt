@@ -11,26 +11,14 @@ use borrow.Author.Needs.{needs}
 use Rattle.pieces.proofs.pieces.Statement.{statement}
 use Rattle.pieces.proofs.pieces.Tie as tie
 
-refusal-requires : tie.Need-refusal-requires
-refusal-requires c κs = search needs
-
 returns : tie.Need-returns
 returns c = gives-refusal _ _ _ _ _ (c .before .refusal .result) (c .before .refusal .ensures) (c .if1 .taken)
-
-sub-pieces-in : tie.Need-sub-pieces-in
-sub-pieces-in c = search needs
-
-part-pieces-in-start : tie.Need-part-pieces-in-start
-part-pieces-in-start c = search needs
 
 part-pieces-in-end : tie.Need-part-pieces-in-end
 part-pieces-in-end c = omega (arith, refusal-none _ _ _ _ (c .before .refusal .ensures) (c .if1 .left) .1)
 
 pieces-in-requires : tie.Need-pieces-in-requires
 pieces-in-requires c κs = let fine = refusal-none _ _ _ _ (c .before .before .refusal .ensures) (c .before .if1 .left) in (omega (arith, fine .1), fine .0)
-
-same-length : tie.Need-same-length
-same-length c = search needs
 
 returns-2 : tie.Need-returns-2
 unfolding cleared
@@ -45,12 +33,5 @@ returns-2 c =
 pub pieces-spec : {M : Type 1} → statement M
 pieces-spec =
     tie.close
-    (tie.spec
-    refusal-requires
-    returns
-    sub-pieces-in
-    part-pieces-in-start
-    part-pieces-in-end
-    pieces-in-requires
-    same-length
+    (tie.spec (search needs) returns (search needs) (search needs) part-pieces-in-end pieces-in-requires (search needs)
     returns-2)

@@ -7,18 +7,6 @@ use Rattle.pieces.proofs.Roots.{answers}
 use Rattle.pieces.proofs.pieces_in.Statement.{statement}
 use Rattle.pieces.proofs.pieces_in.Tie as tie
 
-join-all-requires : tie.Need-join-all-requires
-join-all-requires c κs = search needs
-
-count-requires : tie.Need-count-requires
-count-requires c κs = search needs
-
-clear-requires : tie.Need-clear-requires
-clear-requires c κs = search needs
-
-same-length : tie.Need-same-length
-same-length c = search needs
-
 returns : tie.Need-returns
 returns c =
     let join-all = c .before .before .before .before .before .before .before .before .join-all in
@@ -31,4 +19,4 @@ returns c =
 
 pub pieces-in-spec : {M : Type 1} → statement M
 pieces-in-spec =
-    tie.close (tie.spec join-all-requires count-requires clear-requires same-length returns)
+    tie.close (tie.spec (search needs) (search needs) (search needs) (search needs) returns)

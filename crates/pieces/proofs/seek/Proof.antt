@@ -3,17 +3,9 @@ use borrow.Author.Needs.{needs}
 use Rattle.pieces.proofs.seek.Statement.{statement}
 use Rattle.pieces.proofs.seek.Tie as tie
 
-key-requires : tie.Need-key-requires
-key-requires c κs = search needs
-
-start-requires : tie.Need-start-requires
-start-requires c κs = search needs
-
-find-requires : tie.Need-find-requires
-find-requires c κs = search needs
-
 returns : tie.Need-returns
 returns c = rw (c .before .start .ensures .0, c .before .before .key .ensures) at (c .find .ensures)
 
 pub seek-spec : {M : Type 1} → statement M
-seek-spec = tie.close (tie.spec key-requires start-requires find-requires returns)
+seek-spec =
+    tie.close (tie.spec (search needs) (search needs) (search needs) returns)

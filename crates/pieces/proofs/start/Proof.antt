@@ -13,15 +13,10 @@ mul-hash c =
     let m : s .args .key * s .args .odd ≤ 4294967295 * s .args .odd = mul-le-mul-right (s .args .odd) (omega (arith, s .fits .key .fits)) in
     omega (arith, m, s .fits .odd .fits)
 
-cast-hash : tie.Need-cast-hash
-cast-hash c = search needs
-
-home-requires : tie.Need-home-requires
-home-requires c κs = search needs
-
 returns : tie.Need-returns
 unfolding homeOf
 returns c = c .home .ensures
 
 pub start-spec : {M : Type 1} → statement M
-start-spec = tie.close (tie.spec mul-hash cast-hash home-requires returns)
+start-spec =
+    tie.close (tie.spec mul-hash (search needs) (search needs) returns)

@@ -17,4 +17,5 @@ unfolding axisNumber
 returns-3 c = omega (arith, c .before .if1 .left, c .if2 .left)
 
 pub axis-spec : {M : Type 1} → statement M
-axis-spec = tie.close (tie.spec returns returns-2 returns-3)
+axis-spec =
+    tie.close (tie.spec returns returns-2 returns-3)

@@ -10,22 +10,9 @@ use Rattle.probe.proofs.probe_footprint_raw.Tie as tie
 returns : tie.Need-returns
 returns c = rw (lt-ltb (length (c .before .before .before .before .args .area .now)) 65536 (c .if1 .taken)) (refl, refl)
 
-axis-requires : tie.Need-axis-requires
-axis-requires c κs = search needs
-
-axis-requires-2 : tie.Need-axis-requires-2
-axis-requires-2 c κs = search needs
-
-footprint-raw-requires : tie.Need-footprint-raw-requires
-footprint-raw-requires c κs = search needs
-
-same-length : tie.Need-same-length
-same-length c = search needs
-
 returns-2 : tie.Need-returns-2
 returns-2 c = rw (le-ltb (length (c .before .before .before .before .before .before .before .before .before .before .args .area .now)) 65536 (c .before .before .before .before .before .before .if1 .left), ← c .before .before .before .before .before .axis .ensures, ← c .before .before .before .before .axis2 .ensures) (c .before .before .footprint-raw .ensures)
 
 pub probe-footprint-raw-spec : {M : Type 1} → statement M
 probe-footprint-raw-spec =
-    tie.close
-    (tie.spec returns axis-requires axis-requires-2 footprint-raw-requires same-length returns-2)
+    tie.close (tie.spec returns (search needs) (search needs) (search needs) (search needs) returns-2)

@@ -9,18 +9,6 @@ use Rattle.probe.proofs.probe_welded_indices.Tie as tie
 returns : tie.Need-returns
 returns c = rw (lt-leb (length (c .before .before .before .before .args .vertices .now)) 98304 (c .if1 .taken)) (refl, refl)
 
-mul-needed : tie.Need-mul-needed
-mul-needed c = search needs
-
-add-needed : tie.Need-add-needed
-add-needed c = search needs
-
-welded-indices-requires : tie.Need-welded-indices-requires
-welded-indices-requires c κs = search needs
-
-same-length : tie.Need-same-length
-same-length c = search needs
-
 returns-2 : tie.Need-returns-2
 returns-2 c = (rw (le-leb (length (c .before .before .before .before .before .before .before .before .before .args .vertices .now)) 98304 (c .before .before .before .before .before .if1 .left), eq-eqb _ _ (c .before .before .before .before .if2 .taken)), c .before .before .welded-indices .ensures)
 
@@ -29,12 +17,4 @@ returns-3 c = (rw (le-leb (length (c .before .before .before .before .before .ar
 
 pub probe-welded-indices-spec : {M : Type 1} → statement M
 probe-welded-indices-spec =
-    tie.close
-    (tie.spec
-    returns
-    mul-needed
-    add-needed
-    welded-indices-requires
-    same-length
-    returns-2
-    returns-3)
+    tie.close (tie.spec returns (search needs) (search needs) (search needs) (search needs) returns-2 returns-3)

@@ -5,27 +5,12 @@ use borrow.Author.Needs.{needs}
 use Rattle.program.proofs.print_record.Statement.{statement}
 use Rattle.program.proofs.print_record.Tie as tie
 
-apply-product-flags-requires : tie.Need-apply-product-flags-requires
-apply-product-flags-requires c κs = search needs
-
-list-requires : tie.Need-list-requires
-list-requires c κs = search needs
-
-enum-known-said : tie.Need-enum-known-said
-enum-known-said c = search needs
-
 enum-told : tie.Need-enum-told
 enum-told c = search needs
-
-same-length : tie.Need-same-length
-same-length c = search needs
 
 returns : tie.Need-returns
 unfolding lengthIn
 returns c = rw (sym (ap lengthIn (c .before .said .given .1))) (record-prints _ _ _ _ _ _ _ _ _ (c .before .before .before .before .before .before .before .apply-product-flags .ensures) (c .before .before .before .before .before .before .before .before .before .before .pre .0) (c .before .before .before .before .before .before .before .before .before .before .pre .1) (c .before .before .before .before .before .list .ensures))
-
-same-length-2 : tie.Need-same-length-2
-same-length-2 c = search needs
 
 returns-2 : tie.Need-returns-2
 unfolding lengthIn
@@ -34,12 +19,4 @@ returns-2 c = rw (sym (ap lengthIn (c .enum-told .given .1))) (record-prints _ _
 pub print-record-spec : {M : Type 1} → statement M
 print-record-spec =
     tie.close
-    (tie.spec
-    apply-product-flags-requires
-    list-requires
-    enum-known-said
-    enum-told
-    same-length
-    returns
-    same-length-2
-    returns-2)
+    (tie.spec (search needs) (search needs) (search needs) enum-told (search needs) returns (search needs) returns-2)

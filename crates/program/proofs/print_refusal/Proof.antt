@@ -5,24 +5,12 @@ use borrow.Author.Needs.{needs}
 use Rattle.program.proofs.print_refusal.Statement.{statement}
 use Rattle.program.proofs.print_refusal.Tie as tie
 
-list-refusal-requires : tie.Need-list-refusal-requires
-list-refusal-requires c κs = search needs
-
-enum-known-said : tie.Need-enum-known-said
-enum-known-said c = search needs
-
 enum-told : tie.Need-enum-told
 enum-told c = search needs
-
-same-length : tie.Need-same-length
-same-length c = search needs
 
 returns : tie.Need-returns
 unfolding lengthIn
 returns c = rw (sym (ap lengthIn (c .before .said .given .1))) (refusal-prints _ _ _ _ (c .before .before .before .before .before .before .before .before .pre) (c .before .before .before .before .before .list-refusal .ensures))
-
-same-length-2 : tie.Need-same-length-2
-same-length-2 c = search needs
 
 returns-2 : tie.Need-returns-2
 unfolding lengthIn
@@ -30,12 +18,4 @@ returns-2 c = rw (sym (ap lengthIn (c .enum-told .given .1))) (refusal-prints _ 
 
 pub print-refusal-spec : {M : Type 1} → statement M
 print-refusal-spec =
-    tie.close
-    (tie.spec
-    list-refusal-requires
-    enum-known-said
-    enum-told
-    same-length
-    returns
-    same-length-2
-    returns-2)
+    tie.close (tie.spec (search needs) (search needs) enum-told (search needs) returns (search needs) returns-2)

@@ -9,24 +9,6 @@ use borrow.Author.Needs.{needs}
 use Rattle.program.proofs.run.Statement.{statement}
 use Rattle.program.proofs.run.Tie as tie
 
-slice-aggregate-read : tie.Need-slice-aggregate-read
-slice-aggregate-read c = search needs
-
-slice-aggregate-read-2 : tie.Need-slice-aggregate-read-2
-slice-aggregate-read-2 c = search needs
-
-read-requires : tie.Need-read-requires
-read-requires c κs = search needs
-
-enum-known-found : tie.Need-enum-known-found
-enum-known-found c = search needs
-
-print-refusal-requires : tie.Need-print-refusal-requires
-print-refusal-requires c κs = search needs
-
-enum-known-found-2 : tie.Need-enum-known-found-2
-enum-known-found-2 c = search needs
-
 array-share-prefix-vertices : tie.Need-array-share-prefix-vertices
 array-share-prefix-vertices c =
     let most = reads-most _ _ _ _ _ _ (c .before .before .before .before .before .read .ensures) _ (c .before .found2 .given .1) in
@@ -62,17 +44,6 @@ returns-2 c = rw (← mesh-text _ _ (omega arith) (omega arith) _ _ _ _ (c .befo
 pub run-spec : {M : Type 1} → statement M
 run-spec =
     tie.close
-    (tie.spec
-    slice-aggregate-read
-    slice-aggregate-read-2
-    read-requires
-    enum-known-found
-    print-refusal-requires
-    enum-known-found-2
-    array-share-prefix-vertices
-    slice-aggregate-print-mesh
-    array-share-prefix-ids
-    slice-aggregate-print-mesh-2
-    print-mesh-requires
-    returns
-    returns-2)
+    (tie.spec (search needs) (search needs) (search needs) (search needs) (search needs) (search needs)
+    array-share-prefix-vertices slice-aggregate-print-mesh array-share-prefix-ids slice-aggregate-print-mesh-2
+    print-mesh-requires returns returns-2)

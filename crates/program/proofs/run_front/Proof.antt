@@ -10,12 +10,6 @@ use Rattle.program.proofs.run_front.Tie as tie
 slice-aggregate-run : tie.Need-slice-aggregate-run
 slice-aggregate-run c = sym (length-take-le _ _ (omega arith))
 
-run-requires : tie.Need-run-requires
-run-requires c κs = search needs
-
-run-requires-2 : tie.Need-run-requires-2
-run-requires-2 c κs = search needs
-
 returns : tie.Need-returns
 returns c =
     let s = c .before .before .before .before .before in
@@ -28,4 +22,4 @@ returns-2 c =
 
 pub run-front-spec : {M : Type 1} → statement M
 run-front-spec =
-    tie.close (tie.spec slice-aggregate-run run-requires run-requires-2 returns returns-2)
+    tie.close (tie.spec slice-aggregate-run (search needs) (search needs) returns returns-2)

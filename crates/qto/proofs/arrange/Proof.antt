@@ -5,23 +5,11 @@ use borrow.Author.Needs.{needs}
 use Rattle.qto.proofs.arrange.Statement.{statement}
 use Rattle.qto.proofs.arrange.Tie as tie
 
-scale-requires : tie.Need-scale-requires
-scale-requires c κs = search needs
-
 sort-requires : tie.Need-sort-requires
 sort-requires c κs =
     let args = c .before .before .before .before .before .before .args in
     let the-scale = c .before .before .before .scale in
     (c .before .before .before .before .before .before .pre .0, the-scale .kept .0 ∙ c .before .before .before .before .before .before .pre .1, scaled-plain (args .by) (args .rows .now) (the-scale .last .0) (the-scale .last .0) (the-scale .ensures) (c .before .before .before .before .before .before .pre .2))
-
-largest-requires : tie.Need-largest-requires
-largest-requires c κs = search needs
-
-smallest-requires : tie.Need-smallest-requires
-smallest-requires c κs = search needs
-
-same-length : tie.Need-same-length
-same-length c = search needs
 
 returns : tie.Need-returns
 returns c =
@@ -33,5 +21,4 @@ returns c =
 
 pub arrange-spec : {M : Type 1} → statement M
 arrange-spec =
-    tie.close
-    (tie.spec scale-requires sort-requires largest-requires smallest-requires same-length returns)
+    tie.close (tie.spec (search needs) sort-requires (search needs) (search needs) (search needs) returns)

@@ -6,20 +6,8 @@ use borrow.Author.Needs.{needs}
 use Rattle.qto.proofs.compute.Statement.{statement}
 use Rattle.qto.proofs.compute.Tie as tie
 
-checked-requires : tie.Need-checked-requires
-checked-requires c κs = search needs
-
-enum-known-c : tie.Need-enum-known-c
-enum-known-c c = search needs
-
 enum-told : tie.Need-enum-told
 enum-told c = search needs
-
-zero-record-requires : tie.Need-zero-record-requires
-zero-record-requires c κs = search needs
-
-enum-told-2 : tie.Need-enum-told-2
-enum-told-2 c = search needs
 
 full-requires : tie.Need-full-requires
 full-requires c κs =
@@ -36,15 +24,6 @@ returns-2 c =
     let args = c .before .before .before .before .before .before .before .before .before .args in
     zero (args .vertices .now) (args .indices .now) (args .unit-scale) (args .work .now) (args .raster .now) (args .surfaces .now) _ _ (c .before .enum-told .given .1) (c .before .before .before .checked .ensures) (c .zero-record .ensures)
 
-same-length : tie.Need-same-length
-same-length c = search needs
-
-same-length-2 : tie.Need-same-length-2
-same-length-2 c = search needs
-
-same-length-3 : tie.Need-same-length-3
-same-length-3 c = search needs
-
 returns-3 : tie.Need-returns-3
 returns-3 c =
     let args = c .before .before .before .before .before .before .before .before .before .before .before .before .before .before .before .before .before .before .args in
@@ -54,16 +33,5 @@ returns-3 c =
 pub compute-spec : {M : Type 1} → statement M
 compute-spec =
     tie.close
-    (tie.spec
-    checked-requires
-    enum-known-c
-    enum-told
-    zero-record-requires
-    enum-told-2
-    full-requires
-    returns
-    returns-2
-    same-length
-    same-length-2
-    same-length-3
-    returns-3)
+    (tie.spec (search needs) (search needs) enum-told (search needs) (search needs) full-requires returns returns-2
+    (search needs) (search needs) (search needs) returns-3)

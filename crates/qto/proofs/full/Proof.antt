@@ -6,44 +6,11 @@ use borrow.Author.Needs.{needs}
 use Rattle.qto.proofs.full.Statement.{statement}
 use Rattle.qto.proofs.full.Tie as tie
 
-work-words-requires : tie.Need-work-words-requires
-work-words-requires c κs = search needs
-
-raster-bytes-requires : tie.Need-raster-bytes-requires
-raster-bytes-requires c κs = search needs
-
-sub-record-in : tie.Need-sub-record-in
-sub-record-in c = search needs
-
-part-record-in-start : tie.Need-part-record-in-start
-part-record-in-start c = search needs
-
-part-record-in-end : tie.Need-part-record-in-end
-part-record-in-end c = search needs
-
-sub-record-in-2 : tie.Need-sub-record-in-2
-sub-record-in-2 c = search needs
-
-part-record-in-start-2 : tie.Need-part-record-in-start-2
-part-record-in-start-2 c = search needs
-
-part-record-in-end-2 : tie.Need-part-record-in-end-2
-part-record-in-end-2 c = search needs
-
 record-in-requires : tie.Need-record-in-requires
 record-in-requires c κs =
     let start = c .before .before .before .before .before .before .before .before .before .before in
     let args = start .args in
     (start .pre .0, front-exact (workWords (length (args .vertices .now)) (length (args .indices .now))) _ (args .work .now) (c .before .before .before .before .work-words .ensures) (start .pre .1), front-exact 65536 _ (args .raster .now) (c .before .before .before .raster-bytes .ensures) (start .pre .2), start .pre .3)
-
-same-length : tie.Need-same-length
-same-length c = search needs
-
-same-length-2 : tie.Need-same-length-2
-same-length-2 c = search needs
-
-same-length-3 : tie.Need-same-length-3
-same-length-3 c = search needs
 
 returns : tie.Need-returns
 returns c =
@@ -54,17 +21,5 @@ returns c =
 pub full-spec : {M : Type 1} → statement M
 full-spec =
     tie.close
-    (tie.spec
-    work-words-requires
-    raster-bytes-requires
-    sub-record-in
-    part-record-in-start
-    part-record-in-end
-    sub-record-in-2
-    part-record-in-start-2
-    part-record-in-end-2
-    record-in-requires
-    same-length
-    same-length-2
-    same-length-3
-    returns)
+    (tie.spec (search needs) (search needs) (search needs) (search needs) (search needs) (search needs) (search needs)
+    (search needs) record-in-requires (search needs) (search needs) (search needs) returns)

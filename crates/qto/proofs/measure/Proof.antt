@@ -7,30 +7,6 @@ use borrow.Author.Needs.{needs}
 use Rattle.qto.proofs.measure.Statement.{statement}
 use Rattle.qto.proofs.measure.Tie as tie
 
-f32-to-f64-with-nan-requires : tie.Need-f32-to-f64-with-nan-requires
-f32-to-f64-with-nan-requires c κs = search needs
-
-origin-requires : tie.Need-origin-requires
-origin-requires c κs = search needs
-
-house-rule-requires : tie.Need-house-rule-requires
-house-rule-requires c κs = search needs
-
-walk-requires : tie.Need-walk-requires
-walk-requires c κs = search needs
-
-mul-arrange : tie.Need-mul-arrange
-mul-arrange c = search needs
-
-sub-arrange : tie.Need-sub-arrange
-sub-arrange c = search needs
-
-part-arrange-start : tie.Need-part-arrange-start
-part-arrange-start c = search needs
-
-part-arrange-end : tie.Need-part-arrange-end
-part-arrange-end c = search needs
-
 arrange-requires : tie.Need-arrange-requires
 arrange-requires c κs =
     let args = c .before .before .before .before .before .before .before .before .before .before .before .before .before .before .before .before .args in
@@ -38,21 +14,6 @@ arrange-requires c κs =
     let the-house-rule = c .before .before .before .before .before .before .before .before .before .house-rule in
     let the-walk = c .before .before .before .before .before .before .walk in
     (few (args .vertices .now) (args .indices .now) (args .unit-scale) (args .b) (the-origin .result) (the-house-rule .result) (args .surfaces .now) (the-walk .result) (the-walk .last .1 .1 .1 .1 .1 .0) (c .before .before .before .before .before .before .before .before .before .before .before .before .before .before .before .before .pre .2) (the-origin .ensures) (the-house-rule .ensures) (the-walk .ensures) (c .before .before .before .before .before .before .before .before .before .before .before .before .before .before .before .before .pre .0), front-length (args .vertices .now) (args .indices .now) (args .unit-scale) (args .b) (the-origin .result) (the-house-rule .result) (args .surfaces .now) (the-walk .result) (the-walk .last .1 .1 .1 .1 .1 .0) (c .before .before .before .before .before .before .before .before .before .before .before .before .before .before .before .before .pre .2) (the-origin .ensures) (the-house-rule .ensures) (the-walk .ensures) (4 * the-walk .result .rows - 0) (omega arith), front-plain (args .vertices .now) (args .indices .now) (args .unit-scale) (args .b) (the-origin .result) (the-house-rule .result) (args .surfaces .now) (the-walk .result) (the-walk .last .1 .1 .1 .1 .1 .0) (c .before .before .before .before .before .before .before .before .before .before .before .before .before .before .before .before .pre .2) (the-origin .ensures) (the-house-rule .ensures) (the-walk .ensures) (4 * the-walk .result .rows - 0) (omega arith) (c .before .before .before .before .before .before .before .before .before .before .before .before .before .before .before .before .pre .3) (c .before .before .before .before .before .before .before .before .before .before .before .before .before .before .before .before .pre .4))
-
-narrow-requires : tie.Need-narrow-requires
-narrow-requires c κs = search needs
-
-f32-to-f64-with-nan-requires-2 : tie.Need-f32-to-f64-with-nan-requires-2
-f32-to-f64-with-nan-requires-2 c κs = search needs
-
-narrow-requires-2 : tie.Need-narrow-requires-2
-narrow-requires-2 c κs = search needs
-
-same-length : tie.Need-same-length
-same-length c = search needs
-
-same-length-2 : tie.Need-same-length-2
-same-length-2 c = search needs
 
 returns : tie.Need-returns
 returns c =
@@ -66,19 +27,5 @@ returns c =
 pub measure-spec : {M : Type 1} → statement M
 measure-spec =
     tie.close
-    (tie.spec
-    f32-to-f64-with-nan-requires
-    origin-requires
-    house-rule-requires
-    walk-requires
-    mul-arrange
-    sub-arrange
-    part-arrange-start
-    part-arrange-end
-    arrange-requires
-    narrow-requires
-    f32-to-f64-with-nan-requires-2
-    narrow-requires-2
-    same-length
-    same-length-2
-    returns)
+    (tie.spec (search needs) (search needs) (search needs) (search needs) (search needs) (search needs) (search needs)
+    (search needs) arrange-requires (search needs) (search needs) (search needs) (search needs) (search needs) returns)

@@ -6,30 +6,9 @@ use borrow.Author.Needs.{needs}
 use Rattle.qto.proofs.record_by.Statement.{statement}
 use Rattle.qto.proofs.record_by.Tie as tie
 
-box-volume-requires : tie.Need-box-volume-requires
-box-volume-requires c κs = search needs
-
-epsilon-requires : tie.Need-epsilon-requires
-epsilon-requires c κs = search needs
-
 classify-mesh-quality-requires : tie.Need-classify-mesh-quality-requires
 unfolding workWords
 classify-mesh-quality-requires c κs = (c .before .before .before .before .before .before .before .pre .0, c .before .before .before .before .before .before .before .pre .1, c .before .before .before .before .before .before .before .pre .4)
-
-magnitude32-requires : tie.Need-magnitude32-requires
-magnitude32-requires c κs = search needs
-
-best-volume-requires : tie.Need-best-volume-requires
-best-volume-requires c κs = search needs
-
-cast-t21 : tie.Need-cast-t21
-cast-t21 c = search needs
-
-same-length : tie.Need-same-length
-same-length c = search needs
-
-same-length-2 : tie.Need-same-length-2
-same-length-2 c = search needs
 
 returns : tie.Need-returns
 unfolding workWords recordFrom
@@ -42,13 +21,5 @@ returns c =
 pub record-by-spec : {M : Type 1} → statement M
 record-by-spec =
     tie.close
-    (tie.spec
-    box-volume-requires
-    epsilon-requires
-    classify-mesh-quality-requires
-    magnitude32-requires
-    best-volume-requires
-    cast-t21
-    same-length
-    same-length-2
-    returns)
+    (tie.spec (search needs) (search needs) classify-mesh-quality-requires (search needs) (search needs) (search needs)
+    (search needs) (search needs) returns)

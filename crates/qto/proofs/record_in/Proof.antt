@@ -9,18 +9,6 @@ use borrow.Author.Needs.{needs}
 use Rattle.qto.proofs.record_in.Statement.{statement}
 use Rattle.qto.proofs.record_in.Tie as tie
 
-box-of-requires : tie.Need-box-of-requires
-box-of-requires c κs = search needs
-
-mul-n : tie.Need-mul-n
-mul-n c = search needs
-
-sub-measure : tie.Need-sub-measure
-sub-measure c = search needs
-
-part-measure-start : tie.Need-part-measure-start
-part-measure-start c = search needs
-
 part-measure-end : tie.Need-part-measure-end
 part-measure-end c = let start = c .before .before .before .before .before .before in index-fits _ (length (start .args .indices .now)) _ (start .pre .1)
 
@@ -37,15 +25,6 @@ record-by-requires c κs =
     let the-measure = c .before .before .before .before .before .before .measure in
     (c .before .before .before .before .before .before .before .before .before .before .before .before .before .before .before .pre .0 .floats-most, c .before .before .before .before .before .before .before .before .before .before .before .before .before .before .before .pre .0 .ids-most, c .before .before .before .before .before .before .before .before .before .box-of .ensures, the-measure .ensures .1, front-kept (5 * (length (args .indices .now) / 3)) (args .work .now) (the-measure .last .1 .1 .1 .1 .0) (the-measure .kept .1 .1 .1 .1 .0) ∙ c .before .before .before .before .before .before .before .before .before .before .before .before .before .before .before .pre .1, c .before .before .before .before .before .before .before .before .before .before .before .before .before .before .before .pre .2)
 
-same-length : tie.Need-same-length
-same-length c = search needs
-
-same-length-2 : tie.Need-same-length-2
-same-length-2 c = search needs
-
-same-length-3 : tie.Need-same-length-3
-same-length-3 c = search needs
-
 returns : tie.Need-returns
 returns c =
     let args = c .before .before .before .before .before .before .before .before .before .before .before .before .before .before .before .before .before .before .before .before .args in
@@ -56,15 +35,5 @@ returns c =
 pub record-in-spec : {M : Type 1} → statement M
 record-in-spec =
     tie.close
-    (tie.spec
-    box-of-requires
-    mul-n
-    sub-measure
-    part-measure-start
-    part-measure-end
-    measure-requires
-    record-by-requires
-    same-length
-    same-length-2
-    same-length-3
-    returns)
+    (tie.spec (search needs) (search needs) (search needs) (search needs) part-measure-end measure-requires
+    record-by-requires (search needs) (search needs) (search needs) returns)

@@ -9,23 +9,11 @@ use borrow.Author.Needs.{needs}
 use Rattle.raster.proofs.footprint_on.Statement.{statement}
 use Rattle.raster.proofs.footprint_on.Tie as tie
 
-clear-requires : tie.Need-clear-requires
-clear-requires c κs = search needs
-
-paint-all-requires : tie.Need-paint-all-requires
-paint-all-requires c κs = search needs
-
 tally-requires : tie.Need-tally-requires
 tally-requires c κs = omega (arith, few-cells (c .before .before .before .before .before .before .before .before .before .before .before .before .args .g) (c .before .before .before .before .before .before .before .before .before .before .before .before .pre .2), c .before .before .before .before .before .before .before .before .before .before .before .before .pre .3, c .before .before .before .before .before .before .before .clear .kept, c .before .before .before .paint-all .kept)
 
 cast-nearest-u32-to-f32 : tie.Need-cast-nearest-u32-to-f32
 cast-nearest-u32-to-f32 c = omega (arith, few-cells (c .before .before .before .before .before .before .before .before .before .before .before .before .before .args .g) (c .before .before .before .before .before .before .before .before .before .before .before .before .before .pre .2), c .before .before .before .before .before .before .before .before .before .before .before .before .before .pre .3, c .before .before .before .before .before .before .before .before .clear .kept, c .before .before .before .before .paint-all .kept, c .tally .ensures .1)
-
-nearest-u32-to-f32-requires : tie.Need-nearest-u32-to-f32-requires
-nearest-u32-to-f32-requires c κs = search needs
-
-same-length : tie.Need-same-length
-same-length c = search needs
 
 returns : tie.Need-returns
 returns c =
@@ -41,11 +29,5 @@ returns c =
 pub footprint-on-spec : {M : Type 1} → statement M
 footprint-on-spec =
     tie.close
-    (tie.spec
-    clear-requires
-    paint-all-requires
-    tally-requires
-    cast-nearest-u32-to-f32
-    nearest-u32-to-f32-requires
-    same-length
+    (tie.spec (search needs) (search needs) tally-requires cast-nearest-u32-to-f32 (search needs) (search needs)
     returns)

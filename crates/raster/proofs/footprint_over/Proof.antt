@@ -13,15 +13,6 @@ use Rattle.grid.proofs.grid_over.Reads as grid-over-reads
 use Rattle.floats.proofs.greatest32.Reads as greatest32-reads
 use Rattle.raster.proofs.footprint_on.Reads as footprint-on-reads
 
-greatest32-requires : tie.Need-greatest32-requires
-greatest32-requires c κs = search needs
-
-greatest32-requires-2 : tie.Need-greatest32-requires-2
-greatest32-requires-2 c κs = search needs
-
-greatest32-requires-3 : tie.Need-greatest32-requires-3
-greatest32-requires-3 c κs = search needs
-
 returns : tie.Need-returns
 returns c =
     let a = c .before .before .before .before .before .before .before .args in
@@ -30,26 +21,11 @@ returns c =
     let m = c .before .greatest323 in
     (foot-none (a .vertices .now) (a .u) (a .v) (a .ids .now) (a .xmin) (a .xmax) (a .ymin) (a .ymax) (w .result) (h .result) (m .result) (w .ensures) (h .ensures) (m .ensures) (c .if1 .taken), refl)
 
-grid-over-requires : tie.Need-grid-over-requires
-grid-over-requires c κs = search needs
-
 mul-n : tie.Need-mul-n
 mul-n c = let z = c .before .grid-over in omega (arith, few-cells (z .result) (z .ensures .1))
 
-sub-footprint-on : tie.Need-sub-footprint-on
-sub-footprint-on c = search needs
-
-part-footprint-on-start : tie.Need-part-footprint-on-start
-part-footprint-on-start c = search needs
-
 part-footprint-on-end : tie.Need-part-footprint-on-end
 part-footprint-on-end c = let z = c .before .grid-over in omega (arith, few-cells (z .result) (z .ensures .1), c .before .before .before .before .before .before .before .before .before .pre .2)
-
-footprint-on-requires : tie.Need-footprint-on-requires
-footprint-on-requires c κs = search needs
-
-same-length : tie.Need-same-length
-same-length c = search needs
 
 returns-2 : tie.Need-returns-2
 returns-2 c =
@@ -66,16 +42,5 @@ returns-2 c =
 pub footprint-over-spec : {M : Type 1} → statement M
 footprint-over-spec =
     tie.close
-    (tie.spec
-    greatest32-requires
-    greatest32-requires-2
-    greatest32-requires-3
-    returns
-    grid-over-requires
-    mul-n
-    sub-footprint-on
-    part-footprint-on-start
-    part-footprint-on-end
-    footprint-on-requires
-    same-length
-    returns-2)
+    (tie.spec (search needs) (search needs) (search needs) returns (search needs) mul-n (search needs) (search needs)
+    part-footprint-on-end (search needs) (search needs) returns-2)

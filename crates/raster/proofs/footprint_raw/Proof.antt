@@ -4,21 +4,6 @@ use borrow.Author.Needs.{needs}
 use Rattle.raster.proofs.footprint_raw.Statement.{statement}
 use Rattle.raster.proofs.footprint_raw.Tie as tie
 
-offset-requires : tie.Need-offset-requires
-offset-requires c κs = search needs
-
-offset-requires-2 : tie.Need-offset-requires-2
-offset-requires-2 c κs = search needs
-
-footprint-over-requires : tie.Need-footprint-over-requires
-footprint-over-requires c κs = search needs
-
-clear-requires : tie.Need-clear-requires
-clear-requires c κs = search needs
-
-same-length : tie.Need-same-length
-same-length c = search needs
-
 returns : tie.Need-returns
 returns c =
     let p = c .before .before .before .before .before .before .footprint-over in
@@ -26,11 +11,4 @@ returns c =
 
 pub footprint-raw-spec : {M : Type 1} → statement M
 footprint-raw-spec =
-    tie.close
-    (tie.spec
-    offset-requires
-    offset-requires-2
-    footprint-over-requires
-    clear-requires
-    same-length
-    returns)
+    tie.close (tie.spec (search needs) (search needs) (search needs) (search needs) (search needs) returns)

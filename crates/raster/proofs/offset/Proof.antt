@@ -8,12 +8,6 @@ use Rattle.raster.proofs.offset.Tie as tie
 enum-told : tie.Need-enum-told
 enum-told c = search needs
 
-enum-told-2 : tie.Need-enum-told-2
-enum-told-2 c = search needs
-
-enum-told-3 : tie.Need-enum-told-3
-enum-told-3 c = search needs
-
 returns : tie.Need-returns
 unfolding axisNumber
 returns c = (rw (c .enum-told .given .1), omega arith)
@@ -27,4 +21,5 @@ unfolding axisNumber
 returns-3 c = (rw (c .enum-told3 .given .1), omega arith)
 
 pub offset-spec : {M : Type 1} → statement M
-offset-spec = tie.close (tie.spec enum-told enum-told-2 enum-told-3 returns returns-2 returns-3)
+offset-spec =
+    tie.close (tie.spec enum-told (search needs) (search needs) returns returns-2 returns-3)

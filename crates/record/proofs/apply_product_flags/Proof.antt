@@ -4,14 +4,9 @@ use Rattle.record.proofs.Order.{clip-first}
 use Rattle.record.proofs.apply_product_flags.Statement.{statement}
 use Rattle.record.proofs.apply_product_flags.Tie as tie
 
-if-clip-requires : tie.Need-if-clip-requires
-if-clip-requires c κs = search needs
-
-if-invalid-requires : tie.Need-if-invalid-requires
-if-invalid-requires c κs = search needs
-
 returns : tie.Need-returns
 returns c = search (needs, clip-first)
 
 pub apply-product-flags-spec : {M : Type 1} → statement M
-apply-product-flags-spec = tie.close (tie.spec if-clip-requires if-invalid-requires returns)
+apply-product-flags-spec =
+    tie.close (tie.spec (search needs) (search needs) returns)

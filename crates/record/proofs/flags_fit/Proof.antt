@@ -9,4 +9,5 @@ unfolding flagsFit
 returns c = refl
 
 pub flags-fit-spec : {M : Type 1} → statement M
-flags-fit-spec = tie.close (tie.spec returns)
+flags-fit-spec =
+    tie.close (tie.spec returns)

@@ -4,9 +4,6 @@ use borrow.Author.Needs.{needs}
 use Rattle.record.proofs.if_clip.Statement.{statement}
 use Rattle.record.proofs.if_clip.Tie as tie
 
-mark-clip-unapplied-requires : tie.Need-mark-clip-unapplied-requires
-mark-clip-unapplied-requires c κs = search needs
-
 returns : tie.Need-returns
 unfolding ifClip
 returns c = rw (c .before .if1 .taken) (c .mark-clip-unapplied .ensures)
@@ -16,4 +13,5 @@ unfolding ifClip
 returns-2 c = rw (c .if1 .left)
 
 pub if-clip-spec : {M : Type 1} → statement M
-if-clip-spec = tie.close (tie.spec mark-clip-unapplied-requires returns returns-2)
+if-clip-spec =
+    tie.close (tie.spec (search needs) returns returns-2)

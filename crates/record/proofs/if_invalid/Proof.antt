@@ -7,12 +7,6 @@ use Rattle.record.proofs.if_invalid.Tie as tie
 enum-told : tie.Need-enum-told
 enum-told c = search needs
 
-enum-known-profile : tie.Need-enum-known-profile
-enum-known-profile c = search needs
-
-mark-profile-invalid-requires : tie.Need-mark-profile-invalid-requires
-mark-profile-invalid-requires c κs = search needs
-
 returns : tie.Need-returns
 unfolding ifInvalid
 returns c = rw (c .enum-told .given .1)
@@ -23,5 +17,4 @@ returns-2 c = rw (c .before .before .profile .given .1) (c .mark-profile-invalid
 
 pub if-invalid-spec : {M : Type 1} → statement M
 if-invalid-spec =
-    tie.close
-    (tie.spec enum-told enum-known-profile mark-profile-invalid-requires returns returns-2)
+    tie.close (tie.spec enum-told (search needs) (search needs) returns returns-2)

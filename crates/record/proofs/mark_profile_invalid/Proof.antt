@@ -3,14 +3,9 @@ use borrow.Author.Needs.{needs}
 use Rattle.record.proofs.mark_profile_invalid.Statement.{statement}
 use Rattle.record.proofs.mark_profile_invalid.Tie as tie
 
-relabelled-requires : tie.Need-relabelled-requires
-relabelled-requires c κs = search needs
-
-marked-requires : tie.Need-marked-requires
-marked-requires c κs = search needs
-
 returns : tie.Need-returns
 returns c = rw (← c .before .relabelled .ensures) (c .marked .ensures)
 
 pub mark-profile-invalid-spec : {M : Type 1} → statement M
-mark-profile-invalid-spec = tie.close (tie.spec relabelled-requires marked-requires returns)
+mark-profile-invalid-spec =
+    tie.close (tie.spec (search needs) (search needs) returns)

@@ -9,4 +9,5 @@ unfolding marked
 returns c = refl
 
 pub marked-spec : {M : Type 1} → statement M
-marked-spec = tie.close (tie.spec returns)
+marked-spec =
+    tie.close (tie.spec returns)

@@ -7,18 +7,6 @@ use Rattle.record.proofs.method_number.Tie as tie
 enum-told : tie.Need-enum-told
 enum-told c = search needs
 
-enum-told-2 : tie.Need-enum-told-2
-enum-told-2 c = search needs
-
-enum-told-3 : tie.Need-enum-told-3
-enum-told-3 c = search needs
-
-enum-told-4 : tie.Need-enum-told-4
-enum-told-4 c = search needs
-
-enum-told-5 : tie.Need-enum-told-5
-enum-told-5 c = search needs
-
 returns : tie.Need-returns
 unfolding methodNumber
 returns c = rw (c .enum-told .given .1)
@@ -42,14 +30,5 @@ returns-5 c = rw (c .enum-told5 .given .1)
 pub method-number-spec : {M : Type 1} → statement M
 method-number-spec =
     tie.close
-    (tie.spec
-    enum-told
-    enum-told-2
-    enum-told-3
-    enum-told-4
-    enum-told-5
-    returns
-    returns-2
-    returns-3
-    returns-4
-    returns-5)
+    (tie.spec enum-told (search needs) (search needs) (search needs) (search needs) returns returns-2 returns-3
+    returns-4 returns-5)

@@ -7,12 +7,6 @@ use Rattle.record.proofs.profile_number.Tie as tie
 enum-told : tie.Need-enum-told
 enum-told c = search needs
 
-enum-known-profile : tie.Need-enum-known-profile
-enum-known-profile c = search needs
-
-defect-number-requires : tie.Need-defect-number-requires
-defect-number-requires c κs = search needs
-
 returns : tie.Need-returns
 unfolding profileNumber
 returns c = rw (c .enum-told .given .1)
@@ -23,4 +17,4 @@ returns-2 c = rw (c .before .before .profile .given .1) (c .defect-number .ensur
 
 pub profile-number-spec : {M : Type 1} → statement M
 profile-number-spec =
-    tie.close (tie.spec enum-told enum-known-profile defect-number-requires returns returns-2)
+    tie.close (tie.spec enum-told (search needs) (search needs) returns returns-2)

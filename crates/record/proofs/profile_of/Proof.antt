@@ -25,4 +25,5 @@ returns-5 : tie.Need-returns-5
 returns-5 c = profile-from-four (c .before .args .defect) (omega (arith, c .match .rest .1, c .match .rest .0 .1, c .match .rest .0 .0 .1, c .match .rest .0 .0 .0 .1))
 
 pub profile-of-spec : {M : Type 1} → statement M
-profile-of-spec = tie.close (tie.spec returns returns-2 returns-3 returns-4 returns-5)
+profile-of-spec =
+    tie.close (tie.spec returns returns-2 returns-3 returns-4 returns-5)

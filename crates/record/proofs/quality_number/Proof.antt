@@ -7,12 +7,6 @@ use Rattle.record.proofs.quality_number.Tie as tie
 enum-told : tie.Need-enum-told
 enum-told c = search needs
 
-enum-told-2 : tie.Need-enum-told-2
-enum-told-2 c = search needs
-
-enum-told-3 : tie.Need-enum-told-3
-enum-told-3 c = search needs
-
 returns : tie.Need-returns
 unfolding qualityNumber
 returns c = rw (c .enum-told .given .1)
@@ -27,4 +21,4 @@ returns-3 c = rw (c .enum-told3 .given .1)
 
 pub quality-number-spec : {M : Type 1} → statement M
 quality-number-spec =
-    tie.close (tie.spec enum-told enum-told-2 enum-told-3 returns returns-2 returns-3)
+    tie.close (tie.spec enum-told (search needs) (search needs) returns returns-2 returns-3)

@@ -20,21 +20,6 @@ abbrev μ-loop : tie.MeasureT-loop
 loop-holds : tie.Need-loop-holds Inv-loop μ-loop
 loop-holds c = (omega arith, refl)
 
-mul-magnitude32 : tie.Need-mul-magnitude32 Inv-loop μ-loop
-mul-magnitude32 c = search needs
-
-shared-slice-read-magnitude32 : tie.Need-shared-slice-read-magnitude32 Inv-loop μ-loop
-shared-slice-read-magnitude32 c = search needs
-
-magnitude32-requires : tie.Need-magnitude32-requires Inv-loop μ-loop
-magnitude32-requires c κs = search needs
-
-add-i : tie.Need-add-i Inv-loop μ-loop
-add-i c = search needs
-
-loop-less : tie.Need-loop-less Inv-loop μ-loop
-loop-less c = search needs
-
 loop-again : tie.Need-loop-again Inv-loop μ-loop
 loop-again c =
     let l = c .before .before .before .loop in
@@ -46,14 +31,5 @@ returns c = fine-end (c .before .before .before .args .vertices .now) (c .before
 pub all-fine-spec : {M : Type 1} → statement M
 all-fine-spec =
     tie.close
-    (tie.spec
-    Inv-loop
-    μ-loop
-    loop-holds
-    mul-magnitude32
-    shared-slice-read-magnitude32
-    magnitude32-requires
-    add-i
-    loop-less
-    loop-again
-    returns)
+    (tie.spec Inv-loop μ-loop loop-holds (search needs) (search needs) (search needs) (search needs) (search needs)
+    loop-again returns)

@@ -3,18 +3,9 @@ use borrow.Author.Needs.{needs}
 use Rattle.refusals.proofs.areas_short.Statement.{statement}
 use Rattle.refusals.proofs.areas_short.Tie as tie
 
-work-words-requires : tie.Need-work-words-requires
-work-words-requires c κs = search needs
-
-raster-bytes-requires : tie.Need-raster-bytes-requires
-raster-bytes-requires c κs = search needs
-
-mul-result : tie.Need-mul-result
-mul-result c = search needs
-
 returns : tie.Need-returns
 returns c = rw (c .before .work-words .ensures, c .raster-bytes .ensures)
 
 pub areas-short-spec : {M : Type 1} → statement M
 areas-short-spec =
-    tie.close (tie.spec work-words-requires raster-bytes-requires mul-result returns)
+    tie.close (tie.spec (search needs) (search needs) (search needs) returns)

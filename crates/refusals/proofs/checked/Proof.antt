@@ -12,9 +12,6 @@ returns c =
     let args = c .before .before .before .args in
     row-1 (args .vertices .now) (args .indices .now) (args .unit-scale) (args .work) (args .raster) (args .surfaces) (c .if1 .taken)
 
-unit-fits-requires : tie.Need-unit-fits-requires
-unit-fits-requires c κs = search needs
-
 returns-3 : tie.Need-returns-3
 returns-3 c =
     let args = c .before .before .before .before .before .before .args in
@@ -25,9 +22,6 @@ areas-short-requires : tie.Need-areas-short-requires
 areas-short-requires c κs =
     let args = c .before .before .before .before .before .before .args in
     both-small (length (args .vertices .now)) (length (args .indices .now)) (c .before .before .before .if1 .left)
-
-all-fine-requires : tie.Need-all-fine-requires
-all-fine-requires c κs = search needs
 
 returns-5 : tie.Need-returns-5
 returns-5 c =
@@ -57,13 +51,5 @@ returns-2 c =
 pub checked-spec : {M : Type 1} → statement M
 checked-spec =
     tie.close
-    (tie.spec
-    returns
-    returns-2
-    unit-fits-requires
-    returns-3
-    areas-short-requires
-    all-fine-requires
-    returns-4
-    returns-5
+    (tie.spec returns returns-2 (search needs) returns-3 areas-short-requires (search needs) returns-4 returns-5
     returns-6)

@@ -9,4 +9,5 @@ unfolding unitFits
 returns c = refl
 
 pub unit-fits-spec : {M : Type 1} → statement M
-unit-fits-spec = tie.close (tie.spec returns)
+unit-fits-spec =
+    tie.close (tie.spec returns)

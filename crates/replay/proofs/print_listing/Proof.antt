@@ -4,27 +4,12 @@ use borrow.Author.Needs.{needs}
 use Rattle.replay.proofs.print_listing.Statement.{statement}
 use Rattle.replay.proofs.print_listing.Tie as tie
 
-run-requires : tie.Need-run-requires
-run-requires c κs = search needs
-
 array-share-prefix-text : tie.Need-array-share-prefix-text
 array-share-prefix-text c = prints-inside _ _ _ _ (c .run .ensures)
 
 slice-aggregate-write-all : tie.Need-slice-aggregate-write-all
 slice-aggregate-write-all c = prints-front _ _ _ _ (c .before .run .ensures)
 
-write-all-requires : tie.Need-write-all-requires
-write-all-requires c κs = search needs
-
-returns : tie.Need-returns
-returns c = search needs
-
 pub print-listing-spec : {M : Type 1} → statement M
 print-listing-spec =
-    tie.close
-    (tie.spec
-    run-requires
-    array-share-prefix-text
-    slice-aggregate-write-all
-    write-all-requires
-    returns)
+    tie.close (tie.spec (search needs) array-share-prefix-text slice-aggregate-write-all (search needs) (search needs))

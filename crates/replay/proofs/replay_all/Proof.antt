@@ -33,13 +33,4 @@ returns-2 c = tt
 pub replay-all-spec : {M : Type 1} → statement M
 replay-all-spec =
     tie.close
-    (tie.spec
-    Inv-loop
-    μ-loop
-    loop-holds
-    replay-next-requires
-    sub-turns
-    loop-less
-    loop-again
-    returns
-    returns-2)
+    (tie.spec Inv-loop μ-loop loop-holds replay-next-requires sub-turns loop-less loop-again returns returns-2)

@@ -124,4 +124,6 @@ returns c =
 
 pub digit-root-spec : {M : Type 1} → statement M
 digit-root-spec =
-    tie.close (tie.spec Inv-loop μ-loop mul-a loop-holds mul-n add-n mul-d add-d mul-a-2 mul-q add-q mul-q-2 add-i loop-less loop-again returns)
+    tie.close
+    (tie.spec Inv-loop μ-loop mul-a loop-holds mul-n add-n mul-d add-d mul-a-2 mul-q add-q mul-q-2 add-i loop-less
+    loop-again returns)

@@ -7,17 +7,9 @@ use Rattle.ieee.proofs.Patterns.Nan.{up-to-inf}
 use Rattle.root.proofs.guess.Statement.{statement}
 use Rattle.root.proofs.guess.Tie as tie
 
-sub-y : tie.Need-sub-y
-sub-y c = search needs
-
 float-from-bits-y : tie.Need-float-from-bits-y
 float-from-bits-y c = up-to-inf binary64 (0x5fe6eb50c7b537a9 - c .args .b / 2) (omega arith)
 
-bits64-requires : tie.Need-bits64-requires
-bits64-requires c κs = search needs
-
-returns : tie.Need-returns
-returns c = search needs
-
 pub guess-spec : {M : Type 1} → statement M
-guess-spec = tie.close (tie.spec sub-y float-from-bits-y bits64-requires returns)
+guess-spec =
+    tie.close (tie.spec (search needs) float-from-bits-y (search needs) (search needs))

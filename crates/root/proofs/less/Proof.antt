@@ -14,11 +14,9 @@ byte : (a b : ℕ) (t : Bool) → (T t → a < b) → (T (not t) → b ≤ a) �
 byte a b true y n = (omega arith, inl (y tt, refl))
 byte a b false y n = (omega arith, inr (n tt, refl))
 
-cast-result : tie.Need-cast-result
-cast-result c = search needs
-
 returns : tie.Need-returns
 returns c = let a = c .args .a in let b = c .args .b in byte a b (ltb a b) (ltb→lt a b) (nltb→le a b)
 
 pub less-spec : {M : Type 1} → statement M
-less-spec = tie.close (tie.spec cast-result returns)
+less-spec =
+    tie.close (tie.spec (search needs) returns)

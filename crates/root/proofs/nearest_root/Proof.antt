@@ -54,9 +54,6 @@ parts-at c =
     parts-of m (c .digit-root .result) (c .before .pre .0) (c .before .pre .1)
     (subst (λ (q : ℕ). IsRoot m q) (sym (c .digit-root .ensures)) (floorRoot-is m))
 
-digit-root-requires : tie.Need-digit-root-requires
-digit-root-requires c κs = search needs
-
 mul-n : tie.Need-mul-n
 mul-n c = let p = parts-at c in omega arith
 
@@ -105,4 +102,5 @@ returns-2 c = let p = parts-at (c .before) in same (c .before .before .args .m *
 pub nearest-root-spec : {M : Type 1} → statement M
 nearest-root-spec =
     tie.close
-    (tie.spec digit-root-requires mul-n sub-n mul-n-2 mul-t div-t mul-u rem-u mul-s add-s mul-if1 add-if1 mul-if1-2 add-result returns returns-2)
+    (tie.spec (search needs) mul-n sub-n mul-n-2 mul-t div-t mul-u rem-u mul-s add-s mul-if1 add-if1 mul-if1-2
+    add-result returns returns-2)

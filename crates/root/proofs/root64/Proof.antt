@@ -36,12 +36,6 @@ root-normal-requires c κs = inside (toBits binary64 (c .before .before .args .x
 float-from-bits-result : tie.Need-float-from-bits-result
 float-from-bits-result c = up-to-inf binary64 (c .root-normal .result) (omega (arith, c .root-normal .ensures .1))
 
-root64-bits-requires : tie.Need-root64-bits-requires
-root64-bits-requires c κs = search needs
-
-f64-of-requires : tie.Need-f64-of-requires
-f64-of-requires c κs = search needs
-
 returns-2 : tie.Need-returns-2
 returns-2 c =
     let start = c .before .before .before in
@@ -55,4 +49,5 @@ returns-3 c =
 pub root64-spec : {M : Type 1} → statement M
 root64-spec =
     tie.close
-    (tie.spec returns float-to-bits-b root-normal-requires float-from-bits-result root64-bits-requires f64-of-requires returns-2 returns-3)
+    (tie.spec returns float-to-bits-b root-normal-requires float-from-bits-result (search needs) (search needs)
+    returns-2 returns-3)

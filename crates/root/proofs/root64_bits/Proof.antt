@@ -14,17 +14,11 @@ float-from-bits-root-normal c = up-to-inf binary64 (c .before .args .b) (let h =
 root-normal-requires : tie.Need-root-normal-requires
 root-normal-requires c κs = inside (c .before .args .b) (c .if1 .taken)
 
-root-subnormal-requires : tie.Need-root-subnormal-requires
-root-subnormal-requires c κs = search needs
-
 returns : tie.Need-returns
 returns c = c .root-normal .ensures .0
 
 returns-2 : tie.Need-returns-2
 returns-2 c = let start = c .before .before in zero-bits (start .args .b) (start .fits .b .fits) (no-digits (start .args .b) (c .if2 .taken))
-
-returns-3 : tie.Need-returns-3
-returns-3 c = search needs
 
 returns-4 : tie.Need-returns-4
 returns-4 c = infinity-bits (c .before .before .before .before .args .b) (c .if4 .taken)
@@ -39,12 +33,5 @@ returns-5 c =
 pub root64-bits-spec : {M : Type 1} → statement M
 root64-bits-spec =
     tie.close
-    (tie.spec
-    float-from-bits-root-normal
-    root-normal-requires
-    root-subnormal-requires
-    returns
-    returns-2
-    returns-3
-    returns-4
+    (tie.spec float-from-bits-root-normal root-normal-requires (search needs) returns returns-2 (search needs) returns-4
     returns-5)

@@ -23,22 +23,11 @@ normal-bits b r l h e =
     (subst (λ (z : ℕ). r ≡ Scaled d (z / 2 ^ 52 + 1021)) (sym clear) e
     ∙ normal-root (b % 2 ^ 63 / 2 ^ 52) (b % 2 ^ 52) (λ z. omega arith) (omega arith) (omega arith))
 
-add-root-scaled : tie.Need-add-root-scaled
-add-root-scaled c = search needs
-
-add-root-scaled-2 : tie.Need-add-root-scaled-2
-add-root-scaled-2 c = search needs
-
-guess-requires : tie.Need-guess-requires
-guess-requires c κs = search needs
-
-root-scaled-requires : tie.Need-root-scaled-requires
-root-scaled-requires c κs = search needs
-
 returns : tie.Need-returns
 returns c =
     let start = c .before .before in
     (normal-bits (start .args .b) (c .root-scaled .result) (start .pre .0) (start .pre .1) (c .root-scaled .ensures .0), omega (arith, c .root-scaled .ensures .1))
 
 pub root-normal-spec : {M : Type 1} → statement M
-root-normal-spec = tie.close (tie.spec add-root-scaled add-root-scaled-2 guess-requires root-scaled-requires returns)
+root-normal-spec =
+    tie.close (tie.spec (search needs) (search needs) (search needs) (search needs) returns)

@@ -15,17 +15,8 @@ doubled d r h =
     let x : d * 1 ≤ d * (1 + r) = mul-le-mul-left d (omega arith) in
     let y : d * (1 + r) ≤ d * 2 = mul-le-mul-left d (omega arith) in (omega arith, omega arith)
 
-mul-result : tie.Need-mul-result
-mul-result c = search needs
-
-add-settled : tie.Need-add-settled
-add-settled c = search needs
-
 mul-settled : tie.Need-mul-settled
 mul-settled c = omega (arith, doubled (c .args .d) (c .args .w % 2) (omega arith))
-
-add-settled-2 : tie.Need-add-settled-2
-add-settled-2 c = search needs
 
 settled-requires : tie.Need-settled-requires
 settled-requires c κs =
@@ -47,5 +38,4 @@ returns c = (ap (λ (z : ℕ). c .before .args .w / 2 * 2 ^ 52 + z) (c .settled 
 
 pub root-scaled-spec : {M : Type 1} → statement M
 root-scaled-spec =
-    tie.close
-    (tie.spec mul-result add-settled mul-settled add-settled-2 settled-requires add-result returns)
+    tie.close (tie.spec (search needs) (search needs) mul-settled (search needs) settled-requires add-result returns)

@@ -73,29 +73,11 @@ left-is m q k M Q K e =
 mul-p : tie.Need-mul-p
 mul-p c = let p = parts (c .args .q) (c .pre .3) in omega arith
 
-mul-wrapping-sub-u64 : tie.Need-mul-wrapping-sub-u64
-mul-wrapping-sub-u64 c = search needs
-
-add-wrapping-sub-u64 : tie.Need-add-wrapping-sub-u64
-add-wrapping-sub-u64 c = search needs
-
 mul-wrapping-sub-u64-2 : tie.Need-mul-wrapping-sub-u64-2
 mul-wrapping-sub-u64-2 c = let p = parts (c .args .q) (c .pre .3) in omega arith
 
 add-wrapping-sub-u64-2 : tie.Need-add-wrapping-sub-u64-2
 add-wrapping-sub-u64-2 c = let p = parts (c .args .q) (c .pre .3) in omega arith
-
-wrapping-sub-u64-requires : tie.Need-wrapping-sub-u64-requires
-wrapping-sub-u64-requires c κs = search needs
-
-add-r : tie.Need-add-r
-add-r c = search needs
-
-mul-r : tie.Need-mul-r
-mul-r c = search needs
-
-mul-r-2 : tie.Need-mul-r-2
-mul-r-2 c = search needs
 
 mul-r-3 : tie.Need-mul-r-3
 mul-r-3 c = let p = parts (c .before .args .q) (c .before .pre .3) in omega arith
@@ -105,39 +87,6 @@ add-r-2 c = let p = parts (c .before .args .q) (c .before .pre .3) in omega arit
 
 sub-r : tie.Need-sub-r
 sub-r c = let p = parts (c .before .args .q) (c .before .pre .3) in omega arith
-
-mul-if1 : tie.Need-mul-if1
-mul-if1 c = search needs
-
-add-if1 : tie.Need-add-if1
-add-if1 c = search needs
-
-mul-if1-2 : tie.Need-mul-if1-2
-mul-if1-2 c = search needs
-
-add-if1-2 : tie.Need-add-if1-2
-add-if1-2 c = search needs
-
-add-less : tie.Need-add-less
-add-less c = search needs
-
-less-requires : tie.Need-less-requires
-less-requires c κs = search needs
-
-add-result : tie.Need-add-result
-add-result c = search needs
-
-add-less-2 : tie.Need-add-less-2
-add-less-2 c = search needs
-
-less-requires-2 : tie.Need-less-requires-2
-less-requires-2 c κs = search needs
-
-sub-result : tie.Need-sub-result
-sub-result c = search needs
-
-nearest-root-requires : tie.Need-nearest-root-requires
-nearest-root-requires c κs = search needs
 
 abbrev rest : tie.Then1 → ℕ
 rest c = left (c .before .before .args .q) (c .before .wrapping-sub-u64 .result)
@@ -167,35 +116,10 @@ returns c =
     (⊎-elim (λ w. inl (omega arith, w .1)) (λ w. inr (omega arith, w .1)) (c .before .less .ensures .1))
     (⊎-elim (λ w. inl (omega arith, w .1)) (λ w. inr (omega arith, w .1)) (c .less2 .ensures .1))
 
-returns-2 : tie.Need-returns-2
-returns-2 c = search needs
-
 pub settled-spec : {M : Type 1} → statement M
 settled-spec =
     tie.close
-    (tie.spec
-    mul-p
-    mul-wrapping-sub-u64
-    add-wrapping-sub-u64
-    mul-wrapping-sub-u64-2
-    add-wrapping-sub-u64-2
-    wrapping-sub-u64-requires
-    add-r
-    mul-r
-    mul-r-2
-    mul-r-3
-    add-r-2
-    sub-r
-    mul-if1
-    add-if1
-    mul-if1-2
-    add-if1-2
-    add-less
-    less-requires
-    add-result
-    add-less-2
-    less-requires-2
-    sub-result
-    nearest-root-requires
-    returns
-    returns-2)
+    (tie.spec mul-p (search needs) (search needs) mul-wrapping-sub-u64-2 add-wrapping-sub-u64-2 (search needs)
+    (search needs) (search needs) (search needs) mul-r-3 add-r-2 sub-r (search needs) (search needs) (search needs)
+    (search needs) (search needs) (search needs) (search needs) (search needs) (search needs) (search needs)
+    (search needs) returns (search needs))

@@ -19,20 +19,8 @@ abbrev μ-loop : tie.MeasureT-loop
 loop-holds : tie.Need-loop-holds Inv-loop μ-loop
 loop-holds c = (omega arith, refl, same-rows (rowsOf (c .before .args .rows .now)))
 
-sub-i : tie.Need-sub-i Inv-loop μ-loop
-sub-i c = search needs
-
-sink-requires : tie.Need-sink-requires Inv-loop μ-loop
-sink-requires c κs = search needs
-
-loop-less : tie.Need-loop-less Inv-loop μ-loop
-loop-less c = search needs
-
 loop-again : tie.Need-loop-again Inv-loop μ-loop
 loop-again c = (omega arith, omega (arith, c .before .before .sink .kept), same-then (rowsOf (c .before .before .before .before .before .before .before .args .rows .now)) (rowsOf (c .before .before .before .before .before .loop .rows)) _ (c .before .before .before .before .before .loop .inv .2) (c .before .before .sink .ensures))
-
-same-length : tie.Need-same-length Inv-loop μ-loop
-same-length c = search needs
 
 returns : tie.Need-returns Inv-loop μ-loop
 returns c = c .before .loop .inv .2
@@ -40,13 +28,4 @@ returns c = c .before .loop .inv .2
 pub heap-spec : {M : Type 1} → statement M
 heap-spec =
     tie.close
-    (tie.spec
-    Inv-loop
-    μ-loop
-    loop-holds
-    sub-i
-    sink-requires
-    loop-less
-    loop-again
-    same-length
-    returns)
+    (tie.spec Inv-loop μ-loop loop-holds (search needs) (search needs) (search needs) loop-again (search needs) returns)

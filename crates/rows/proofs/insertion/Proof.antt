@@ -22,21 +22,12 @@ loop-holds c = (omega arith, refl, record { same = same-rows (rowsOf (c .before 
 settle-requires : tie.Need-settle-requires Inv-loop μ-loop
 settle-requires c κs = (omega arith, c .before .before .loop .inv .2 .rising)
 
-add-next : tie.Need-add-next Inv-loop μ-loop
-add-next c = search needs
-
-loop-less : tie.Need-loop-less Inv-loop μ-loop
-loop-less c = search needs
-
 loop-again : tie.Need-loop-again Inv-loop μ-loop
 loop-again c =
     let t = c .before .before .before .before .before .before .before .args .rows .now in
     let l = c .before .before .before .before .before .loop in
     let m = c .before .before .settle .ensures in
     (omega arith, omega (arith, c .before .before .settle .kept), record { same = same-then (rowsOf t) (rowsOf (l .rows)) _ (l .inv .2 .same) (m .same); rising = m .rising })
-
-same-length : tie.Need-same-length Inv-loop μ-loop
-same-length c = search needs
 
 returns : tie.Need-returns Inv-loop μ-loop
 returns c =
@@ -46,13 +37,5 @@ returns c =
 pub insertion-spec : {M : Type 1} → statement M
 insertion-spec =
     tie.close
-    (tie.spec
-    Inv-loop
-    μ-loop
-    loop-holds
-    settle-requires
-    add-next
-    loop-less
-    loop-again
-    same-length
+    (tie.spec Inv-loop μ-loop loop-holds settle-requires (search needs) (search needs) loop-again (search needs)
     returns)

@@ -9,11 +9,9 @@ use Rattle.rows.proofs.largest.Tie as tie
 returns : tie.Need-returns
 returns c = sym (largest-none (c .before .args .rows .now) (omega arith))
 
-shared-slice-read-result : tie.Need-shared-slice-read-result
-shared-slice-read-result c = search needs
-
 returns-2 : tie.Need-returns-2
 returns-2 c = sym (largest-first (c .before .before .args .rows .now) (omega arith))
 
 pub largest-spec : {M : Type 1} → statement M
-largest-spec = tie.close (tie.spec returns shared-slice-read-result returns-2)
+largest-spec =
+    tie.close (tie.spec returns (search needs) returns-2)

@@ -5,9 +5,6 @@ use Rattle.rows.proofs.Areas.{less-taken, less-kept}
 use Rattle.rows.proofs.less_above.Statement.{statement}
 use Rattle.rows.proofs.less_above.Tie as tie
 
-least32-requires : tie.Need-least32-requires
-least32-requires c κs = search needs
-
 returns : tie.Need-returns
 returns c = c .least32 .ensures ∙ less-taken (c .before .before .args .m) (c .before .before .args .a) (c .before .if1 .taken)
 
@@ -15,4 +12,5 @@ returns-2 : tie.Need-returns-2
 returns-2 c = less-kept (c .before .args .m) (c .before .args .a) (c .if1 .left)
 
 pub less-above-spec : {M : Type 1} → statement M
-less-above-spec = tie.close (tie.spec least32-requires returns returns-2)
+less-above-spec =
+    tie.close (tie.spec (search needs) returns returns-2)

@@ -14,12 +14,6 @@ returns c =
     let s = c .before .before .before .before .before .args .s in
     then-first (lt (s .area) (r .area)) (lt (r .area) (s .area)) _ (c .if1 .taken)
 
-then-by-requires : tie.Need-then-by-requires
-then-by-requires c κs = search needs
-
-then-by-requires-2 : tie.Need-then-by-requires-2
-then-by-requires-2 c κs = search needs
-
 returns-2 : tie.Need-returns-2
 unfolding precedes
 returns-2 c =
@@ -29,4 +23,5 @@ returns-2 c =
     ∙ then-rest (lt (s .area) (r .area)) (lt (r .area) (s .area)) _ (c .before .before .before .before .before .before .before .before .before .before .before .before .if1 .left)
 
 pub precedes-spec : {M : Type 1} → statement M
-precedes-spec = tie.close (tie.spec returns then-by-requires then-by-requires-2 returns-2)
+precedes-spec =
+    tie.close (tie.spec returns (search needs) (search needs) returns-2)

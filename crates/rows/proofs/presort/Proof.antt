@@ -5,24 +5,6 @@ use borrow.Author.Needs.{needs}
 use Rattle.rows.proofs.presort.Statement.{statement}
 use Rattle.rows.proofs.presort.Tie as tie
 
-quick-requires : tie.Need-quick-requires
-quick-requires c κs = search needs
-
-same-length : tie.Need-same-length
-same-length c = search needs
-
-returns : tie.Need-returns
-returns c = search needs
-
-heap-requires : tie.Need-heap-requires
-heap-requires c κs = search needs
-
-unheap-requires : tie.Need-unheap-requires
-unheap-requires c κs = search needs
-
-same-length-2 : tie.Need-same-length-2
-same-length-2 c = search needs
-
 returns-2 : tie.Need-returns-2
 returns-2 c =
     let t = rowsOf (c .before .before .before .before .before .before .before .before .before .before .before .before .before .before .args .rows .now) in
@@ -33,11 +15,4 @@ returns-2 c =
 pub presort-spec : {M : Type 1} → statement M
 presort-spec =
     tie.close
-    (tie.spec
-    quick-requires
-    same-length
-    returns
-    heap-requires
-    unheap-requires
-    same-length-2
-    returns-2)
+    (tie.spec (search needs) (search needs) (search needs) (search needs) (search needs) (search needs) returns-2)

@@ -19,15 +19,6 @@ abbrev μ-loop : tie.MeasureT-loop
 loop-holds : tie.Need-loop-holds Inv-loop μ-loop
 loop-holds c = (omega arith, refl, scaled-none (c .before .args .by) (rowsOf (c .before .args .rows .now)))
 
-scale-row-requires : tie.Need-scale-row-requires Inv-loop μ-loop
-scale-row-requires c κs = search needs
-
-add-i : tie.Need-add-i Inv-loop μ-loop
-add-i c = search needs
-
-loop-less : tie.Need-loop-less Inv-loop μ-loop
-loop-less c = search needs
-
 loop-again : tie.Need-loop-again Inv-loop μ-loop
 loop-again c =
     let a = c .before .before .before .before .before .before .before .args in
@@ -36,9 +27,6 @@ loop-again c =
       omega (arith, c .before .before .scale-row .kept),
       scaled-next (a .by) (l .i) (rowsOf (a .rows .now)) (rowsOf (l .rows)) _ (row-inside (a .rows .now) (l .i) (omega arith)) (l .inv .2) (c .before .before .scale-row .ensures),
     )
-
-same-length : tie.Need-same-length Inv-loop μ-loop
-same-length c = search needs
 
 returns : tie.Need-returns Inv-loop μ-loop
 returns c =
@@ -49,13 +37,4 @@ returns c =
 pub scale-spec : {M : Type 1} → statement M
 scale-spec =
     tie.close
-    (tie.spec
-    Inv-loop
-    μ-loop
-    loop-holds
-    scale-row-requires
-    add-i
-    loop-less
-    loop-again
-    same-length
-    returns)
+    (tie.spec Inv-loop μ-loop loop-holds (search needs) (search needs) (search needs) loop-again (search needs) returns)

@@ -4,17 +4,9 @@ use borrow.Author.Needs.{needs}
 use Rattle.rows.proofs.scale_row.Statement.{statement}
 use Rattle.rows.proofs.scale_row.Tie as tie
 
-get-requires : tie.Need-get-requires
-get-requires c κs = search needs
-
-put-requires : tie.Need-put-requires
-put-requires c κs = search needs
-
-same-length : tie.Need-same-length
-same-length c = search needs
-
 returns : tie.Need-returns
 returns c = c .before .before .put .ensures ∙ rw (c .before .before .before .before .before .get .ensures)
 
 pub scale-row-spec : {M : Type 1} → statement M
-scale-row-spec = tie.close (tie.spec get-requires put-requires same-length returns)
+scale-row-spec =
+    tie.close (tie.spec (search needs) (search needs) (search needs) returns)

@@ -22,32 +22,11 @@ abbrev μ-loop : tie.MeasureT-loop
 loop-holds : tie.Need-loop-holds Inv-loop μ-loop
 loop-holds c = (omega arith, refl, same-rows (rowsOf (c .before .args .rows .now)), sinking-start (rowsOf (c .before .args .rows .now)) (c .before .args .i) (c .before .pre .1))
 
-sub-ahead : tie.Need-sub-ahead Inv-loop μ-loop
-sub-ahead c = search needs
-
-ahead-requires : tie.Need-ahead-requires Inv-loop μ-loop
-ahead-requires c κs = search needs
-
-same-length : tie.Need-same-length Inv-loop μ-loop
-same-length c = search needs
-
 returns : tie.Need-returns Inv-loop μ-loop
 returns c =
     let i = c .before .before .before .before .before .before .args .i in
     let l = c .before .before .before .before .loop in
     record { same = l .inv .2; rising = sinking-end (rowsOf (l .rows)) i (l .j) (l .inv .3) (λ h. sym (c .before .ahead .ensures) ∙ not-true _ (c .if1 .taken)) }
-
-sub-swap : tie.Need-sub-swap Inv-loop μ-loop
-sub-swap c = search needs
-
-swap-requires : tie.Need-swap-requires Inv-loop μ-loop
-swap-requires c κs = search needs
-
-sub-j : tie.Need-sub-j Inv-loop μ-loop
-sub-j c = search needs
-
-loop-less : tie.Need-loop-less Inv-loop μ-loop
-loop-less c = search needs
 
 loop-again : tie.Need-loop-again Inv-loop μ-loop
 loop-again c =
@@ -61,9 +40,6 @@ loop-again c =
       sinking-step (rowsOf (l .rows)) _ i (l .j) (omega arith) (omega arith) (row-inside (l .rows) i here) (l .inv .3) (sym (c .before .before .before .before .before .ahead .ensures) ∙ not-false _ (c .before .before .before .before .if1 .left)) (c .before .before .swap .ensures),
     )
 
-same-length-2 : tie.Need-same-length-2 Inv-loop μ-loop
-same-length-2 c = search needs
-
 returns-2 : tie.Need-returns-2 Inv-loop μ-loop
 returns-2 c =
     let i = c .before .before .before .args .i in
@@ -73,18 +49,5 @@ returns-2 c =
 pub settle-spec : {M : Type 1} → statement M
 settle-spec =
     tie.close
-    (tie.spec
-    Inv-loop
-    μ-loop
-    loop-holds
-    sub-ahead
-    ahead-requires
-    same-length
-    returns
-    sub-swap
-    swap-requires
-    sub-j
-    loop-less
-    loop-again
-    same-length-2
-    returns-2)
+    (tie.spec Inv-loop μ-loop loop-holds (search needs) (search needs) (search needs) returns (search needs)
+    (search needs) (search needs) (search needs) loop-again (search needs) returns-2)

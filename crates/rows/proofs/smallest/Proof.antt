@@ -27,24 +27,6 @@ loop-holds : tie.Need-loop-holds Inv-loop μ-loop
 unfolding ofBits
 loop-holds c = (omega arith, refl)
 
-mul-less-above : tie.Need-mul-less-above Inv-loop μ-loop
-mul-less-above c = search needs
-
-mul-less-above-2 : tie.Need-mul-less-above-2 Inv-loop μ-loop
-mul-less-above-2 c = search needs
-
-shared-slice-read-less-above : tie.Need-shared-slice-read-less-above Inv-loop μ-loop
-shared-slice-read-less-above c = search needs
-
-less-above-requires : tie.Need-less-above-requires Inv-loop μ-loop
-less-above-requires c κs = search needs
-
-add-i : tie.Need-add-i Inv-loop μ-loop
-add-i c = search needs
-
-loop-less : tie.Need-loop-less Inv-loop μ-loop
-loop-less c = search needs
-
 loop-again : tie.Need-loop-again Inv-loop μ-loop
 loop-again c =
     let t = c .before .before .before .before .before .args .rows .now in
@@ -71,17 +53,5 @@ returns-2 c =
 pub smallest-spec : {M : Type 1} → statement M
 smallest-spec =
     tie.close
-    (tie.spec
-    Inv-loop
-    μ-loop
-    float-from-bits-most
-    loop-holds
-    mul-less-above
-    mul-less-above-2
-    shared-slice-read-less-above
-    less-above-requires
-    add-i
-    loop-less
-    loop-again
-    returns
-    returns-2)
+    (tie.spec Inv-loop μ-loop float-from-bits-most loop-holds (search needs) (search needs) (search needs)
+    (search needs) (search needs) (search needs) loop-again returns returns-2)

@@ -11,15 +11,6 @@ use borrow.Author.Needs.{needs}
 use Rattle.rows.proofs.sort.Statement.{statement}
 use Rattle.rows.proofs.sort.Tie as tie
 
-presort-requires : tie.Need-presort-requires
-presort-requires c κs = search needs
-
-insertion-requires : tie.Need-insertion-requires
-insertion-requires c κs = search needs
-
-same-length : tie.Need-same-length
-same-length c = search needs
-
 returns : tie.Need-returns
 returns c =
     let s = c .before .before .before .before .before .before .before .before .before in
@@ -33,4 +24,5 @@ returns c =
     ∙ ap flatten (rising-sorted (rowsOf t) (rowsOf u) (s .pre .2) (rows-single t (c .before .before .before .before .before .before .before .before .slice-known .given)) same (λ k h. settled .rising k (omega (arith, length-rows u .0))))
 
 pub sort-spec : {M : Type 1} → statement M
-sort-spec = tie.close (tie.spec presort-requires insertion-requires same-length returns)
+sort-spec =
+    tie.close (tie.spec (search needs) (search needs) (search needs) returns)

@@ -8,21 +8,6 @@ use borrow.Author.Needs.{needs}
 use Rattle.rows.proofs.split.Statement.{statement}
 use Rattle.rows.proofs.split.Tie as tie
 
-middle-requires : tie.Need-middle-requires
-middle-requires c κs = search needs
-
-swap-requires : tie.Need-swap-requires
-swap-requires c κs = search needs
-
-divide-requires : tie.Need-divide-requires
-divide-requires c κs = search needs
-
-swap-requires-2 : tie.Need-swap-requires-2
-swap-requires-2 c κs = search needs
-
-same-length : tie.Need-same-length
-same-length c = search needs
-
 returns : tie.Need-returns
 returns c =
     let t = c .before .before .before .before .before .before .before .before .before .before .before .before .before .before .before .args .rows .now in
@@ -38,5 +23,4 @@ returns c =
 
 pub split-spec : {M : Type 1} → statement M
 split-spec =
-    tie.close
-    (tie.spec middle-requires swap-requires divide-requires swap-requires-2 same-length returns)
+    tie.close (tie.spec (search needs) (search needs) (search needs) (search needs) (search needs) returns)

@@ -5,21 +5,6 @@ use borrow.Author.Needs.{needs}
 use Rattle.rows.proofs.swap.Statement.{statement}
 use Rattle.rows.proofs.swap.Tie as tie
 
-get-requires : tie.Need-get-requires
-get-requires c κs = search needs
-
-get-requires-2 : tie.Need-get-requires-2
-get-requires-2 c κs = search needs
-
-put-requires : tie.Need-put-requires
-put-requires c κs = search needs
-
-put-requires-2 : tie.Need-put-requires-2
-put-requires-2 c κs = search needs
-
-same-length : tie.Need-same-length
-same-length c = search needs
-
 returns : tie.Need-returns
 returns c =
     let args = c .before .before .before .before .before .before .before .before .before .before .before .before .before .args in
@@ -29,5 +14,4 @@ returns c =
 
 pub swap-spec : {M : Type 1} → statement M
 swap-spec =
-    tie.close
-    (tie.spec get-requires get-requires-2 put-requires put-requires-2 same-length returns)
+    tie.close (tie.spec (search needs) (search needs) (search needs) (search needs) (search needs) returns)

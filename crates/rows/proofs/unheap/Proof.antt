@@ -21,18 +21,6 @@ abbrev μ-loop : tie.MeasureT-loop
 loop-holds : tie.Need-loop-holds Inv-loop μ-loop
 loop-holds c = (omega arith, refl, same-rows (rowsOf (c .before .args .rows .now)))
 
-sub-end : tie.Need-sub-end Inv-loop μ-loop
-sub-end c = search needs
-
-swap-requires : tie.Need-swap-requires Inv-loop μ-loop
-swap-requires c κs = search needs
-
-sink-requires : tie.Need-sink-requires Inv-loop μ-loop
-sink-requires c κs = search needs
-
-loop-less : tie.Need-loop-less Inv-loop μ-loop
-loop-less c = search needs
-
 loop-again : tie.Need-loop-again Inv-loop μ-loop
 loop-again c =
     let t = c .before .before .before .before .before .before .before .before .before .before .before .args .rows .now in
@@ -40,23 +28,11 @@ loop-again c =
     let swapped = same-swap (rowsOf t) (rowsOf (l .rows)) (rowsOf (c .before .before .before .before .before .before .swap .last .0)) 0 (l .end - 1) (l .inv .2) (c .before .before .before .before .before .before .swap .ensures) (row-inside (l .rows) 0 (omega arith)) (row-inside (l .rows) (l .end - 1) (omega arith)) in
     (omega arith, omega (arith, c .before .before .before .before .before .before .swap .kept, c .before .before .sink .kept), same-then (rowsOf t) (rowsOf (c .before .before .before .before .before .before .swap .last .0)) _ swapped (c .before .before .sink .ensures))
 
-same-length : tie.Need-same-length Inv-loop μ-loop
-same-length c = search needs
-
 returns : tie.Need-returns Inv-loop μ-loop
 returns c = c .before .loop .inv .2
 
 pub unheap-spec : {M : Type 1} → statement M
 unheap-spec =
     tie.close
-    (tie.spec
-    Inv-loop
-    μ-loop
-    loop-holds
-    sub-end
-    swap-requires
-    sink-requires
-    loop-less
-    loop-again
-    same-length
-    returns)
+    (tie.spec Inv-loop μ-loop loop-holds (search needs) (search needs) (search needs) (search needs) loop-again
+    (search needs) returns)

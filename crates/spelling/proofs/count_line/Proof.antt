@@ -5,18 +5,6 @@ use Rattle.spelling.proofs.Puts.{puts-both}
 use Rattle.spelling.proofs.count_line.Statement.{statement}
 use Rattle.spelling.proofs.count_line.Tie as tie
 
-put-requires : tie.Need-put-requires
-put-requires c κs = search needs
-
-put-decimal-requires : tie.Need-put-decimal-requires
-put-decimal-requires c κs = search needs
-
-put-byte-requires : tie.Need-put-byte-requires
-put-byte-requires c κs = search needs
-
-same-length : tie.Need-same-length
-same-length c = search needs
-
 returns : tie.Need-returns
 returns c =
     let z = c .before .before in
@@ -28,10 +16,4 @@ returns c =
 
 pub count-line-spec : {M : Type 1} → statement M
 count-line-spec =
-    tie.close
-    (tie.spec
-    put-requires
-    put-decimal-requires
-    put-byte-requires
-    same-length
-    returns)
+    tie.close (tie.spec (search needs) (search needs) (search needs) (search needs) returns)

@@ -20,9 +20,6 @@ loop-holds c =
     let s = c .before .before .before in
     (search needs, left-all (s .args .at) (filled (s .args .form .now) (s .args .numbers .now)) (s .args .out .now) (s .pre))
 
-shared-slice-read-if1 : tie.Need-shared-slice-read-if1 Inv-loop μ-loop
-shared-slice-read-if1 c = search needs
-
 mul-put-number : tie.Need-mul-put-number Inv-loop μ-loop
 mul-put-number c =
     let l = c .before .before .before .before in
@@ -49,23 +46,11 @@ add-used c =
     let h = number-left (a .form .now) (l .loop .i) (a .numbers .now) (l .loop .used) (c .before .before .before .before .before .if1 .taken) in
     search needs
 
-shared-slice-read-out : tie.Need-shared-slice-read-out Inv-loop μ-loop
-shared-slice-read-out c = search needs
-
 slice-write-out : tie.Need-slice-write-out Inv-loop μ-loop
 slice-write-out c =
     let l = c .before .before .before .before in
     let a = l .before .before .before .before .args in
     byte-room (l .loop .inv .1) _ _ (form-byte (a .form .now) (l .loop .i) (a .numbers .now) (l .loop .used) (search needs) (c .before .if1 .left))
-
-add-end : tie.Need-add-end Inv-loop μ-loop
-add-end c = search needs
-
-add-i : tie.Need-add-i Inv-loop μ-loop
-add-i c = search needs
-
-loop-less : tie.Need-loop-less Inv-loop μ-loop
-loop-less c = search needs
 
 loop-again : tie.Need-loop-again Inv-loop μ-loop
 loop-again c =
@@ -78,9 +63,6 @@ loop-again c =
           (c .if1 .came),
     )
 
-same-length : tie.Need-same-length Inv-loop μ-loop
-same-length c = search needs
-
 returns : tie.Need-returns Inv-loop μ-loop
 returns c =
     let l = c .before in
@@ -90,20 +72,6 @@ returns c =
 pub fill-spec : {M : Type 1} → statement M
 fill-spec =
     tie.close
-    (tie.spec
-    Inv-loop
-    μ-loop
-    loop-holds
-    shared-slice-read-if1
-    mul-put-number
-    shared-slice-read-put-number
-    put-number-requires
-    add-used
-    shared-slice-read-out
-    slice-write-out
-    add-end
-    add-i
-    loop-less
-    loop-again
-    same-length
+    (tie.spec Inv-loop μ-loop loop-holds (search needs) mul-put-number shared-slice-read-put-number put-number-requires
+    add-used (search needs) slice-write-out (search needs) (search needs) (search needs) loop-again (search needs)
     returns)

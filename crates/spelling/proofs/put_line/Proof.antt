@@ -24,32 +24,14 @@ loop-holds c =
     let l = line-within 0 (c .args .k) (c .args .lines .now) in
     (search needs, search needs, left-all (c .args .at) (lineOf 0 (c .args .k) (c .args .lines .now)) (c .args .out .now) (omega (arith, c .pre)))
 
-shared-slice-read-out : tie.Need-shared-slice-read-out Inv-loop μ-loop
-shared-slice-read-out c = search needs
-
 slice-write-out : tie.Need-slice-write-out Inv-loop μ-loop
 slice-write-out c =
     let l = c .before .before .before in
     let a = l .before .args in
     byte-room (l .loop .inv .2) _ _ (line-put (a .lines .now) (l .loop .i) (l .loop .line) (a .k) (search needs) (eq-eqb _ _ (c .before .if1 .taken)))
 
-add-end : tie.Need-add-end Inv-loop μ-loop
-add-end c = search needs
-
-shared-slice-read-line : tie.Need-shared-slice-read-line Inv-loop μ-loop
-shared-slice-read-line c = search needs
-
-cast-line : tie.Need-cast-line Inv-loop μ-loop
-cast-line c = search needs
-
 add-line : tie.Need-add-line Inv-loop μ-loop
 add-line c = omega (arith, byte-small (eqb (getD (c .before .before .before .before .args .lines .now) (c .before .before .before .loop .i) 0) 10))
-
-add-i : tie.Need-add-i Inv-loop μ-loop
-add-i c = search needs
-
-loop-less : tie.Need-loop-less Inv-loop μ-loop
-loop-less c = search needs
 
 loop-again : tie.Need-loop-again Inv-loop μ-loop
 loop-again c =
@@ -63,9 +45,6 @@ loop-again c =
           (c .before .if1 .came),
     )
 
-same-length : tie.Need-same-length Inv-loop μ-loop
-same-length c = search needs
-
 returns : tie.Need-returns Inv-loop μ-loop
 returns c =
     let l = c .before in
@@ -76,18 +55,5 @@ returns c =
 pub put-line-spec : {M : Type 1} → statement M
 put-line-spec =
     tie.close
-    (tie.spec
-    Inv-loop
-    μ-loop
-    loop-holds
-    shared-slice-read-out
-    slice-write-out
-    add-end
-    shared-slice-read-line
-    cast-line
-    add-line
-    add-i
-    loop-less
-    loop-again
-    same-length
-    returns)
+    (tie.spec Inv-loop μ-loop loop-holds (search needs) slice-write-out (search needs) (search needs) (search needs)
+    add-line (search needs) (search needs) loop-again (search needs) returns)

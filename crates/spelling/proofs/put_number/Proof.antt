@@ -14,38 +14,14 @@ Inv-loop out₀ at x rest₀ i₀ out rest i = (i ≤ 8) × (length out ≡ leng
 abbrev μ-loop : tie.MeasureT-loop
 μ-loop out₀ at x rest₀ i₀ out rest i = i
 
-bits32-requires : tie.Need-bits32-requires Inv-loop μ-loop
-bits32-requires c κs = search needs
-
 loop-holds : tie.Need-loop-holds Inv-loop μ-loop
 loop-holds c = (search needs, search needs, spelt-none (c .before .before .args .at) (c .bits32 .result) (c .before .before .args .out .now))
-
-sub-i : tie.Need-sub-i Inv-loop μ-loop
-sub-i c = search needs
-
-glyph-requires : tie.Need-glyph-requires Inv-loop μ-loop
-glyph-requires c κs = search needs
-
-add-out : tie.Need-add-out Inv-loop μ-loop
-add-out c = search needs
-
-slice-write-out : tie.Need-slice-write-out Inv-loop μ-loop
-slice-write-out c = search needs
-
-loop-less : tie.Need-loop-less Inv-loop μ-loop
-loop-less c = search needs
 
 loop-again : tie.Need-loop-again Inv-loop μ-loop
 loop-again c =
     let l = c .before .before in
     let s = l .before .before .before in
     (search needs, search needs, spelt-more (s .args .at) _ (l .loop .inv .2) _ (c .glyph .ensures) (search needs) (s .pre))
-
-add-result : tie.Need-add-result Inv-loop μ-loop
-add-result c = search needs
-
-same-length : tie.Need-same-length Inv-loop μ-loop
-same-length c = search needs
 
 returns : tie.Need-returns Inv-loop μ-loop
 unfolding bits
@@ -54,17 +30,5 @@ returns c = rw (← c .before .before .bits32 .ensures) (spelt-all _ _ (c .befor
 pub put-number-spec : {M : Type 1} → statement M
 put-number-spec =
     tie.close
-    (tie.spec
-    Inv-loop
-    μ-loop
-    bits32-requires
-    loop-holds
-    sub-i
-    glyph-requires
-    add-out
-    slice-write-out
-    loop-less
-    loop-again
-    add-result
-    same-length
-    returns)
+    (tie.spec Inv-loop μ-loop (search needs) loop-holds (search needs) (search needs) (search needs) (search needs)
+    (search needs) loop-again (search needs) (search needs) returns)

@@ -10,25 +10,10 @@ use Rattle.table.proofs.Counts.{more-fits}
 use Rattle.steps.proofs.walk.Statement.{statement}
 use Rattle.steps.proofs.walk.Tie as tie
 
-lesser-requires : tie.Need-lesser-requires
-lesser-requires c κs = search needs
-
-greater-requires : tie.Need-greater-requires
-greater-requires c κs = search needs
-
-hash-requires : tie.Need-hash-requires
-hash-requires c κs = search needs
-
-home-requires : tie.Need-home-requires
-home-requires c κs = search needs
-
 find-requires : tie.Need-find-requires
 find-requires c κs =
     let s = c .before .before .before .before .before .before in
     (c .before .home .ensures .1, s .pre .0, s .pre .1, room-free (s .args .n) (s .args .work .now) (s .pre .2))
-
-weight-requires : tie.Need-weight-requires
-weight-requires c κs = search needs
 
 bump-requires : tie.Need-bump-requires
 bump-requires c κs =
@@ -36,9 +21,6 @@ bump-requires c κs =
     let f = c .before .before .find in
     let room = room-word (s .args .n) (s .args .work .now) (s .pre .2) (f .result) (f .ensures .within) in
     (omega (arith, f .ensures .within), omega (arith, f .ensures .within), rw (c .weight .ensures) (more-fits _ room (ltb (s .args .u) (s .args .v))))
-
-same-length : tie.Need-same-length
-same-length c = search needs
 
 returns : tie.Need-returns
 unfolding step homeOf
@@ -57,13 +39,5 @@ returns c =
 pub walk-spec : {M : Type 1} → statement M
 walk-spec =
     tie.close
-    (tie.spec
-    lesser-requires
-    greater-requires
-    hash-requires
-    home-requires
-    find-requires
-    weight-requires
-    bump-requires
-    same-length
-    returns)
+    (tie.spec (search needs) (search needs) (search needs) (search needs) find-requires (search needs) bump-requires
+    (search needs) returns)

@@ -10,4 +10,5 @@ returns-2 : tie.Need-returns-2
 returns-2 c = rw (le-ltb _ _ (c .if1 .left))
 
 pub weight-spec : {M : Type 1} → statement M
-weight-spec = tie.close (tie.spec returns returns-2)
+weight-spec =
+    tie.close (tie.spec returns returns-2)

@@ -15,21 +15,6 @@ Inv-loop vertices n b₀ v₀ b v = (v ≤ n) × (b ≡ boxTo vertices v)
 abbrev μ-loop : tie.MeasureT-loop
 μ-loop vertices n b₀ v₀ b v = n - v
 
-no-bounds-requires : tie.Need-no-bounds-requires Inv-loop μ-loop
-no-bounds-requires c κs = search needs
-
-loop-holds : tie.Need-loop-holds Inv-loop μ-loop
-loop-holds c = search needs
-
-with-vertex-requires : tie.Need-with-vertex-requires Inv-loop μ-loop
-with-vertex-requires c κs = search needs
-
-add-v : tie.Need-add-v Inv-loop μ-loop
-add-v c = search needs
-
-loop-less : tie.Need-loop-less Inv-loop μ-loop
-loop-less c = search needs
-
 loop-again : tie.Need-loop-again Inv-loop μ-loop
 loop-again c = (omega arith, rw (add-one (c .before .before .loop .v)) (c .with-vertex .ensures))
 
@@ -42,13 +27,5 @@ returns c =
 pub box-of-spec : {M : Type 1} → statement M
 box-of-spec =
     tie.close
-    (tie.spec
-    Inv-loop
-    μ-loop
-    no-bounds-requires
-    loop-holds
-    with-vertex-requires
-    add-v
-    loop-less
-    loop-again
+    (tie.spec Inv-loop μ-loop (search needs) (search needs) (search needs) (search needs) (search needs) loop-again
     returns)

@@ -9,44 +9,8 @@ use borrow.Author.Needs.{needs}
 use Rattle.sums.proofs.cross_at.Statement.{statement}
 use Rattle.sums.proofs.cross_at.Tie as tie
 
-no-cross-requires : tie.Need-no-cross-requires
-no-cross-requires c κs = search needs
-
 returns : tie.Need-returns
 returns c = λ h. absurd (omega (arith, h))
-
-mul-at : tie.Need-mul-at
-mul-at c = search needs
-
-mul-a : tie.Need-mul-a
-mul-a c = search needs
-
-shared-slice-read-a : tie.Need-shared-slice-read-a
-shared-slice-read-a c = search needs
-
-add-b : tie.Need-add-b
-add-b c = search needs
-
-mul-b : tie.Need-mul-b
-mul-b c = search needs
-
-shared-slice-read-b : tie.Need-shared-slice-read-b
-shared-slice-read-b c = search needs
-
-add-c : tie.Need-add-c
-add-c c = search needs
-
-mul-c : tie.Need-mul-c
-mul-c c = search needs
-
-shared-slice-read-c : tie.Need-shared-slice-read-c
-shared-slice-read-c c = search needs
-
-corners-in-range-requires : tie.Need-corners-in-range-requires
-corners-in-range-requires c κs = search needs
-
-no-cross-requires-2 : tie.Need-no-cross-requires-2
-no-cross-requires-2 c κs = search needs
 
 returns-2 : tie.Need-returns-2
 unfolding triangle
@@ -87,9 +51,6 @@ corner-requires-3 c κs =
     let a = c .before .before .before .before .before .before .before .before .before .before .args in
     (corners-are (a .vertices .now) (triangle (a .indices .now) (a .t)) (sym (c .before .before .before .corners-in-range .ensures) ∙ not-false (c .before .before .before .corners-in-range .result) (c .before .before .if2 .left)) .2, c .before .before .before .before .before .before .before .before .before .before .pre .1)
 
-cross-corners-requires : tie.Need-cross-corners-requires
-cross-corners-requires c κs = search needs
-
 returns-3 : tie.Need-returns-3
 unfolding triangle
 returns-3 c =
@@ -100,26 +61,6 @@ returns-3 c =
 pub cross-at-spec : {M : Type 1} → statement M
 cross-at-spec =
     tie.close
-    (tie.spec
-    no-cross-requires
-    returns
-    mul-at
-    mul-a
-    shared-slice-read-a
-    add-b
-    mul-b
-    shared-slice-read-b
-    add-c
-    mul-c
-    shared-slice-read-c
-    corners-in-range-requires
-    no-cross-requires-2
-    returns-2
-    cast-corner
-    corner-requires
-    cast-corner-2
-    corner-requires-2
-    cast-corner-3
-    corner-requires-3
-    cross-corners-requires
-    returns-3)
+    (tie.spec (search needs) returns (search needs) (search needs) (search needs) (search needs) (search needs)
+    (search needs) (search needs) (search needs) (search needs) (search needs) (search needs) returns-2 cast-corner
+    corner-requires cast-corner-2 corner-requires-2 cast-corner-3 corner-requires-3 (search needs) returns-3)

@@ -4,23 +4,10 @@ use borrow.Author.Needs.{needs}
 use Rattle.sums.proofs.facet_by.Statement.{statement}
 use Rattle.sums.proofs.facet_by.Tie as tie
 
-narrow-requires : tie.Need-narrow-requires
-narrow-requires c κs = search needs
-
-narrow-requires-2 : tie.Need-narrow-requires-2
-narrow-requires-2 c κs = search needs
-
-narrow-requires-3 : tie.Need-narrow-requires-3
-narrow-requires-3 c κs = search needs
-
-narrow-requires-4 : tie.Need-narrow-requires-4
-narrow-requires-4 c κs = search needs
-
 returns : tie.Need-returns
 unfolding facetBy
 returns c = rw (c .before .before .before .before .before .before .narrow .ensures, c .before .before .before .before .narrow2 .ensures, c .before .before .narrow3 .ensures, c .narrow4 .ensures)
 
 pub facet-by-spec : {M : Type 1} → statement M
 facet-by-spec =
-    tie.close
-    (tie.spec narrow-requires narrow-requires-2 narrow-requires-3 narrow-requires-4 returns)
+    tie.close (tie.spec (search needs) (search needs) (search needs) (search needs) returns)

@@ -12,4 +12,5 @@ unfolding greatest
 returns-2 c = rw (c .before .pre, c .if1 .left)
 
 pub higher-spec : {M : Type 1} → statement M
-higher-spec = tie.close (tie.spec returns returns-2)
+higher-spec =
+    tie.close (tie.spec returns returns-2)

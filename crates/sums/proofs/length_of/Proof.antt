@@ -8,9 +8,6 @@ use borrow.Author.Needs.{needs}
 use Rattle.sums.proofs.length_of.Statement.{statement}
 use Rattle.sums.proofs.length_of.Tie as tie
 
-root64-requires : tie.Need-root64-requires
-root64-requires c κs = search needs
-
 returns : tie.Need-returns
 returns c =
     let a = c .before .args in
@@ -25,4 +22,5 @@ returns-2 c =
     (c .root64 .ensures, c .root64 .ensures ∙ root-by-pattern (a .square) (a .b) (c .before .before .good .0 .1) (c .before .before .pre .0))
 
 pub length-of-spec : {M : Type 1} → statement M
-length-of-spec = tie.close (tie.spec root64-requires returns returns-2)
+length-of-spec =
+    tie.close (tie.spec (search needs) returns returns-2)

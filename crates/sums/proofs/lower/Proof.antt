@@ -12,4 +12,5 @@ unfolding least
 returns-2 c = rw (c .before .pre, c .if1 .left)
 
 pub lower-spec : {M : Type 1} → statement M
-lower-spec = tie.close (tie.spec returns returns-2)
+lower-spec =
+    tie.close (tie.spec returns returns-2)

@@ -18,4 +18,5 @@ unfolding boxTo lowest highest ofBits
 returns c = search needs
 
 pub no-bounds-spec : {M : Type 1} → statement M
-no-bounds-spec = tie.close (tie.spec float-from-bits-up float-from-bits-down returns)
+no-bounds-spec =
+    tie.close (tie.spec float-from-bits-up float-from-bits-down returns)

@@ -7,4 +7,5 @@ returns : tie.Need-returns
 returns c = crossed-none _ _ _ _ _
 
 pub no-cross-spec : {M : Type 1} → statement M
-no-cross-spec = tie.close (tie.spec returns)
+no-cross-spec =
+    tie.close (tie.spec returns)

@@ -7,4 +7,5 @@ returns : tie.Need-returns
 returns c = prepares-nothing _ _ _ _
 
 pub nothing-spec : {M : Type 1} → statement M
-nothing-spec = tie.close (tie.spec returns)
+nothing-spec =
+    tie.close (tie.spec returns)

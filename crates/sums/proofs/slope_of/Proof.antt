@@ -14,9 +14,6 @@ returns-2 c =
     let a = c .before .before .before .before .args in
     slope-bottom (a .pair) (a .z) (c .before .before .if1 .left) (c .if2 .taken)
 
-magnitude32-requires : tie.Need-magnitude32-requires
-magnitude32-requires c κs = search needs
-
 returns-3 : tie.Need-returns-3
 returns-3 c =
     let a = c .before .before .before .before .before .before .before .args in
@@ -28,4 +25,5 @@ returns-4 c =
     slope-inclined (a .pair) (a .z) (c .before .before .before .before .before .if1 .left) (c .before .before .before .if2 .left) (c .before .before .magnitude32 .ensures) (c .if3 .left)
 
 pub slope-of-spec : {M : Type 1} → statement M
-slope-of-spec = tie.close (tie.spec returns returns-2 magnitude32-requires returns-3 returns-4)
+slope-of-spec =
+    tie.close (tie.spec returns returns-2 (search needs) returns-3 returns-4)

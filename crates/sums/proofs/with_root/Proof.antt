@@ -4,14 +4,9 @@ use borrow.Author.Needs.{needs}
 use Rattle.sums.proofs.with_root.Statement.{statement}
 use Rattle.sums.proofs.with_root.Tie as tie
 
-bits64-requires : tie.Need-bits64-requires
-bits64-requires c κs = search needs
-
-length-of-requires : tie.Need-length-of-requires
-length-of-requires c κs = search needs
-
 returns : tie.Need-returns
 returns c = prepares-crossed _ _ _ (c .before .bits64 .ensures) (c .length-of .ensures .0) (c .length-of .ensures .1)
 
 pub with-root-spec : {M : Type 1} → statement M
-with-root-spec = tie.close (tie.spec bits64-requires length-of-requires returns)
+with-root-spec =
+    tie.close (tie.spec (search needs) (search needs) returns)

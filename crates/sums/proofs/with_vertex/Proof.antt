@@ -8,33 +8,6 @@ use borrow.Author.Needs.{needs}
 use Rattle.sums.proofs.with_vertex.Statement.{statement}
 use Rattle.sums.proofs.with_vertex.Tie as tie
 
-mul-at : tie.Need-mul-at
-mul-at c = search needs
-
-mul-x : tie.Need-mul-x
-mul-x c = search needs
-
-shared-slice-read-x : tie.Need-shared-slice-read-x
-shared-slice-read-x c = search needs
-
-add-y : tie.Need-add-y
-add-y c = search needs
-
-mul-y : tie.Need-mul-y
-mul-y c = search needs
-
-shared-slice-read-y : tie.Need-shared-slice-read-y
-shared-slice-read-y c = search needs
-
-add-z : tie.Need-add-z
-add-z c = search needs
-
-mul-z : tie.Need-mul-z
-mul-z c = search needs
-
-shared-slice-read-z : tie.Need-shared-slice-read-z
-shared-slice-read-z c = search needs
-
 lower-requires : tie.Need-lower-requires
 unfolding boxTo
 lower-requires c κs = ap (λ (b : Bounds). isNan (b .xmin)) (c .before .before .before .before .pre .1) ∙ lowest-number (c .before .before .before .before .args .vertices .now) 0 (c .before .before .before .before .args .v)
@@ -67,20 +40,6 @@ returns c =
 pub with-vertex-spec : {M : Type 1} → statement M
 with-vertex-spec =
     tie.close
-    (tie.spec
-    mul-at
-    mul-x
-    shared-slice-read-x
-    add-y
-    mul-y
-    shared-slice-read-y
-    add-z
-    mul-z
-    shared-slice-read-z
-    lower-requires
-    lower-requires-2
-    lower-requires-3
-    higher-requires
-    higher-requires-2
-    higher-requires-3
-    returns)
+    (tie.spec (search needs) (search needs) (search needs) (search needs) (search needs) (search needs) (search needs)
+    (search needs) (search needs) lower-requires lower-requires-2 lower-requires-3 higher-requires higher-requires-2
+    higher-requires-3 returns)

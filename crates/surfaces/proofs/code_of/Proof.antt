@@ -6,15 +6,6 @@ use borrow.Author.Needs.{needs}
 use Rattle.surfaces.proofs.code_of.Statement.{statement}
 use Rattle.surfaces.proofs.code_of.Tie as tie
 
-coded-requires : tie.Need-coded-requires
-coded-requires c κs = search needs
-
-coded-requires-2 : tie.Need-coded-requires-2
-coded-requires-2 c κs = search needs
-
-coded-requires-3 : tie.Need-coded-requires-3
-coded-requires-3 c κs = search needs
-
 returns : tie.Need-returns
 unfolding codeOf
 returns c =
@@ -26,4 +17,5 @@ returns c =
     rw (c .before .before .before .before .coded .ensures, c .before .before .coded2 .ensures, c .coded3 .ensures, x, y, z)
 
 pub code-of-spec : {M : Type 1} → statement M
-code-of-spec = tie.close (tie.spec coded-requires coded-requires-2 coded-requires-3 returns)
+code-of-spec =
+    tie.close (tie.spec (search needs) (search needs) (search needs) returns)

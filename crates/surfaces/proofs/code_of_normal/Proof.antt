@@ -6,50 +6,14 @@ use borrow.Author.Needs.{needs}
 use Rattle.surfaces.proofs.code_of_normal.Statement.{statement}
 use Rattle.surfaces.proofs.code_of_normal.Tie as tie
 
-tenfold-requires : tie.Need-tenfold-requires
-tenfold-requires c κs = search needs
-
-tenfold-requires-2 : tie.Need-tenfold-requires-2
-tenfold-requires-2 c κs = search needs
-
-tenfold-requires-3 : tie.Need-tenfold-requires-3
-tenfold-requires-3 c κs = search needs
-
-quantize-normal-requires : tie.Need-quantize-normal-requires
-quantize-normal-requires c κs = search needs
-
-code-of-requires : tie.Need-code-of-requires
-code-of-requires c κs = search needs
-
 returns : tie.Need-returns
 returns c = c .code-of .ensures ∙ ap codeOf (c .before .quantize-normal .ensures)
-
-quantize-normal-requires-2 : tie.Need-quantize-normal-requires-2
-quantize-normal-requires-2 c κs = search needs
-
-code-of-requires-2 : tie.Need-code-of-requires-2
-code-of-requires-2 c κs = search needs
 
 returns-2 : tie.Need-returns-2
 returns-2 c = c .code-of2 .ensures ∙ ap codeOf (c .before .quantize-normal2 .ensures)
 
-quantize-normal-requires-3 : tie.Need-quantize-normal-requires-3
-quantize-normal-requires-3 c κs = search needs
-
-code-of-requires-3 : tie.Need-code-of-requires-3
-code-of-requires-3 c κs = search needs
-
 returns-3 : tie.Need-returns-3
 returns-3 c = c .code-of3 .ensures ∙ ap codeOf (c .before .quantize-normal3 .ensures)
-
-pattern-code-requires : tie.Need-pattern-code-requires
-pattern-code-requires c κs = search needs
-
-pattern-code-requires-2 : tie.Need-pattern-code-requires-2
-pattern-code-requires-2 c κs = search needs
-
-pattern-code-requires-3 : tie.Need-pattern-code-requires-3
-pattern-code-requires-3 c κs = search needs
 
 returns-4 : tie.Need-returns-4
 unfolding codeOf keyOf
@@ -58,20 +22,6 @@ returns-4 c = rw (c .before .before .pattern-code .ensures (c .before .before .b
 pub code-of-normal-spec : {M : Type 1} → statement M
 code-of-normal-spec =
     tie.close
-    (tie.spec
-    tenfold-requires
-    tenfold-requires-2
-    tenfold-requires-3
-    quantize-normal-requires
-    code-of-requires
-    returns
-    quantize-normal-requires-2
-    code-of-requires-2
-    returns-2
-    quantize-normal-requires-3
-    code-of-requires-3
-    returns-3
-    pattern-code-requires
-    pattern-code-requires-2
-    pattern-code-requires-3
+    (tie.spec (search needs) (search needs) (search needs) (search needs) (search needs) returns (search needs)
+    (search needs) returns-2 (search needs) (search needs) returns-3 (search needs) (search needs) (search needs)
     returns-4)

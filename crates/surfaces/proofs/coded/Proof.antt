@@ -18,9 +18,6 @@ kept64 c = toZ-ofZ w64 (c .args .k) (widened (c .args .k) (c .fits .k))
 cast-coded : tie.Need-cast-coded
 cast-coded c = rw (kept c) (widened (c .args .k) (c .fits .k))
 
-coded-requires : tie.Need-coded-requires
-coded-requires c κs = search needs
-
 cast-result : tie.Need-cast-result
 cast-result c = rw (c .coded .ensures, kept (c .before), kept64 (c .before)) (coded-fits (c .before .args .k) (c .before .fits .k))
 
@@ -28,4 +25,5 @@ returns : tie.Need-returns
 returns c = rw (c .coded .ensures, kept (c .before), kept64 (c .before))
 
 pub coded-spec : {M : Type 1} → statement M
-coded-spec = tie.close (tie.spec cast-coded coded-requires cast-result returns)
+coded-spec =
+    tie.close (tie.spec cast-coded (search needs) cast-result returns)

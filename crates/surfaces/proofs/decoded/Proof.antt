@@ -11,9 +11,6 @@ use borrow.Author.Needs.{needs}
 use Rattle.surfaces.proofs.decoded.Statement.{statement}
 use Rattle.surfaces.proofs.decoded.Tie as tie
 
-cast-h : tie.Need-cast-h
-cast-h c = search needs
-
 sub-result : tie.Need-sub-result
 sub-result c =
     let x = c .before .args .x in
@@ -31,4 +28,5 @@ returns-2 c =
     λ z e. toZ-ofZ w32 (negsuc 0 -ℤ toZ w32 (x / 2)) (sub-result c) ∙ ap (λ y. negsuc 0 -ℤ y) (toZ-pos w32 (x / 2) (omega arith)) ∙ minus-one (x / 2) ∙ code-odd x z (omega arith) e
 
 pub decoded-spec : {M : Type 1} → statement M
-decoded-spec = tie.close (tie.spec cast-h sub-result returns returns-2)
+decoded-spec =
+    tie.close (tie.spec (search needs) sub-result returns returns-2)

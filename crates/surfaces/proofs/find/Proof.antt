@@ -20,17 +20,8 @@ Inv-loop index m k start n r₀ r = (r < 2 * m) × Passed (2 * m) start (keyIn m
 abbrev μ-loop : tie.MeasureT-loop
 μ-loop index m k start n r₀ r = 2 * m - dist (2 * m) start r
 
-mul-n : tie.Need-mul-n Inv-loop μ-loop
-mul-n c = search needs
-
 loop-holds : tie.Need-loop-holds Inv-loop μ-loop
 loop-holds c = let s = c .before in (s .pre .1, λ j l d. absurd (omega (arith, dist-here (2 * s .args .m) (s .args .start) (s .pre .1))))
-
-mul-s : tie.Need-mul-s Inv-loop μ-loop
-mul-s c = search needs
-
-shared-slice-read-s : tie.Need-shared-slice-read-s Inv-loop μ-loop
-shared-slice-read-s c = search needs
 
 cast-s : tie.Need-cast-s Inv-loop μ-loop
 cast-s c = omega (arith, c .shared-slice-known2 .given (c .before .loop .r))
@@ -42,9 +33,6 @@ same-requires : tie.Need-same-requires Inv-loop μ-loop
 same-requires c κs =
     let s = c .before .before .before .before in
     (s .pre .0, omega (arith, c .if1 .left, s .pre .3 .within (c .before .before .loop .r) (c .before .before .loop .inv .0)), s .pre .2)
-
-next-requires : tie.Need-next-requires Inv-loop μ-loop
-next-requires c κs = search needs
 
 -- what the test of slot r says: it holds the code, or the search goes on
 module _ (c : tie.After-same Inv-loop μ-loop) where
@@ -93,18 +81,5 @@ returns-2 c = let l = c .before .before .before .before .loop in record { within
 pub find-spec : {M : Type 1} → statement M
 find-spec =
     tie.close
-    (tie.spec
-    Inv-loop
-    μ-loop
-    mul-n
-    loop-holds
-    mul-s
-    shared-slice-read-s
-    cast-s
-    sub-same
-    same-requires
-    next-requires
-    loop-less
-    loop-again
-    returns
-    returns-2)
+    (tie.spec Inv-loop μ-loop (search needs) loop-holds (search needs) (search needs) cast-s sub-same same-requires
+    (search needs) loop-less loop-again returns returns-2)

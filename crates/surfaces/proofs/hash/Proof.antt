@@ -5,33 +5,6 @@ use borrow.Author.Needs.{needs}
 use Rattle.surfaces.proofs.hash.Statement.{statement}
 use Rattle.surfaces.proofs.hash.Tie as tie
 
-cast-result : tie.Need-cast-result
-cast-result c = search needs
-
-mul-result : tie.Need-mul-result
-mul-result c = search needs
-
-cast-result-2 : tie.Need-cast-result-2
-cast-result-2 c = search needs
-
-mul-result-2 : tie.Need-mul-result-2
-mul-result-2 c = search needs
-
-add-result : tie.Need-add-result
-add-result c = search needs
-
-cast-result-3 : tie.Need-cast-result-3
-cast-result-3 c = search needs
-
-mul-result-3 : tie.Need-mul-result-3
-mul-result-3 c = search needs
-
-add-result-2 : tie.Need-add-result-2
-add-result-2 c = search needs
-
-cast-result-4 : tie.Need-cast-result-4
-cast-result-4 c = search needs
-
 returns : tie.Need-returns
 unfolding hashOf
 returns c = refl
@@ -39,14 +12,5 @@ returns c = refl
 pub hash-spec : {M : Type 1} → statement M
 hash-spec =
     tie.close
-    (tie.spec
-    cast-result
-    mul-result
-    cast-result-2
-    mul-result-2
-    add-result
-    cast-result-3
-    mul-result-3
-    add-result-2
-    cast-result-4
-    returns)
+    (tie.spec (search needs) (search needs) (search needs) (search needs) (search needs) (search needs) (search needs)
+    (search needs) (search needs) returns)

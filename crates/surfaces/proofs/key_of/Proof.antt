@@ -8,15 +8,6 @@ use borrow.Author.Needs.{needs}
 use Rattle.surfaces.proofs.key_of.Statement.{statement}
 use Rattle.surfaces.proofs.key_of.Tie as tie
 
-decoded-requires : tie.Need-decoded-requires
-decoded-requires c κs = search needs
-
-decoded-requires-2 : tie.Need-decoded-requires-2
-decoded-requires-2 c κs = search needs
-
-decoded-requires-3 : tie.Need-decoded-requires-3
-decoded-requires-3 c κs = search needs
-
 returns : tie.Need-returns
 unfolding codeOf keyOf
 returns c =
@@ -24,4 +15,5 @@ returns c =
     rw (c .before .before .decoded .ensures (tenths x) (ap (λ (l : Code). l .x) e), c .before .decoded2 .ensures (tenths y) (ap (λ (l : Code). l .y) e), c .decoded3 .ensures (tenths z) (ap (λ (l : Code). l .z) e), tenths-kept x, tenths-kept y, tenths-kept z)
 
 pub key-of-spec : {M : Type 1} → statement M
-key-of-spec = tie.close (tie.spec decoded-requires decoded-requires-2 decoded-requires-3 returns)
+key-of-spec =
+    tie.close (tie.spec (search needs) (search needs) (search needs) returns)

@@ -8,50 +8,11 @@ use Rattle.surfaces.specs.Index.{withRow}
 use Rattle.surfaces.proofs.new_row.Statement.{statement}
 use Rattle.surfaces.proofs.new_row.Tie as tie
 
-mul-at : tie.Need-mul-at
-mul-at c = search needs
-
-first-area-requires : tie.Need-first-area-requires
-first-area-requires c κs = search needs
-
-tenth-requires : tie.Need-tenth-requires
-tenth-requires c κs = search needs
-
-add-rows : tie.Need-add-rows
-add-rows c = search needs
-
-mul-rows : tie.Need-mul-rows
-mul-rows c = search needs
-
-slice-write-rows : tie.Need-slice-write-rows
-slice-write-rows c = search needs
-
-tenth-requires-2 : tie.Need-tenth-requires-2
-tenth-requires-2 c κs = search needs
-
-add-rows-2 : tie.Need-add-rows-2
-add-rows-2 c = search needs
-
-mul-rows-2 : tie.Need-mul-rows-2
-mul-rows-2 c = search needs
-
 slice-write-rows-2 : tie.Need-slice-write-rows-2
 slice-write-rows-2 c = simp length-set (omega (arith, c .before .before .before .before .before .before .first-area .kept .0, c .before .before .before .before .before .before .before .before .before .pre .1))
 
-tenth-requires-3 : tie.Need-tenth-requires-3
-tenth-requires-3 c κs = search needs
-
-add-rows-3 : tie.Need-add-rows-3
-add-rows-3 c = search needs
-
-mul-rows-3 : tie.Need-mul-rows-3
-mul-rows-3 c = search needs
-
 slice-write-rows-3 : tie.Need-slice-write-rows-3
 slice-write-rows-3 c = simp length-set (omega (arith, c .before .before .before .before .before .before .before .before .first-area .kept .0, c .before .before .before .before .before .before .before .before .before .before .before .pre .1))
-
-same-length : tie.Need-same-length
-same-length c = search needs
 
 returns : tie.Need-returns
 unfolding withRow
@@ -66,20 +27,6 @@ returns c =
 pub new-row-spec : {M : Type 1} → statement M
 new-row-spec =
     tie.close
-    (tie.spec
-    mul-at
-    first-area-requires
-    tenth-requires
-    add-rows
-    mul-rows
-    slice-write-rows
-    tenth-requires-2
-    add-rows-2
-    mul-rows-2
-    slice-write-rows-2
-    tenth-requires-3
-    add-rows-3
-    mul-rows-3
-    slice-write-rows-3
-    same-length
-    returns)
+    (tie.spec (search needs) (search needs) (search needs) (search needs) (search needs) (search needs) (search needs)
+    (search needs) (search needs) slice-write-rows-2 (search needs) (search needs) (search needs) slice-write-rows-3
+    (search needs) returns)

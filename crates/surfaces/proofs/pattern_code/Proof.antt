@@ -17,9 +17,6 @@ small : (c : tie.After-half-size32) (y : Float) → ofBits binary32 (c .before .
     → (2 * c .half-size32 .result - min (c .before .args .b / 2 ^ 31) (c .half-size32 .result) ≡ coded (toSigned 31 (halfAway binary32 y))) × (c .half-size32 .result < 2 ^ 31)
 small c y is = by-pattern binary32 31 (omega arith) y (c .before .args .b) (c .half-size32 .result) is (c .before .pre .0) (c .before .pre .1) (c .half-size32 .ensures)
 
-half-size32-requires : tie.Need-half-size32-requires
-half-size32-requires c κs = search needs
-
 coded-size-requires : tie.Need-coded-size-requires
 coded-size-requires c κs = omega (arith, small c _ refl .1)
 
@@ -32,4 +29,4 @@ returns c = λ x is. c .coded-size .ensures ∙ small (c .before) (x ⊗ ten) is
 
 pub pattern-code-spec : {M : Type 1} → statement M
 pattern-code-spec =
-    tie.close (tie.spec half-size32-requires coded-size-requires cast-result returns)
+    tie.close (tie.spec (search needs) coded-size-requires cast-result returns)

@@ -5,15 +5,6 @@ use borrow.Author.Needs.{needs}
 use Rattle.surfaces.proofs.quantize_normal.Statement.{statement}
 use Rattle.surfaces.proofs.quantize_normal.Tie as tie
 
-tenths-requires : tie.Need-tenths-requires
-tenths-requires c κs = search needs
-
-tenths-requires-2 : tie.Need-tenths-requires-2
-tenths-requires-2 c κs = search needs
-
-tenths-requires-3 : tie.Need-tenths-requires-3
-tenths-requires-3 c κs = search needs
-
 returns : tie.Need-returns
 unfolding keyOf
 returns c =
@@ -22,4 +13,4 @@ returns c =
 
 pub quantize-normal-spec : {M : Type 1} → statement M
 quantize-normal-spec =
-    tie.close (tie.spec tenths-requires tenths-requires-2 tenths-requires-3 returns)
+    tie.close (tie.spec (search needs) (search needs) (search needs) returns)

@@ -9,12 +9,6 @@ use Rattle.surfaces.specs.Surfaces.{ten}
 use Rattle.surfaces.proofs.tenfold.Statement.{statement}
 use Rattle.surfaces.proofs.tenfold.Tie as tie
 
-bits32-requires : tie.Need-bits32-requires
-bits32-requires c κs = search needs
-
-cast-result : tie.Need-cast-result
-cast-result c = search needs
-
 returns : tie.Need-returns
 returns c =
     let x = c .before .args .c in
@@ -22,4 +16,5 @@ returns c =
     (ap (ofBits binary32) (c .bits32 .ensures) ∙ ofBits-toBits binary32 (x ⊗ ten) fit, rw (c .bits32 .ensures) (toBits-lt binary32 (x ⊗ ten) fit))
 
 pub tenfold-spec : {M : Type 1} → statement M
-tenfold-spec = tie.close (tie.spec bits32-requires cast-result returns)
+tenfold-spec =
+    tie.close (tie.spec (search needs) (search needs) returns)

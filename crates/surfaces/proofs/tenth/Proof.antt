@@ -5,11 +5,9 @@ use borrow.Author.Needs.{needs}
 use Rattle.surfaces.proofs.tenth.Statement.{statement}
 use Rattle.surfaces.proofs.tenth.Tie as tie
 
-nearest-i32-to-f32-requires : tie.Need-nearest-i32-to-f32-requires
-nearest-i32-to-f32-requires c κs = search needs
-
 returns : tie.Need-returns
 returns c = rw (c .nearest-i32-to-f32 .ensures, toZ-ofZ w32 (c .before .args .k) (c .before .fits .k))
 
 pub tenth-spec : {M : Type 1} → statement M
-tenth-spec = tie.close (tie.spec nearest-i32-to-f32-requires returns)
+tenth-spec =
+    tie.close (tie.spec (search needs) returns)

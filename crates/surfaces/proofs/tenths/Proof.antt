@@ -12,12 +12,6 @@ use Rattle.surfaces.specs.Surfaces.{ten, tenths}
 use Rattle.surfaces.proofs.tenths.Statement.{statement}
 use Rattle.surfaces.proofs.tenths.Tie as tie
 
-round32-requires : tie.Need-round32-requires
-round32-requires c κs = search needs
-
-to-i32-requires : tie.Need-to-i32-requires
-to-i32-requires c κs = search needs
-
 -- from what each call ensures
 rounds : (x y : Float) (z : ℤ) → y ≡ halfAway binary32 (x ⊗ ten) → z ≡ toSigned 31 y → toZ w32 (ofZ w32 z) ≡ tenths x
 unfolding tenths
@@ -27,4 +21,5 @@ returns : tie.Need-returns
 returns c = rounds (c .before .before .args .c) (c .before .round32 .result) (c .to-i32 .result) (c .before .round32 .ensures) (c .to-i32 .ensures)
 
 pub tenths-spec : {M : Type 1} → statement M
-tenths-spec = tie.close (tie.spec round32-requires to-i32-requires returns)
+tenths-spec =
+    tie.close (tie.spec (search needs) (search needs) returns)

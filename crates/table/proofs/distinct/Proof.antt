@@ -37,4 +37,5 @@ returns c =
     ]
 
 pub distinct-spec : {M : Type 1} → statement M
-distinct-spec = tie.close (tie.spec returns)
+distinct-spec =
+    tie.close (tie.spec returns)

@@ -15,4 +15,5 @@ unfolding homeRow
 returns c = let m : c .args .hash * c .args .n ≤ 4294967295 * c .args .n = mul-le-mul-right (c .args .n) (omega (arith, c .fits .hash .fits)) in (refl, omega (arith, m, c .pre .0))
 
 pub home-spec : {M : Type 1} → statement M
-home-spec = tie.close (tie.spec mul-result returns)
+home-spec =
+    tie.close (tie.spec mul-result returns)

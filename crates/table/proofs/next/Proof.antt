@@ -5,9 +5,6 @@ use Rattle.table.specs.Rows.{nextRow}
 use Rattle.table.proofs.next.Statement.{statement}
 use Rattle.table.proofs.next.Tie as tie
 
-add-s : tie.Need-add-s
-add-s c = search needs
-
 returns : tie.Need-returns
 unfolding nextRow
 returns c = rw (eq-eqb _ _ (c .if1 .taken))
@@ -17,4 +14,5 @@ unfolding nextRow
 returns-2 c = rw (ne-eqb _ _ (c .if1 .left))
 
 pub next-spec : {M : Type 1} → statement M
-next-spec = tie.close (tie.spec add-s returns returns-2)
+next-spec =
+    tie.close (tie.spec (search needs) returns returns-2)

@@ -22,4 +22,5 @@ returns-3 c =
     rw (le-ltb 98304 (s .args .ids) (c .before .if1 .left), le-ltb (s .args .lent) (s .args .needed) (omega (arith, c .if2 .left)))
 
 pub refusal-spec : {M : Type 1} → statement M
-refusal-spec = tie.close (tie.spec returns returns-2 returns-3)
+refusal-spec =
+    tie.close (tie.spec returns returns-2 returns-3)

@@ -7,21 +7,6 @@ use borrow.Author.Needs.{needs}
 use Rattle.takeoff.proofs.read_behind.Statement.{statement}
 use Rattle.takeoff.proofs.read_behind.Tie as tie
 
-sub-read-some : tie.Need-sub-read-some
-sub-read-some c = search needs
-
-part-read-some-start : tie.Need-part-read-some-start
-part-read-some-start c = search needs
-
-part-read-some-end : tie.Need-part-read-some-end
-part-read-some-end c = search needs
-
-read-some-requires : tie.Need-read-some-requires
-read-some-requires c κs = search needs
-
-same-length : tie.Need-same-length
-same-length c = search needs
-
 returns : tie.Need-returns
 returns c =
     let s = c .before .before .before .before .before in
@@ -32,11 +17,4 @@ returns c =
 
 pub read-behind-spec : {M : Type 1} → statement M
 read-behind-spec =
-    tie.close
-    (tie.spec
-    sub-read-some
-    part-read-some-start
-    part-read-some-end
-    read-some-requires
-    same-length
-    returns)
+    tie.close (tie.spec (search needs) (search needs) (search needs) (search needs) (search needs) returns)

@@ -14,15 +14,6 @@ Inv-loop bytes₀ n have₀ bytes have = (length bytes ≡ length bytes₀) × (
 abbrev μ-loop : tie.MeasureT-loop
 μ-loop bytes₀ n have₀ bytes have = length bytes - have
 
-loop-holds : tie.Need-loop-holds Inv-loop μ-loop
-loop-holds c = search needs
-
-read-behind-requires : tie.Need-read-behind-requires Inv-loop μ-loop
-read-behind-requires c κs = search needs
-
-same-length : tie.Need-same-length Inv-loop μ-loop
-same-length c = search needs
-
 returns : tie.Need-returns Inv-loop μ-loop
 returns c =
     let s = c .before .before .before .before .before .before .before .before in
@@ -31,9 +22,6 @@ returns c =
     let stays = sooner (s .args .n) (l .have) (l .bytes) (b .last .0) (s .args .bytes .now) (l .inv .1) (b .ensures .0) (l .inv .3) in
     (stays, l .inv .1, omega (arith, l .inv .2, b .kept))
 
-same-length-2 : tie.Need-same-length-2 Inv-loop μ-loop
-same-length-2 c = search needs
-
 returns-2 : tie.Need-returns-2 Inv-loop μ-loop
 returns-2 c =
     let s = c .before .before .before .before .before .before .before .before .before .before in
@@ -41,9 +29,6 @@ returns-2 c =
     let b = c .before .before .before .before .before .read-behind in
     let stays = sooner (s .args .n) (l .have) (l .bytes) (b .last .0) (s .args .bytes .now) (l .inv .1) (b .ensures .0) (l .inv .3) in
     (stays, l .inv .1, omega (arith, l .inv .2, b .kept))
-
-add-have : tie.Need-add-have Inv-loop μ-loop
-add-have c = search needs
 
 loop-less : tie.Need-loop-less Inv-loop μ-loop
 loop-less c =
@@ -60,12 +45,6 @@ loop-again c =
     let stays = sooner (s .args .n) (l .have) (l .bytes) (b .last .0) (s .args .bytes .now) (l .inv .1) (b .ensures .0) (l .inv .3) in
     (omega (arith, b .kept, l .inv .0), omega (arith, b .ensures .1, l .inv .1), omega (arith, b .ensures .1, b .kept), stays)
 
-skip-rest-requires : tie.Need-skip-rest-requires Inv-loop μ-loop
-skip-rest-requires c κs = search needs
-
-same-length-3 : tie.Need-same-length-3 Inv-loop μ-loop
-same-length-3 c = search needs
-
 returns-3 : tie.Need-returns-3 Inv-loop μ-loop
 returns-3 c =
     let l = c .before .before .loop in
@@ -74,18 +53,5 @@ returns-3 c =
 pub read-input-spec : {M : Type 1} → statement M
 read-input-spec =
     tie.close
-    (tie.spec
-    Inv-loop
-    μ-loop
-    loop-holds
-    read-behind-requires
-    same-length
-    returns
-    same-length-2
-    returns-2
-    add-have
-    loop-less
-    loop-again
-    skip-rest-requires
-    same-length-3
-    returns-3)
+    (tie.spec Inv-loop μ-loop (search needs) (search needs) (search needs) returns (search needs) returns-2
+    (search needs) loop-less loop-again (search needs) (search needs) returns-3)

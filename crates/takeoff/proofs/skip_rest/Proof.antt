@@ -32,14 +32,4 @@ returns-2 c = tt
 
 pub skip-rest-spec : {M : Type 1} → statement M
 skip-rest-spec =
-    tie.close
-    (tie.spec
-    Inv-loop
-    μ-loop
-    loop-holds
-    skip-some-requires
-    sub-turns
-    loop-less
-    loop-again
-    returns
-    returns-2)
+    tie.close (tie.spec Inv-loop μ-loop loop-holds skip-some-requires sub-turns loop-less loop-again returns returns-2)

@@ -10,27 +10,12 @@ use Rattle.tally.proofs.Behind.{empty-edges}
 use Rattle.tally.proofs.chain_behind.Statement.{statement}
 use Rattle.tally.proofs.chain_behind.Tie as tie
 
-sub-i : tie.Need-sub-i
-sub-i c = search needs
-
-rows-requires : tie.Need-rows-requires
-rows-requires c κs = search needs
-
-mul-clear : tie.Need-mul-clear
-mul-clear c = search needs
-
-clear-requires : tie.Need-clear-requires
-clear-requires c κs = search needs
-
 gather-chain-behind-requires : tie.Need-gather-chain-behind-requires
 gather-chain-behind-requires c κs =
     let s = c .before .before .before .before .before .before .before in
     let at = s .args .at in
     let area = s .args .area .now in
     empty-edges (length area - at) (c .before .before .before .before .before .rows .result) at area (c .before .before .before .clear .last .0) (omega (arith, s .pre .0)) (omega (arith, s .pre .1)) (s .pre .2) (c .before .before .before .before .before .rows .ensures) (c .before .before .before .clear .ensures) (c .before .before .before .clear .kept .0)
-
-slice-reshare-prefix-tally-edges : tie.Need-slice-reshare-prefix-tally-edges
-slice-reshare-prefix-tally-edges c = search needs
 
 slice-aggregate-tally-edges : tie.Need-slice-aggregate-tally-edges
 slice-aggregate-tally-edges c =
@@ -42,9 +27,6 @@ tally-edges-requires c κs =
     let s = c .before .before .before .before .before .before .before .before .before .before .before in
     let long = length-take-le (s .args .at) (c .before .before .before .gather-chain-behind .last .0) (omega (arith, s .pre .0, c .before .before .before .gather-chain-behind .kept, c .before .before .before .before .before .before .before .clear .kept)) in
     (omega (arith, c .before .before .before .before .before .before .before .before .before .rows .ensures, s .pre .1), omega (arith, c .before .before .before .before .before .before .before .before .before .rows .ensures, s .pre .2, long))
-
-same-length : tie.Need-same-length
-same-length c = search needs
 
 returns : tie.Need-returns
 returns c =
@@ -59,14 +41,5 @@ returns c =
 pub chain-behind-spec : {M : Type 1} → statement M
 chain-behind-spec =
     tie.close
-    (tie.spec
-    sub-i
-    rows-requires
-    mul-clear
-    clear-requires
-    gather-chain-behind-requires
-    slice-reshare-prefix-tally-edges
-    slice-aggregate-tally-edges
-    tally-edges-requires
-    same-length
-    returns)
+    (tie.spec (search needs) (search needs) (search needs) (search needs) gather-chain-behind-requires (search needs)
+    slice-aggregate-tally-edges tally-edges-requires (search needs) returns)

@@ -20,4 +20,5 @@ returns c =
     ]
 
 pub enough-spec : {M : Type 1} → statement M
-enough-spec = tie.close (tie.spec returns)
+enough-spec =
+    tie.close (tie.spec returns)

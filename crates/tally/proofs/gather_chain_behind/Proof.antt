@@ -7,18 +7,6 @@ use Rattle.tally.proofs.Chain.{chain-all, chain-none}
 use Rattle.tally.proofs.gather_chain_behind.Statement.{statement}
 use Rattle.tally.proofs.gather_chain_behind.Tie as tie
 
-sub-enough : tie.Need-sub-enough
-sub-enough c = search needs
-
-enough-requires : tie.Need-enough-requires
-enough-requires c κs = search needs
-
-gather-behind-requires : tie.Need-gather-behind-requires
-gather-behind-requires c κs = search needs
-
-same-length : tie.Need-same-length
-same-length c = search needs
-
 returns : tie.Need-returns
 returns c =
     let s = c .before .before .before .before .before .before .before in
@@ -35,5 +23,4 @@ returns-2 c =
 
 pub gather-chain-behind-spec : {M : Type 1} → statement M
 gather-chain-behind-spec =
-    tie.close
-    (tie.spec sub-enough enough-requires gather-behind-requires same-length returns returns-2)
+    tie.close (tie.spec (search needs) (search needs) (search needs) (search needs) returns returns-2)

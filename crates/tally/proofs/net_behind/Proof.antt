@@ -10,15 +10,6 @@ use Rattle.tally.proofs.Behind.{empty-faces}
 use Rattle.tally.proofs.net_behind.Statement.{statement}
 use Rattle.tally.proofs.net_behind.Tie as tie
 
-sub-n : tie.Need-sub-n
-sub-n c = search needs
-
-mul-n : tie.Need-mul-n
-mul-n c = search needs
-
-mul-clear : tie.Need-mul-clear
-mul-clear c = search needs
-
 clear-requires : tie.Need-clear-requires
 clear-requires c κs =
     let s = c .before .before in
@@ -37,9 +28,6 @@ gather-behind-requires c κs =
     let fits : 4 * m ≤ at = rw length-drop at (s .pre .2) in
     empty-faces m at area (c .before .before .before .clear .last .0) (s .pre .0) (s .pre .1) refl fits (c .before .before .before .clear .ensures) (c .before .before .before .clear .kept .0)
 
-slice-reshare-prefix-tally-faces : tie.Need-slice-reshare-prefix-tally-faces
-slice-reshare-prefix-tally-faces c = search needs
-
 slice-aggregate-tally-faces : tie.Need-slice-aggregate-tally-faces
 slice-aggregate-tally-faces c =
     let s = c .before .before .before .before .before .before .before .before .before .before in
@@ -54,9 +42,6 @@ tally-faces-requires c κs =
     let fits : 4 * m ≤ at = rw length-drop at (s .pre .2) in
     let long = length-take-le at (c .before .before .before .gather-behind .last .0) (omega (arith, s .pre .0, c .before .before .before .gather-behind .kept, c .before .before .before .before .before .before .before .clear .kept)) in
     (omega (arith, s .pre .1), omega (arith, long))
-
-same-length : tie.Need-same-length
-same-length c = search needs
 
 returns : tie.Need-returns
 returns c =
@@ -73,14 +58,5 @@ returns c =
 pub net-behind-spec : {M : Type 1} → statement M
 net-behind-spec =
     tie.close
-    (tie.spec
-    sub-n
-    mul-n
-    mul-clear
-    clear-requires
-    gather-behind-requires
-    slice-reshare-prefix-tally-faces
-    slice-aggregate-tally-faces
-    tally-faces-requires
-    same-length
-    returns)
+    (tie.spec (search needs) (search needs) (search needs) clear-requires gather-behind-requires (search needs)
+    slice-aggregate-tally-faces tally-faces-requires (search needs) returns)

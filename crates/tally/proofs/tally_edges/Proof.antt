@@ -10,9 +10,6 @@ use Rattle.edges.proofs.Tally.{table-tally}
 use Rattle.tally.proofs.tally_edges.Statement.{statement}
 use Rattle.tally.proofs.tally_edges.Tie as tie
 
-survey-rows-requires : tie.Need-survey-rows-requires
-survey-rows-requires c κs = search needs
-
 -- boundary-free by cases: there is an edge or there is none
 ruleset tests = (lt-ltb, le-ltb, lt-leb, le-leb)
 
@@ -35,4 +32,5 @@ returns c =
     )
 
 pub tally-edges-spec : {M : Type 1} → statement M
-tally-edges-spec = tie.close (tie.spec survey-rows-requires returns)
+tally-edges-spec =
+    tie.close (tie.spec (search needs) returns)

@@ -4,9 +4,6 @@ use Rattle.faces.proofs.Answers.{net-max, net-off}
 use Rattle.tally.proofs.tally_faces.Statement.{statement}
 use Rattle.tally.proofs.tally_faces.Tie as tie
 
-net-requires : tie.Need-net-requires
-net-requires c κs = search needs
-
 returns : tie.Need-returns
 returns c =
     λ ids m.
@@ -16,4 +13,5 @@ returns c =
     (rw (c .before .net .ensures .0) (net-max ids n t m), rw (c .before .net .ensures .1) (net-off ids n t m))
 
 pub tally-faces-spec : {M : Type 1} → statement M
-tally-faces-spec = tie.close (tie.spec net-requires returns)
+tally-faces-spec =
+    tie.close (tie.spec (search needs) returns)

@@ -31,60 +31,12 @@ module _ (c : tie.After-is-free) where
   told : boundaryFree (st .args .indices .now) ≡ c .is-free .result
   told = free-is (st .args .indices .now) (st .args .near) ∙ ap isFree (sym said) ∙ sym (c .is-free .ensures)
 
-mul-front : tie.Need-mul-front
-mul-front c = search needs
-
-mul-front-2 : tie.Need-mul-front-2
-mul-front-2 c = search needs
-
-add-front : tie.Need-add-front
-add-front c = search needs
-
-mul-m : tie.Need-mul-m
-mul-m c = search needs
-
-mul-lay : tie.Need-mul-lay
-mul-lay c = search needs
-
-sub-lay : tie.Need-sub-lay
-sub-lay c = search needs
-
-part-lay-start : tie.Need-part-lay-start
-part-lay-start c = search needs
-
-part-lay-end : tie.Need-part-lay-end
-part-lay-end c = search needs
-
-lay-requires : tie.Need-lay-requires
-lay-requires c κs = search needs
-
-add-by-ids : tie.Need-add-by-ids
-add-by-ids c = search needs
-
-by-ids-requires : tie.Need-by-ids-requires
-by-ids-requires c κs = search needs
-
-is-free-requires : tie.Need-is-free-requires
-is-free-requires c κs = search needs
-
-by-welded-requires : tie.Need-by-welded-requires
-by-welded-requires c κs = search needs
-
-same-length : tie.Need-same-length
-same-length c = search needs
-
 returns : tie.Need-returns
 returns c =
     let asked = c .before .before .before .before .before in
     let a = st asked .args in
     let not-free : boundaryFree (a .indices .now) ≡ false = told asked ∙ not-true (asked .is-free .result) (c .before .before .before .before .if1 .taken) in
     rw (by-welded (a .vertices .now) (a .indices .now) (a .eps) (a .near) not-free) (c .before .before .by-welded .ensures)
-
-open-unless-free-requires : tie.Need-open-unless-free-requires
-open-unless-free-requires c κs = search needs
-
-same-length-2 : tie.Need-same-length-2
-same-length-2 c = search needs
 
 returns-2 : tie.Need-returns-2
 returns-2 c =
@@ -96,22 +48,6 @@ returns-2 c =
 pub by-chain-spec : {M : Type 1} → statement M
 by-chain-spec =
     tie.close
-    (tie.spec
-    mul-front
-    mul-front-2
-    add-front
-    mul-m
-    mul-lay
-    sub-lay
-    part-lay-start
-    part-lay-end
-    lay-requires
-    add-by-ids
-    by-ids-requires
-    is-free-requires
-    by-welded-requires
-    same-length
-    returns
-    open-unless-free-requires
-    same-length-2
-    returns-2)
+    (tie.spec (search needs) (search needs) (search needs) (search needs) (search needs) (search needs) (search needs)
+    (search needs) (search needs) (search needs) (search needs) (search needs) (search needs) (search needs) returns
+    (search needs) (search needs) returns-2)

@@ -34,25 +34,13 @@ returns c =
     let s = c .before .before in
     sym (unasked (drop (s .args .at) (s .args .area .now)) (s .args .near) (ap (λ (b : Bool). b || s .args .near) (sym (s .pre .3)) ∙ not-true _ (c .if1 .taken)))
 
-net-behind-requires : tie.Need-net-behind-requires
-net-behind-requires c κs = search needs
-
-same-length : tie.Need-same-length
-same-length c = search needs
-
 returns-2 : tie.Need-returns-2
 returns-2 c = let k = c .before .before .before .before in sym (one-sided (ids k) (st k .args .near) (asked k) (largest k ∙ le-leb 2 (k .net-behind .result .«max_abs») (c .if2 .taken)))
-
-same-length-2 : tie.Need-same-length-2
-same-length-2 c = search needs
 
 returns-3 : tie.Need-returns-3
 returns-3 c =
     let k = c .before .before .before .before .before .before in
     sym (cancels (ids k) (st k .args .near) (asked k) (largest k ∙ lt-leb 2 (k .net-behind .result .«max_abs») (c .before .before .if2 .left)) (cancel k ∙ c .if3 .taken))
-
-same-length-3 : tie.Need-same-length-3
-same-length-3 c = search needs
 
 returns-4 : tie.Need-returns-4
 returns-4 c =
@@ -62,12 +50,4 @@ returns-4 c =
 pub by-faces-spec : {M : Type 1} → statement M
 by-faces-spec =
     tie.close
-    (tie.spec
-    returns
-    net-behind-requires
-    same-length
-    returns-2
-    same-length-2
-    returns-3
-    same-length-3
-    returns-4)
+    (tie.spec returns (search needs) (search needs) returns-2 (search needs) returns-3 (search needs) returns-4)

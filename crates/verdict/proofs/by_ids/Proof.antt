@@ -26,32 +26,8 @@ module _ (c : tie.After-chain-behind) where
   same : drop (st .args .at - edge-part) (take (length (c .chain-behind .last .0) - edge-part) (drop edge-part (c .chain-behind .last .0))) ≡ ids
   same = behind-part edge-part (st .args .at) (c .chain-behind .last .0) (omega (arith, st .pre .2)) ∙ c .chain-behind .ensures .2
 
-mul-e : tie.Need-mul-e
-mul-e c = search needs
-
-chain-behind-requires : tie.Need-chain-behind-requires
-chain-behind-requires c κs = search needs
-
-same-length : tie.Need-same-length
-same-length c = search needs
-
 returns : tie.Need-returns
 returns c = let k = c .before .before .before .before in sym (bounded (ids k) (st k .args .near) (sym (k .chain-behind .ensures .0) ∙ not-true _ (c .if1 .taken)))
-
-mul-by-faces : tie.Need-mul-by-faces
-mul-by-faces c = search needs
-
-sub-by-faces : tie.Need-sub-by-faces
-sub-by-faces c = search needs
-
-part-by-faces-start : tie.Need-part-by-faces-start
-part-by-faces-start c = search needs
-
-part-by-faces-end : tie.Need-part-by-faces-end
-part-by-faces-end c = search needs
-
-sub-by-faces-2 : tie.Need-sub-by-faces-2
-sub-by-faces-2 c = search needs
 
 by-faces-requires : tie.Need-by-faces-requires
 by-faces-requires c κs =
@@ -64,9 +40,6 @@ by-faces-requires c κs =
       rw (same k) (k .chain-behind .ensures .1),
     )
 
-same-length-2 : tie.Need-same-length-2
-same-length-2 c = search needs
-
 returns-2 : tie.Need-returns-2
 returns-2 c =
     let k = c .before .before .before .before .before .before .before .before in
@@ -75,16 +48,5 @@ returns-2 c =
 pub by-ids-spec : {M : Type 1} → statement M
 by-ids-spec =
     tie.close
-    (tie.spec
-    mul-e
-    chain-behind-requires
-    same-length
-    returns
-    mul-by-faces
-    sub-by-faces
-    part-by-faces-start
-    part-by-faces-end
-    sub-by-faces-2
-    by-faces-requires
-    same-length-2
-    returns-2)
+    (tie.spec (search needs) (search needs) (search needs) returns (search needs) (search needs) (search needs)
+    (search needs) (search needs) by-faces-requires (search needs) returns-2)

@@ -9,45 +9,6 @@ use Rattle.verdict.proofs.Parts.{asked-behind}
 use Rattle.verdict.proofs.by_welded.Statement.{statement}
 use Rattle.verdict.proofs.by_welded.Tie as tie
 
-mul-front : tie.Need-mul-front
-mul-front c = search needs
-
-mul-front-2 : tie.Need-mul-front-2
-mul-front-2 c = search needs
-
-add-front : tie.Need-add-front
-add-front c = search needs
-
-mul-m : tie.Need-mul-m
-mul-m c = search needs
-
-mul-welded-indices : tie.Need-mul-welded-indices
-mul-welded-indices c = search needs
-
-sub-welded-indices : tie.Need-sub-welded-indices
-sub-welded-indices c = search needs
-
-part-welded-indices-start : tie.Need-part-welded-indices-start
-part-welded-indices-start c = search needs
-
-part-welded-indices-end : tie.Need-part-welded-indices-end
-part-welded-indices-end c = search needs
-
-welded-indices-requires : tie.Need-welded-indices-requires
-welded-indices-requires c κs = search needs
-
-add-by-ids : tie.Need-add-by-ids
-add-by-ids c = search needs
-
-by-ids-requires : tie.Need-by-ids-requires
-by-ids-requires c κs = search needs
-
-open-unless-free-requires : tie.Need-open-unless-free-requires
-open-unless-free-requires c κs = search needs
-
-same-length : tie.Need-same-length
-same-length c = search needs
-
 returns : tie.Need-returns
 returns c =
     let s = c .before .before .before .before .before .before .before .before .before .before .before .before in
@@ -60,18 +21,5 @@ returns c =
 pub by-welded-spec : {M : Type 1} → statement M
 by-welded-spec =
     tie.close
-    (tie.spec
-    mul-front
-    mul-front-2
-    add-front
-    mul-m
-    mul-welded-indices
-    sub-welded-indices
-    part-welded-indices-start
-    part-welded-indices-end
-    welded-indices-requires
-    add-by-ids
-    by-ids-requires
-    open-unless-free-requires
-    same-length
-    returns)
+    (tie.spec (search needs) (search needs) (search needs) (search needs) (search needs) (search needs) (search needs)
+    (search needs) (search needs) (search needs) (search needs) (search needs) (search needs) returns)

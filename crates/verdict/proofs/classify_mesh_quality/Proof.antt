@@ -10,15 +10,6 @@ use Rattle.ids.proofs.Lent.{cleared-all}
 use Rattle.verdict.proofs.classify_mesh_quality.Statement.{statement}
 use Rattle.verdict.proofs.classify_mesh_quality.Tie as tie
 
-judge-requires : tie.Need-judge-requires
-judge-requires c κs = search needs
-
-clear-requires : tie.Need-clear-requires
-clear-requires c κs = search needs
-
-same-length : tie.Need-same-length
-same-length c = search needs
-
 returns : tie.Need-returns
 returns c =
     let s = c .before .before .before .before .before .before .before .before .before .before .before in
@@ -29,4 +20,5 @@ returns c =
     (c .before .before .before .before .before .before .judge .ensures, rw (← long) (c .before .before .clear .ensures ∙ cleared-all (length w) w refl))
 
 pub classify-mesh-quality-spec : {M : Type 1} → statement M
-classify-mesh-quality-spec = tie.close (tie.spec judge-requires clear-requires same-length returns)
+classify-mesh-quality-spec =
+    tie.close (tie.spec (search needs) (search needs) (search needs) returns)

@@ -7,9 +7,6 @@ use Rattle.verdict.proofs.is_free.Tie as tie
 enum-told : tie.Need-enum-told
 enum-told c = search needs
 
-enum-told-2 : tie.Need-enum-told-2
-enum-told-2 c = search needs
-
 returns : tie.Need-returns
 unfolding isFree
 returns c = rw (c .enum-told .given .1)
@@ -19,4 +16,5 @@ unfolding isFree
 returns-2 c = rw (c .enum-told2 .given .1)
 
 pub is-free-spec : {M : Type 1} → statement M
-is-free-spec = tie.close (tie.spec enum-told enum-told-2 returns returns-2)
+is-free-spec =
+    tie.close (tie.spec enum-told (search needs) returns returns-2)

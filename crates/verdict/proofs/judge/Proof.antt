@@ -17,20 +17,11 @@ returns c =
     let a = c .before .before .before .before .args in
     sym (no-box (a .vertices .now) (a .indices .now) (a .eps) (a .volume) (a .aabb-volume) (c .if1 .taken))
 
-magnitude32-requires : tie.Need-magnitude32-requires
-magnitude32-requires c κs = search needs
-
 returns-2 : tie.Need-returns-2
 unfolding tooLarge
 returns-2 c =
     let a = c .before .before .before .before .before .before .args in
     sym (too-large (a .vertices .now) (a .indices .now) (a .eps) (a .volume) (a .aabb-volume) (some (c .before .before)) (rw (c .before .magnitude32 .ensures) at (c .if2 .taken)))
-
-by-chain-requires : tie.Need-by-chain-requires
-by-chain-requires c κs = search needs
-
-same-length : tie.Need-same-length
-same-length c = search needs
 
 returns-3 : tie.Need-returns-3
 unfolding tooLarge nearZero
@@ -41,5 +32,4 @@ returns-3 c =
 
 pub judge-spec : {M : Type 1} → statement M
 judge-spec =
-    tie.close
-    (tie.spec returns magnitude32-requires returns-2 by-chain-requires same-length returns-3)
+    tie.close (tie.spec returns (search needs) returns-2 (search needs) (search needs) returns-3)

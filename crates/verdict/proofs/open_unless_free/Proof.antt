@@ -4,9 +4,6 @@ use Rattle.verdict.specs.Steps.{openUnlessFree}
 use Rattle.verdict.proofs.open_unless_free.Statement.{statement}
 use Rattle.verdict.proofs.open_unless_free.Tie as tie
 
-enum-known-said : tie.Need-enum-known-said
-enum-known-said c = search needs
-
 enum-told : tie.Need-enum-told
 enum-told c = search needs
 
@@ -19,4 +16,5 @@ unfolding openUnlessFree
 returns-2 c = rw (c .enum-told .given .1)
 
 pub open-unless-free-spec : {M : Type 1} → statement M
-open-unless-free-spec = tie.close (tie.spec enum-known-said enum-told returns returns-2)
+open-unless-free-spec =
+    tie.close (tie.spec (search needs) enum-told returns returns-2)

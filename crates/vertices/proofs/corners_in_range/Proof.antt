@@ -4,19 +4,10 @@ use borrow.Author.Needs.{needs}
 use Rattle.vertices.proofs.corners_in_range.Statement.{statement}
 use Rattle.vertices.proofs.corners_in_range.Tie as tie
 
-in-range-requires : tie.Need-in-range-requires
-in-range-requires c κs = search needs
-
-in-range-requires-2 : tie.Need-in-range-requires-2
-in-range-requires-2 c κs = search needs
-
-in-range-requires-3 : tie.Need-in-range-requires-3
-in-range-requires-3 c κs = search needs
-
 returns : tie.Need-returns
 unfolding cornersInRange
 returns c = rw (c .before .before .in-range .ensures, c .before .in-range2 .ensures, c .in-range3 .ensures)
 
 pub corners-in-range-spec : {M : Type 1} → statement M
 corners-in-range-spec =
-    tie.close (tie.spec in-range-requires in-range-requires-2 in-range-requires-3 returns)
+    tie.close (tie.spec (search needs) (search needs) (search needs) returns)

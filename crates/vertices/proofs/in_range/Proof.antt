@@ -8,4 +8,5 @@ returns : tie.Need-returns
 returns c = in-range (now (c .args .vertices)) (c .args .id)
 
 pub in-range-spec : {M : Type 1} → statement M
-in-range-spec = tie.close (tie.spec returns)
+in-range-spec =
+    tie.close (tie.spec returns)

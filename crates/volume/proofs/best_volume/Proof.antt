@@ -9,40 +9,13 @@ use Rattle.volume.proofs.best_volume.Tie as tie
 enum-told : tie.Need-enum-told
 enum-told c = search needs
 
-clear-requires : tie.Need-clear-requires
-clear-requires c κs = search needs
-
-enum-told-2 : tie.Need-enum-told-2
-enum-told-2 c = search needs
-
-clear-requires-2 : tie.Need-clear-requires-2
-clear-requires-2 c κs = search needs
-
-enum-told-3 : tie.Need-enum-told-3
-enum-told-3 c = search needs
-
-prism-requires : tie.Need-prism-requires
-prism-requires c κs = search needs
-
-open-best-requires : tie.Need-open-best-requires
-open-best-requires c κs = search needs
-
-same-length : tie.Need-same-length
-same-length c = search needs
-
 returns : tie.Need-returns
 unfolding bestOf
 returns c = (rw (c .before .before .before .before .enum-told .given .1), c .before .before .clear .ensures ∙ cleared-all _ _ (c .before .before .before .before .before .before .before .before .before .pre))
 
-same-length-2 : tie.Need-same-length-2
-same-length-2 c = search needs
-
 returns-2 : tie.Need-returns-2
 unfolding bestOf
 returns-2 c = (rw (c .before .before .before .before .enum-told2 .given .1), c .before .before .clear2 .ensures ∙ cleared-all _ _ (c .before .before .before .before .before .before .before .before .before .pre))
-
-same-length-3 : tie.Need-same-length-3
-same-length-3 c = search needs
 
 returns-3 : tie.Need-returns-3
 unfolding bestOf
@@ -53,17 +26,5 @@ returns-3 c =
 pub best-volume-spec : {M : Type 1} → statement M
 best-volume-spec =
     tie.close
-    (tie.spec
-    enum-told
-    clear-requires
-    enum-told-2
-    clear-requires-2
-    enum-told-3
-    prism-requires
-    open-best-requires
-    same-length
-    returns
-    same-length-2
-    returns-2
-    same-length-3
-    returns-3)
+    (tie.spec enum-told (search needs) (search needs) (search needs) (search needs) (search needs) (search needs)
+    (search needs) returns (search needs) returns-2 (search needs) returns-3)

@@ -4,12 +4,10 @@ use borrow.Author.Needs.{needs}
 use Rattle.volume.proofs.collapsed.Statement.{statement}
 use Rattle.volume.proofs.collapsed.Tie as tie
 
-cube-above-requires : tie.Need-cube-above-requires
-cube-above-requires c κs = search needs
-
 returns : tie.Need-returns
 unfolding collapsed
 returns c = rw (← c .cube-above .ensures)
 
 pub collapsed-spec : {M : Type 1} → statement M
-collapsed-spec = tie.close (tie.spec cube-above-requires returns)
+collapsed-spec =
+    tie.close (tie.spec (search needs) returns)

@@ -4,12 +4,6 @@ use borrow.Author.Needs.{needs}
 use Rattle.volume.proofs.open_best.Statement.{statement}
 use Rattle.volume.proofs.open_best.Tie as tie
 
-upper-requires : tie.Need-upper-requires
-upper-requires c κs = search needs
-
-trusted-requires : tie.Need-trusted-requires
-trusted-requires c κs = search needs
-
 returns : tie.Need-returns
 unfolding openBest
 returns c = rw (← c .before .before .upper .ensures, ← c .before .trusted .ensures, c .if1 .taken)
@@ -19,4 +13,5 @@ unfolding openBest
 returns-2 c = rw (← c .before .before .upper .ensures, ← c .before .trusted .ensures, c .if1 .left)
 
 pub open-best-spec : {M : Type 1} → statement M
-open-best-spec = tie.close (tie.spec upper-requires trusted-requires returns returns-2)
+open-best-spec =
+    tie.close (tie.spec (search needs) (search needs) returns returns-2)

@@ -4,9 +4,6 @@ use borrow.Author.Needs.{needs}
 use Rattle.volume.proofs.or_less.Statement.{statement}
 use Rattle.volume.proofs.or_less.Tie as tie
 
-least32-requires : tie.Need-least32-requires
-least32-requires c κs = search needs
-
 returns : tie.Need-returns
 unfolding orLess
 returns c = rw (c .before .if1 .taken, ← c .least32 .ensures)
@@ -16,4 +13,5 @@ unfolding orLess
 returns-2 c = rw (c .if1 .left)
 
 pub or-less-spec : {M : Type 1} → statement M
-or-less-spec = tie.close (tie.spec least32-requires returns returns-2)
+or-less-spec =
+    tie.close (tie.spec (search needs) returns returns-2)

@@ -18,4 +18,5 @@ unfolding orNone lt ofBits
 returns-2 c = rw (c .if1 .left)
 
 pub or-none-spec : {M : Type 1} → statement M
-or-none-spec = tie.close (tie.spec float-from-bits-if1 returns returns-2)
+or-none-spec =
+    tie.close (tie.spec float-from-bits-if1 returns returns-2)

@@ -6,23 +6,11 @@ use borrow.Author.Needs.{needs}
 use Rattle.volume.proofs.prism_on.Statement.{statement}
 use Rattle.volume.proofs.prism_on.Tie as tie
 
-footprint-raw-requires : tie.Need-footprint-raw-requires
-footprint-raw-requires c κs = search needs
-
-same-length : tie.Need-same-length
-same-length c = search needs
-
 returns : tie.Need-returns
 unfolding prismOn
 returns c =
     let the-footprint-raw = c .before .before .footprint-raw in
     (rw (c .before .before .before .before .if1 .taken, ← the-footprint-raw .ensures .0), the-footprint-raw .ensures .1 ∙ cleared-all _ _ (c .before .before .before .before .before .before .before .before .pre))
-
-clear-requires : tie.Need-clear-requires
-clear-requires c κs = search needs
-
-same-length-2 : tie.Need-same-length-2
-same-length-2 c = search needs
 
 returns-2 : tie.Need-returns-2
 unfolding prismOn
@@ -30,5 +18,4 @@ returns-2 c = (rw (c .before .before .before .before .if1 .left), c .before .bef
 
 pub prism-on-spec : {M : Type 1} → statement M
 prism-on-spec =
-    tie.close
-    (tie.spec footprint-raw-requires same-length returns clear-requires same-length-2 returns-2)
+    tie.close (tie.spec (search needs) (search needs) returns (search needs) (search needs) returns-2)

@@ -4,9 +4,6 @@ use borrow.Author.Needs.{needs}
 use Rattle.volume.proofs.upper.Statement.{statement}
 use Rattle.volume.proofs.upper.Tie as tie
 
-least32-requires : tie.Need-least32-requires
-least32-requires c κs = search needs
-
 returns : tie.Need-returns
 unfolding upper
 returns c = rw (c .before .before .if1 .taken, c .before .if2 .taken, ← c .least32 .ensures)
@@ -24,4 +21,5 @@ unfolding upper
 returns-4 c = rw (c .before .if1 .left, c .if3 .left)
 
 pub upper-spec : {M : Type 1} → statement M
-upper-spec = tie.close (tie.spec least32-requires returns returns-2 returns-3 returns-4)
+upper-spec =
+    tie.close (tie.spec (search needs) returns returns-2 returns-3 returns-4)

@@ -14,29 +14,9 @@ returns c = subst (λ (p : Part). Takes (c .before .before .before .before .args
 returns-2 : tie.Need-returns-2
 returns-2 c = subst (λ (p : Part). Takes (c .before .before .before .before .before .before .args .m) (c .before .before .before .before .before .before .args .pair) (c .before .before .before .before .before .before .args .s) p (c .before .before .before .before .before .before .args .index .now) (c .before .before .before .before .before .before .args .index .now) (c .before .before .before .before .before .before .args .rows .now) (c .before .before .before .before .before .before .args .rows .now) (c .before .before .before .before .before .before .args .s)) (part-sliver (c .before .before .before .before .before .before .args .p) (not-false _ (c .before .before .if1 .left)) (c .if2 .taken)) (takes-sliver _ _ _ _ _)
 
-facet-by-requires : tie.Need-facet-by-requires
-facet-by-requires c κs = search needs
-
-take-facet-requires : tie.Need-take-facet-requires
-take-facet-requires c κs = search needs
-
-same-length : tie.Need-same-length
-same-length c = search needs
-
-same-length-2 : tie.Need-same-length-2
-same-length-2 c = search needs
-
 returns-3 : tie.Need-returns-3
 returns-3 c = subst (λ (p : Part). Takes (c .before .before .before .before .before .before .before .before .before .before .before .before .before .before .args .m) (c .before .before .before .before .before .before .before .before .before .before .before .before .before .before .args .pair) (c .before .before .before .before .before .before .before .before .before .before .before .before .before .before .args .s) p (c .before .before .before .before .before .before .before .before .before .before .before .before .before .before .args .index .now) (c .before .before .before .before .take-facet .last .1 .1 .1 .0) (c .before .before .before .before .before .before .before .before .before .before .before .before .before .before .args .rows .now) (c .before .before .before .before .take-facet .last .1 .1 .1 .1 .0) (c .before .before .before .before .take-facet .result)) (ap Part.Used (c .before .before .before .before .before .before .before .facet-by .ensures) ∙ part-used (c .before .before .before .before .before .before .before .before .before .before .before .before .before .before .args .p) (not-false _ (c .before .before .before .before .before .before .before .before .before .before .if1 .left)) (c .before .before .before .before .before .before .before .before .if2 .left)) (c .before .before .before .before .take-facet .ensures)
 
 pub take-spec : {M : Type 1} → statement M
 take-spec =
-    tie.close
-    (tie.spec
-    returns
-    returns-2
-    facet-by-requires
-    take-facet-requires
-    same-length
-    same-length-2
-    returns-3)
+    tie.close (tie.spec returns returns-2 (search needs) (search needs) (search needs) (search needs) returns-3)

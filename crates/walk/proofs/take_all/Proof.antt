@@ -16,20 +16,8 @@ Inv-loop vertices indices origin pair index₀ rows₀ m s₀ held₀ next₀ t�
 abbrev μ-loop : tie.MeasureT-loop
 μ-loop vertices indices origin pair index₀ rows₀ m s₀ held₀ next₀ t₀ index rows s held next t = m + 2 - t
 
-none-requires : tie.Need-none-requires Inv-loop μ-loop
-none-requires c κs = search needs
-
-nothing-requires : tie.Need-nothing-requires Inv-loop μ-loop
-nothing-requires c κs = search needs
-
-no-cross-requires : tie.Need-no-cross-requires Inv-loop μ-loop
-no-cross-requires c κs = search needs
-
 loop-holds : tie.Need-loop-holds Inv-loop μ-loop
 loop-holds c = (omega arith, refl, refl, underway-none _ _ _ _ _ _ _ _ _ (c .before .before .before .before .before .before .before .pre .3) (c .before .before .none .ensures) (c .before .nothing .ensures) (c .no-cross .ensures))
-
-add-loop : tie.Need-add-loop Inv-loop μ-loop
-add-loop c = search needs
 
 with-root-requires : tie.Need-with-root-requires Inv-loop μ-loop
 with-root-requires c κs = c .before .loop .inv .3 .rooted
@@ -43,17 +31,8 @@ take-requires c κs = ready _ _ _ _ _ _ _ _ _ (omega (arith, c .before .before .
 add-t : tie.Need-add-t Inv-loop μ-loop
 add-t c = record { fits = omega (arith, c .before .before .before .before .before .before .before .before .before .before .before .before .before .before .before .before .before .before .pre .1) }
 
-loop-less : tie.Need-loop-less Inv-loop μ-loop
-loop-less c = search needs
-
 loop-again : tie.Need-loop-again Inv-loop μ-loop
 loop-again c = (omega arith, c .before .before .before .before .take .kept .1 .1 .1 .0 ∙ c .before .before .before .before .before .before .before .before .before .before .loop .inv .1, c .before .before .before .before .take .kept .1 .1 .1 .1 .0 ∙ c .before .before .before .before .before .before .before .before .before .before .loop .inv .2, underway-next _ _ _ _ _ _ _ _ _ _ _ _ _ _ _ _ (omega arith) (c .before .before .before .before .before .before .before .before .before .before .loop .inv .3) (c .before .before .before .before .take .ensures) (c .before .before .before .before .before .before .before .before .with-root .ensures) (c .before .before .before .before .before .before .before .cross-at .ensures))
-
-same-length : tie.Need-same-length Inv-loop μ-loop
-same-length c = search needs
-
-same-length-2 : tie.Need-same-length-2 Inv-loop μ-loop
-same-length-2 c = search needs
 
 returns : tie.Need-returns Inv-loop μ-loop
 returns c =
@@ -64,20 +43,5 @@ returns c =
 pub take-all-spec : {M : Type 1} → statement M
 take-all-spec =
     tie.close
-    (tie.spec
-    Inv-loop
-    μ-loop
-    none-requires
-    nothing-requires
-    no-cross-requires
-    loop-holds
-    add-loop
-    with-root-requires
-    cross-at-requires
-    take-requires
-    add-t
-    loop-less
-    loop-again
-    same-length
-    same-length-2
-    returns)
+    (tie.spec Inv-loop μ-loop (search needs) (search needs) (search needs) loop-holds (search needs) with-root-requires
+    cross-at-requires take-requires add-t (search needs) loop-again (search needs) (search needs) returns)

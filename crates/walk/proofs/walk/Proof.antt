@@ -8,20 +8,12 @@ use borrow.Author.Needs.{needs}
 use Rattle.walk.proofs.walk.Statement.{statement}
 use Rattle.walk.proofs.walk.Tie as tie
 
-clear-requires : tie.Need-clear-requires
-clear-requires c κs = search needs
-
 take-all-requires : tie.Need-take-all-requires
 take-all-requires c κs = (c .before .before .before .before .before .before .before .before .before .before .pre .0, c .before .before .before .before .before .before .before .before .before .before .pre .1, c .before .before .before .before .before .before .before .before .before .before .pre .2, c .before .before .before .before .clear .ensures ∙ cleared-all _ (c .before .before .before .before .before .before .before .before .before .before .args .index .now) refl ∙ ap (λ (k : ℕ). replicate k 0) (c .before .before .before .before .before .before .before .before .before .before .pre .3), c .before .before .before .before .before .before .before .before .before .before .pre .4)
-
-same-length : tie.Need-same-length
-same-length c = search needs
-
-same-length-2 : tie.Need-same-length-2
-same-length-2 c = search needs
 
 returns : tie.Need-returns
 returns c = walks _ _ _ _ _ _ _ _ (c .before .before .before .before .take-all .ensures)
 
 pub walk-spec : {M : Type 1} → statement M
-walk-spec = tie.close (tie.spec clear-requires take-all-requires same-length same-length-2 returns)
+walk-spec =
+    tie.close (tie.spec (search needs) take-all-requires (search needs) (search needs) returns)

@@ -7,12 +7,6 @@ use Rattle.weld.specs.Mapped.{idBy}
 use Rattle.weld.proofs.id_by.Statement.{statement}
 use Rattle.weld.proofs.id_by.Tie as tie
 
-mul-result : tie.Need-mul-result
-mul-result c = search needs
-
-shared-slice-read-result : tie.Need-shared-slice-read-result
-shared-slice-read-result c = search needs
-
 returns : tie.Need-returns
 unfolding idBy nameIn
 returns c = rw (lt-ltb (c .before .before .args .id) (c .before .before .args .n) (omega arith))
@@ -22,4 +16,5 @@ unfolding idBy
 returns-2 c = rw (le-ltb (c .before .args .id) (c .before .args .n) (omega arith))
 
 pub id-by-spec : {M : Type 1} → statement M
-id-by-spec = tie.close (tie.spec mul-result shared-slice-read-result returns returns-2)
+id-by-spec =
+    tie.close (tie.spec (search needs) (search needs) returns returns-2)

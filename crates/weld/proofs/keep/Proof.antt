@@ -4,15 +4,6 @@ use Rattle.weld.proofs.Mapping.{keep-last}
 use Rattle.weld.proofs.keep.Statement.{statement}
 use Rattle.weld.proofs.keep.Tie as tie
 
-lay-requires : tie.Need-lay-requires
-lay-requires c κs = search needs
-
-clear-requires : tie.Need-clear-requires
-clear-requires c κs = search needs
-
-same-length : tie.Need-same-length
-same-length c = search needs
-
 returns : tie.Need-returns
 returns c =
     let s = c .before .before .before .before .before .before .before .before .before .before in
@@ -20,4 +11,5 @@ returns c =
     keep-last (a .m) (a .ids .now) (a .part .now) (c .before .before .before .before .before .before .lay .last .1 .0) (c .before .before .clear .last .0) (s .pre) (c .before .before .before .before .before .before .lay .ensures) (c .before .before .clear .ensures)
 
 pub keep-spec : {M : Type 1} → statement M
-keep-spec = tie.close (tie.spec lay-requires clear-requires same-length returns)
+keep-spec =
+    tie.close (tie.spec (search needs) (search needs) (search needs) returns)

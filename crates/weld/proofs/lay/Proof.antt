@@ -5,14 +5,9 @@ use borrow.Author.Needs.{needs}
 use Rattle.weld.proofs.lay.Statement.{statement}
 use Rattle.weld.proofs.lay.Tie as tie
 
-map-ids-requires : tie.Need-map-ids-requires
-map-ids-requires c κs = search needs
-
-same-length : tie.Need-same-length
-same-length c = search needs
-
 returns : tie.Need-returns
 returns c = lay-last (c .before .before .before .before .before .before .args .m) (c .before .before .before .before .before .before .args .ids .now) (c .before .before .before .before .before .before .args .part .now) _ (c .before .before .map-ids .ensures)
 
 pub lay-spec : {M : Type 1} → statement M
-lay-spec = tie.close (tie.spec map-ids-requires same-length returns)
+lay-spec =
+    tie.close (tie.spec (search needs) (search needs) returns)

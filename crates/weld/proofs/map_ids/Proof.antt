@@ -16,39 +16,12 @@ abbrev μ-loop : tie.MeasureT-loop
 loop-holds : tie.Need-loop-holds Inv-loop μ-loop
 loop-holds c = let a = c .before .before .args in map-first (a .m) (a .n) (a .ids .now) (a .part .now)
 
-mul-id-by : tie.Need-mul-id-by Inv-loop μ-loop
-mul-id-by c = search needs
-
-shared-slice-read-id-by : tie.Need-shared-slice-read-id-by Inv-loop μ-loop
-shared-slice-read-id-by c = search needs
-
-id-by-requires : tie.Need-id-by-requires Inv-loop μ-loop
-id-by-requires c κs = search needs
-
-add-part : tie.Need-add-part Inv-loop μ-loop
-add-part c = search needs
-
-mul-part : tie.Need-mul-part Inv-loop μ-loop
-mul-part c = search needs
-
-slice-write-part : tie.Need-slice-write-part Inv-loop μ-loop
-slice-write-part c = search needs
-
-add-i : tie.Need-add-i Inv-loop μ-loop
-add-i c = search needs
-
-loop-less : tie.Need-loop-less Inv-loop μ-loop
-loop-less c = search needs
-
 loop-again : tie.Need-loop-again Inv-loop μ-loop
 loop-again c =
     let s = c .before .before .before .before .before .before .before in
     let a = s .args in
     let l = c .before .before .before .before .loop in
     map-next (a .m) (a .n) (a .ids .now) (a .part .now) (l .part) (l .i) (c .id-by .result) (s .pre .0) (s .pre .1) (omega arith) (c .id-by .ensures) (l .inv)
-
-same-length : tie.Need-same-length Inv-loop μ-loop
-same-length c = search needs
 
 returns : tie.Need-returns Inv-loop μ-loop
 returns c =
@@ -60,18 +33,5 @@ returns c =
 pub map-ids-spec : {M : Type 1} → statement M
 map-ids-spec =
     tie.close
-    (tie.spec
-    Inv-loop
-    μ-loop
-    loop-holds
-    mul-id-by
-    shared-slice-read-id-by
-    id-by-requires
-    add-part
-    mul-part
-    slice-write-part
-    add-i
-    loop-less
-    loop-again
-    same-length
-    returns)
+    (tie.spec Inv-loop μ-loop loop-holds (search needs) (search needs) (search needs) (search needs) (search needs)
+    (search needs) (search needs) (search needs) loop-again (search needs) returns)

@@ -13,24 +13,6 @@ use Rattle.weld.proofs.Mapping.{slots-cleared, weld-last}
 use Rattle.weld.proofs.weld.Statement.{statement}
 use Rattle.weld.proofs.weld.Tie as tie
 
-mul-m : tie.Need-mul-m
-mul-m c = search needs
-
-mul-clear : tie.Need-mul-clear
-mul-clear c = search needs
-
-clear-requires : tie.Need-clear-requires
-clear-requires c κs = search needs
-
-sub-gather : tie.Need-sub-gather
-sub-gather c = search needs
-
-part-gather-start : tie.Need-part-gather-start
-part-gather-start c = search needs
-
-part-gather-end : tie.Need-part-gather-end
-part-gather-end c = search needs
-
 gather-requires : tie.Need-gather-requires
 gather-requires c κs =
     let s = c .before .before .before .before .before .before .before .before in
@@ -42,15 +24,6 @@ gather-requires c κs =
       length-take-le lent (k .last .0) (omega (arith, s .pre .1, k .kept)) ∙ omega arith,
       welds-none n (a .vertices .now) (a .inv) _ (λ r l. slots-cleared (2 * n) lent (a .part .now) (k .last .0) (k .ensures) r l (omega arith)),
     )
-
-map-ids-requires : tie.Need-map-ids-requires
-map-ids-requires c κs = search needs
-
-clear-requires-2 : tie.Need-clear-requires-2
-clear-requires-2 c κs = search needs
-
-same-length : tie.Need-same-length
-same-length c = search needs
 
 returns : tie.Need-returns
 returns c =
@@ -68,15 +41,5 @@ returns c =
 pub weld-spec : {M : Type 1} → statement M
 weld-spec =
     tie.close
-    (tie.spec
-    mul-m
-    mul-clear
-    clear-requires
-    sub-gather
-    part-gather-start
-    part-gather-end
-    gather-requires
-    map-ids-requires
-    clear-requires-2
-    same-length
-    returns)
+    (tie.spec (search needs) (search needs) (search needs) (search needs) (search needs) (search needs) gather-requires
+    (search needs) (search needs) (search needs) returns)

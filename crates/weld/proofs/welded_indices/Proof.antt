@@ -12,29 +12,11 @@ use Rattle.weld.proofs.Mapping.{welded-not, welded-so}
 use Rattle.weld.proofs.welded_indices.Statement.{statement}
 use Rattle.weld.proofs.welded_indices.Tie as tie
 
-mul-m : tie.Need-mul-m
-mul-m c = search needs
-
-keep-requires : tie.Need-keep-requires
-keep-requires c κs = search needs
-
-same-length : tie.Need-same-length
-same-length c = search needs
-
 returns : tie.Need-returns
 unfolding unwelded
 returns c =
     let a = c .before .before .before .before .before .before .before .before .args in
     c .before .before .keep .ensures ∙ ap (λ (l : List ℕ). replicate (8 * vertexCount (a .vertices .now)) 0 ++ l) (welded-not (a .vertices .now) (a .indices .now) (a .eps) (rw (← ne-self (a .eps)) (c .before .before .before .before .if1 .taken)))
-
-f32-to-f64-with-nan-requires : tie.Need-f32-to-f64-with-nan-requires
-f32-to-f64-with-nan-requires c κs = search needs
-
-weld-requires : tie.Need-weld-requires
-weld-requires c κs = search needs
-
-same-length-2 : tie.Need-same-length-2
-same-length-2 c = search needs
 
 returns-2 : tie.Need-returns-2
 unfolding unwelded
@@ -47,12 +29,5 @@ returns-2 c =
 pub welded-indices-spec : {M : Type 1} → statement M
 welded-indices-spec =
     tie.close
-    (tie.spec
-    mul-m
-    keep-requires
-    same-length
-    returns
-    f32-to-f64-with-nan-requires
-    weld-requires
-    same-length-2
+    (tie.spec (search needs) (search needs) (search needs) returns (search needs) (search needs) (search needs)
     returns-2)

@@ -9,9 +9,6 @@ use Rattle.capi.proofs.ids_c.face_net_number.Tie as tie
 use Rattle.capi.proofs.ids_c.face_net_number.Reads as reads
 use Rattle.capi.proofs.ids_c.face_net_number.Lts as lts
 
-enum-known-answer : tie.Need-enum-known-answer
-enum-known-answer c = search needs
-
 small : (c : lts.After-known-told reads.Pre reads.Post) → c .before .answer .given .0 .0 .«max_abs» ≤ 98304
 unfolding Small
 small c = rw (c .before .answer .given .1) at (c .before .before .before .pre)
@@ -19,20 +16,8 @@ small c = rw (c .before .answer .given .1) at (c .before .before .before .pre)
 mul-result : tie.Need-mul-result
 mul-result c = omega (arith, small (c .before))
 
-cast-result : tie.Need-cast-result
-cast-result c = search needs
-
 add-result : tie.Need-add-result
 add-result c = omega (arith, small (c .before .before), byte-small (c .before .before .before .answer .given .0 .0 .«all_cancel»))
-
-enum-known-answer-2 : tie.Need-enum-known-answer-2
-enum-known-answer-2 c = search needs
-
-cast-result-2 : tie.Need-cast-result-2
-cast-result-2 c = search needs
-
-add-result-2 : tie.Need-add-result-2
-add-result-2 c = search needs
 
 returns : tie.Need-returns
 unfolding faceNetNumber
@@ -45,13 +30,5 @@ returns-2 c = rw (c .before .answer2 .given .1)
 pub face-net-number-spec : {M : Type 1} → statement M
 face-net-number-spec =
     tie.close
-    (tie.spec
-    enum-known-answer
-    mul-result
-    cast-result
-    add-result
-    enum-known-answer-2
-    cast-result-2
-    add-result-2
-    returns
+    (tie.spec (search needs) mul-result (search needs) add-result (search needs) (search needs) (search needs) returns
     returns-2)

@@ -5,18 +5,9 @@ use borrow.Author.Needs.{needs}
 use Rattle.capi.proofs.ids_c.mf_edge_chain.Statement.{statement}
 use Rattle.capi.proofs.ids_c.mf_edge_chain.Tie as tie
 
-edge-chain-requires : tie.Need-edge-chain-requires
-edge-chain-requires c κs = search needs
-
-edge-chain-number-requires : tie.Need-edge-chain-number-requires
-edge-chain-number-requires c κs = search needs
-
-same-length : tie.Need-same-length
-same-length c = search needs
-
 returns : tie.Need-returns
 returns c = rw (c .edge-chain-number .ensures) (gives-turned edgeChainNumber _ _ _ _ _ _ _ (c .before .before .before .edge-chain .ensures))
 
 pub mf-edge-chain-spec : {M : Type 1} → statement M
 mf-edge-chain-spec =
-    tie.close (tie.spec edge-chain-requires edge-chain-number-requires same-length returns)
+    tie.close (tie.spec (search needs) (search needs) (search needs) returns)

@@ -6,18 +6,12 @@ use borrow.Author.Needs.{needs}
 use Rattle.capi.proofs.ids_c.mf_face_net.Statement.{statement}
 use Rattle.capi.proofs.ids_c.mf_face_net.Tie as tie
 
-face-net-requires : tie.Need-face-net-requires
-face-net-requires c κs = search needs
-
 face-net-number-requires : tie.Need-face-net-number-requires
 face-net-number-requires c κs = net-small _ _ _ _ (c .before .before .face-net .ensures)
-
-same-length : tie.Need-same-length
-same-length c = search needs
 
 returns : tie.Need-returns
 returns c = rw (c .face-net-number .ensures) (gives-turned faceNetNumber _ _ _ _ _ _ _ (c .before .before .before .face-net .ensures))
 
 pub mf-face-net-spec : {M : Type 1} → statement M
 mf-face-net-spec =
-    tie.close (tie.spec face-net-requires face-net-number-requires same-length returns)
+    tie.close (tie.spec (search needs) face-net-number-requires (search needs) returns)

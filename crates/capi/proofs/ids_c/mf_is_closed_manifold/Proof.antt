@@ -5,18 +5,9 @@ use borrow.Author.Needs.{needs}
 use Rattle.capi.proofs.ids_c.mf_is_closed_manifold.Statement.{statement}
 use Rattle.capi.proofs.ids_c.mf_is_closed_manifold.Tie as tie
 
-is-closed-manifold-requires : tie.Need-is-closed-manifold-requires
-is-closed-manifold-requires c κs = search needs
-
-verdict-number-requires : tie.Need-verdict-number-requires
-verdict-number-requires c κs = search needs
-
-same-length : tie.Need-same-length
-same-length c = search needs
-
 returns : tie.Need-returns
 returns c = rw (c .verdict-number .ensures) (gives-turned verdictNumber _ _ _ _ _ _ _ (c .before .before .before .is-closed-manifold .ensures))
 
 pub mf-is-closed-manifold-spec : {M : Type 1} → statement M
 mf-is-closed-manifold-spec =
-    tie.close (tie.spec is-closed-manifold-requires verdict-number-requires same-length returns)
+    tie.close (tie.spec (search needs) (search needs) (search needs) returns)

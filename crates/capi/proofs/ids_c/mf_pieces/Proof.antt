@@ -5,18 +5,9 @@ use borrow.Author.Needs.{needs}
 use Rattle.capi.proofs.ids_c.mf_pieces.Statement.{statement}
 use Rattle.capi.proofs.ids_c.mf_pieces.Tie as tie
 
-pieces-requires : tie.Need-pieces-requires
-pieces-requires c κs = search needs
-
-piece-count-number-requires : tie.Need-piece-count-number-requires
-piece-count-number-requires c κs = search needs
-
-same-length : tie.Need-same-length
-same-length c = search needs
-
 returns : tie.Need-returns
 returns c = rw (c .piece-count-number .ensures) (gives-turned pieceCountNumber _ _ _ _ _ _ _ (c .before .before .before .pieces .ensures))
 
 pub mf-pieces-spec : {M : Type 1} → statement M
 mf-pieces-spec =
-    tie.close (tie.spec pieces-requires piece-count-number-requires same-length returns)
+    tie.close (tie.spec (search needs) (search needs) (search needs) returns)

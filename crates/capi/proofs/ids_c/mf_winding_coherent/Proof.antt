@@ -5,18 +5,9 @@ use borrow.Author.Needs.{needs}
 use Rattle.capi.proofs.ids_c.mf_winding_coherent.Statement.{statement}
 use Rattle.capi.proofs.ids_c.mf_winding_coherent.Tie as tie
 
-winding-coherent-requires : tie.Need-winding-coherent-requires
-winding-coherent-requires c κs = search needs
-
-verdict-number-requires : tie.Need-verdict-number-requires
-verdict-number-requires c κs = search needs
-
-same-length : tie.Need-same-length
-same-length c = search needs
-
 returns : tie.Need-returns
 returns c = rw (c .verdict-number .ensures) (gives-turned verdictNumber _ _ _ _ _ _ _ (c .before .before .before .winding-coherent .ensures))
 
 pub mf-winding-coherent-spec : {M : Type 1} → statement M
 mf-winding-coherent-spec =
-    tie.close (tie.spec winding-coherent-requires verdict-number-requires same-length returns)
+    tie.close (tie.spec (search needs) (search needs) (search needs) returns)

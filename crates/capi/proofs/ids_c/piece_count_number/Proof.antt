@@ -4,18 +4,6 @@ use borrow.Author.Needs.{needs}
 use Rattle.capi.proofs.ids_c.piece_count_number.Statement.{statement}
 use Rattle.capi.proofs.ids_c.piece_count_number.Tie as tie
 
-enum-known-answer : tie.Need-enum-known-answer
-enum-known-answer c = search needs
-
-enum-known-answer-2 : tie.Need-enum-known-answer-2
-enum-known-answer-2 c = search needs
-
-cast-result : tie.Need-cast-result
-cast-result c = search needs
-
-add-result : tie.Need-add-result
-add-result c = search needs
-
 returns : tie.Need-returns
 unfolding pieceCountNumber
 returns c = rw (c .before .answer .given .1)
@@ -26,5 +14,4 @@ returns-2 c = rw (c .before .answer2 .given .1)
 
 pub piece-count-number-spec : {M : Type 1} → statement M
 piece-count-number-spec =
-    tie.close
-    (tie.spec enum-known-answer enum-known-answer-2 cast-result add-result returns returns-2)
+    tie.close (tie.spec (search needs) (search needs) (search needs) (search needs) returns returns-2)

@@ -5,21 +5,6 @@ use borrow.Author.Needs.{needs}
 use Rattle.capi.proofs.ids_c.verdict_number.Statement.{statement}
 use Rattle.capi.proofs.ids_c.verdict_number.Tie as tie
 
-enum-known-answer : tie.Need-enum-known-answer
-enum-known-answer c = search needs
-
-cast-result : tie.Need-cast-result
-cast-result c = search needs
-
-enum-known-answer-2 : tie.Need-enum-known-answer-2
-enum-known-answer-2 c = search needs
-
-cast-result-2 : tie.Need-cast-result-2
-cast-result-2 c = search needs
-
-add-result : tie.Need-add-result
-add-result c = search needs
-
 returns : tie.Need-returns
 unfolding verdictNumber
 returns c = rw (c .before .answer .given .1, byte-bit (c .before .answer .given .0 .0))
@@ -30,12 +15,4 @@ returns-2 c = rw (c .before .answer2 .given .1)
 
 pub verdict-number-spec : {M : Type 1} → statement M
 verdict-number-spec =
-    tie.close
-    (tie.spec
-    enum-known-answer
-    cast-result
-    enum-known-answer-2
-    cast-result-2
-    add-result
-    returns
-    returns-2)
+    tie.close (tie.spec (search needs) (search needs) (search needs) (search needs) (search needs) returns returns-2)

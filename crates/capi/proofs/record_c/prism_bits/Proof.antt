@@ -7,12 +7,6 @@ use Rattle.capi.proofs.record_c.prism_bits.Tie as tie
 enum-told : tie.Need-enum-told
 enum-told c = search needs
 
-enum-known-prism : tie.Need-enum-known-prism
-enum-known-prism c = search needs
-
-bits32-requires : tie.Need-bits32-requires
-bits32-requires c κs = search needs
-
 returns : tie.Need-returns
 unfolding prismBits
 returns c = rw (c .enum-told .given .1)
@@ -22,4 +16,5 @@ unfolding prismBits
 returns-2 c = rw (c .before .before .prism .given .1) (c .bits32 .ensures)
 
 pub prism-bits-spec : {M : Type 1} → statement M
-prism-bits-spec = tie.close (tie.spec enum-told enum-known-prism bits32-requires returns returns-2)
+prism-bits-spec =
+    tie.close (tie.spec enum-told (search needs) (search needs) returns returns-2)

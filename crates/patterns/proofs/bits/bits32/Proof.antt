@@ -11,8 +11,6 @@ float-to-bits-result c = same-no-nan (c .before .args .x) (c .if1 .left)
 returns : tie.Need-returns
 returns c = differs-bits binary32 (c .before .args .x) (c .if1 .taken)
 
-returns-2 : tie.Need-returns-2
-returns-2 c = search needs
-
 pub bits32-spec : {M : Type 1} → statement M
-bits32-spec = tie.close (tie.spec float-to-bits-result returns returns-2)
+bits32-spec =
+    tie.close (tie.spec float-to-bits-result returns (search needs))

@@ -12,8 +12,6 @@ float-from-bits-result c = up-to-inf binary32 (c .before .args .b) (c .if1 .left
 returns : tie.Need-returns
 returns c = unfold div ofBits in sym (above-inf binary32 (c .before .args .b) (c .if1 .taken))
 
-returns-2 : tie.Need-returns-2
-returns-2 c = search needs
-
 pub f32-of-spec : {M : Type 1} → statement M
-f32-of-spec = tie.close (tie.spec float-from-bits-result returns returns-2)
+f32-of-spec =
+    tie.close (tie.spec float-from-bits-result returns (search needs))

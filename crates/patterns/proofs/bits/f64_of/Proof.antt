@@ -13,8 +13,6 @@ float-from-bits-result c = up-to-inf binary64 (c .before .args .b) (omega (arith
 returns : tie.Need-returns
 returns c = unfold div ofBits in sym (above-inf binary64 (c .before .args .b) (omega (arith, c .if1 .taken)))
 
-returns-2 : tie.Need-returns-2
-returns-2 c = search needs
-
 pub f64-of-spec : {M : Type 1} → statement M
-f64-of-spec = tie.close (tie.spec float-from-bits-result returns returns-2)
+f64-of-spec =
+    tie.close (tie.spec float-from-bits-result returns (search needs))

@@ -5,9 +5,6 @@ use Rattle.ieee.specs.Order.{greatest}
 use Rattle.patterns.proofs.order.greatest32.Statement.{statement}
 use Rattle.patterns.proofs.order.greatest32.Tie as tie
 
-second-requires : tie.Need-second-requires
-second-requires c κs = search needs
-
 returns : tie.Need-returns
 unfolding greatest
 returns c = rw (← ne-self, ← c .before .second .ensures, c .if1 .taken)
@@ -17,4 +14,5 @@ unfolding greatest
 returns-2 c = rw (← ne-self, ← c .before .second .ensures, c .if1 .left)
 
 pub greatest32-spec : {M : Type 1} → statement M
-greatest32-spec = tie.close (tie.spec second-requires returns returns-2)
+greatest32-spec =
+    tie.close (tie.spec (search needs) returns returns-2)

@@ -3,22 +3,11 @@ use borrow.Author.Needs.{needs}
 use Rattle.patterns.proofs.order.least32_bits.Statement.{statement}
 use Rattle.patterns.proofs.order.least32_bits.Tie as tie
 
-f32-of-requires : tie.Need-f32-of-requires
-f32-of-requires c κs = search needs
-
-f32-of-requires-2 : tie.Need-f32-of-requires-2
-f32-of-requires-2 c κs = search needs
-
-least32-requires : tie.Need-least32-requires
-least32-requires c κs = search needs
-
-bits32-requires : tie.Need-bits32-requires
-bits32-requires c κs = search needs
-
 returns : tie.Need-returns
 returns c =
     let called = c .before in
     rw (c .bits32 .ensures, called .least32 .ensures, called .before .f32-of2 .ensures, called .before .before .f32-of .ensures)
 
 pub least32-bits-spec : {M : Type 1} → statement M
-least32-bits-spec = tie.close (tie.spec f32-of-requires f32-of-requires-2 least32-requires bits32-requires returns)
+least32-bits-spec =
+    tie.close (tie.spec (search needs) (search needs) (search needs) (search needs) returns)

@@ -5,9 +5,6 @@ use Rattle.ieee.specs.Order.{least}
 use Rattle.patterns.proofs.order.least64.Statement.{statement}
 use Rattle.patterns.proofs.order.least64.Tie as tie
 
-second-requires : tie.Need-second-requires
-second-requires c κs = search needs
-
 returns : tie.Need-returns
 unfolding least
 returns c = rw (← ne-self, ← c .before .second .ensures, c .if1 .taken)
@@ -17,4 +14,5 @@ unfolding least
 returns-2 c = rw (← ne-self, ← c .before .second .ensures, c .if1 .left)
 
 pub least64-spec : {M : Type 1} → statement M
-least64-spec = tie.close (tie.spec second-requires returns returns-2)
+least64-spec =
+    tie.close (tie.spec (search needs) returns returns-2)

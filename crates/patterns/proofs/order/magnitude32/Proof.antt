@@ -5,17 +5,9 @@ use Rattle.ieee.proofs.Patterns.Back.{read-back}
 use Rattle.patterns.proofs.order.magnitude32.Statement.{statement}
 use Rattle.patterns.proofs.order.magnitude32.Tie as tie
 
-bits32-requires : tie.Need-bits32-requires
-bits32-requires c κs = search needs
-
-magnitude32-bits-requires : tie.Need-magnitude32-bits-requires
-magnitude32-bits-requires c κs = search needs
-
-f32-of-requires : tie.Need-f32-of-requires
-f32-of-requires c κs = search needs
-
 returns : tie.Need-returns
 returns c = let start = c .before .before .before in cc (read-back binary32 (start .args .x) (start .good .0 .1))
 
 pub magnitude32-spec : {M : Type 1} → statement M
-magnitude32-spec = tie.close (tie.spec bits32-requires magnitude32-bits-requires f32-of-requires returns)
+magnitude32-spec =
+    tie.close (tie.spec (search needs) (search needs) (search needs) returns)

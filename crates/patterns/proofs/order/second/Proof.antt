@@ -18,4 +18,5 @@ returns c =
     ]
 
 pub second-spec : {M : Type 1} → statement M
-second-spec = tie.close (tie.spec returns)
+second-spec =
+    tie.close (tie.spec returns)

@@ -77,12 +77,6 @@ cast-result-2 c = omega (arith, fits (c .before .before .before))
 float-from-bits-result-2 : tie.Need-float-from-bits-result-2
 float-from-bits-result-2 c = up-to-inf binary32 (b (c .before .before .before) / 2 ^ 63 * 2 ^ 31) (omega arith)
 
-narrow-bits-requires : tie.Need-narrow-bits-requires
-narrow-bits-requires c κs = search needs
-
-f32-of-requires : tie.Need-f32-of-requires
-f32-of-requires c κs = search needs
-
 returns-2 : tie.Need-returns-2
 returns-2 c =
     let start = c .before .before .before in
@@ -101,18 +95,5 @@ returns-4 c = c .f32-of .ensures ∙ answer (c .before .before .before .before .
 pub narrow-spec : {M : Type 1} → statement M
 narrow-spec =
     tie.close
-    (tie.spec
-    returns
-    float-to-bits-b
-    mul-s
-    narrow-normal-requires
-    add-result
-    cast-result
-    float-from-bits-result
-    cast-result-2
-    float-from-bits-result-2
-    narrow-bits-requires
-    f32-of-requires
-    returns-2
-    returns-3
-    returns-4)
+    (tie.spec returns float-to-bits-b mul-s narrow-normal-requires add-result cast-result float-from-bits-result
+    cast-result-2 float-from-bits-result-2 (search needs) (search needs) returns-2 returns-3 returns-4)

@@ -14,23 +14,11 @@ size-below c =
     let m = c .before .before .args .b % 2 ^ 63 in
     rw (c .narrow-size .ensures) (bits-lt binary32 (sized binary64 (m / 2 ^ 52) (m % 2 ^ 52)) (2 ^ 1074))
 
-mul-s : tie.Need-mul-s
-mul-s c = search needs
-
-narrow-size-requires : tie.Need-narrow-size-requires
-narrow-size-requires c κs = search needs
-
 add-result : tie.Need-add-result
 add-result c = omega (arith, size-below c)
 
 cast-result : tie.Need-cast-result
 cast-result c = omega (arith, size-below c)
-
-add-result-2 : tie.Need-add-result-2
-add-result-2 c = search needs
-
-cast-result-2 : tie.Need-cast-result-2
-cast-result-2 c = search needs
 
 returns : tie.Need-returns
 returns c =
@@ -44,4 +32,7 @@ returns-3 : tie.Need-returns-3
 returns-3 c = narrow-nan (c .before .before .args .b) (omega arith)
 
 pub narrow-bits-spec : {M : Type 1} → statement M
-narrow-bits-spec = tie.close (tie.spec mul-s narrow-size-requires add-result cast-result add-result-2 cast-result-2 returns returns-2 returns-3)
+narrow-bits-spec =
+    tie.close
+    (tie.spec (search needs) (search needs) add-result cast-result (search needs) (search needs) returns returns-2
+    returns-3)

@@ -7,18 +7,6 @@ use Rattle.ieee.proofs.Patterns.Narrowed.{narrow-large, narrow-small, narrow-ti
 use Rattle.rounding.proofs.narrowing.narrow_size.Statement.{statement}
 use Rattle.rounding.proofs.narrowing.narrow_size.Tie as tie
 
-add-nearest-shift : tie.Need-add-nearest-shift
-add-nearest-shift c = search needs
-
-sub-nearest-shift : tie.Need-sub-nearest-shift
-sub-nearest-shift c = search needs
-
-nearest-shift-requires : tie.Need-nearest-shift-requires
-nearest-shift-requires c κs = search needs
-
-narrow-normal-requires : tie.Need-narrow-normal-requires
-narrow-normal-requires c κs = search needs
-
 returns : tie.Need-returns
 returns c =
     let m = c .before .args .m in narrow-tiny (m / 2 ^ 52) (m % 2 ^ 52) (omega (arith, c .if1 .taken)) (omega arith)
@@ -29,9 +17,6 @@ returns-2 c =
     c .nearest-shift .ensures
     ∙ narrow-small (m / 2 ^ 52) (m % 2 ^ 52) (omega (arith, c .before .before .if1 .left)) (omega (arith, c .before .if2 .taken)) (omega arith)
 
-returns-3 : tie.Need-returns-3
-returns-3 c = search needs
-
 returns-4 : tie.Need-returns-4
 returns-4 c =
     let m = c .before .before .before .args .m in narrow-large (m / 2 ^ 52) (m % 2 ^ 52) (omega (arith, c .if3 .left)) (omega arith)
@@ -39,12 +24,4 @@ returns-4 c =
 pub narrow-size-spec : {M : Type 1} → statement M
 narrow-size-spec =
     tie.close
-    (tie.spec
-    add-nearest-shift
-    sub-nearest-shift
-    nearest-shift-requires
-    narrow-normal-requires
-    returns
-    returns-2
-    returns-3
-    returns-4)
+    (tie.spec (search needs) (search needs) (search needs) (search needs) returns returns-2 (search needs) returns-4)

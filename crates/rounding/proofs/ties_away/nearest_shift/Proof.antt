@@ -7,12 +7,6 @@ use Rattle.ieee.proofs.Patterns.Whole.{half-digit}
 use Rattle.rounding.proofs.ties_away.nearest_shift.Statement.{statement}
 use Rattle.rounding.proofs.ties_away.nearest_shift.Tie as tie
 
-sub-result : tie.Need-sub-result
-sub-result c = search needs
-
-shr-result : tie.Need-shr-result
-shr-result c = search needs
-
 add-result : tie.Need-add-result
 add-result c = omega (arith, div-le-self (c .args .n) (2 ^ (c .args .k - 1)))
 
@@ -20,4 +14,5 @@ returns : tie.Need-returns
 returns c = omega (arith, half-digit (c .args .n) (c .args .k) (omega arith))
 
 pub nearest-shift-spec : {M : Type 1} → statement M
-nearest-shift-spec = tie.close (tie.spec sub-result shr-result add-result returns)
+nearest-shift-spec =
+    tie.close (tie.spec (search needs) (search needs) add-result returns)

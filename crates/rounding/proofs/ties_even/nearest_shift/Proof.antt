@@ -8,26 +8,14 @@ use Rattle.ieee.proofs.Numbers.Basic.{nearest-shift, one-shl}
 use Rattle.rounding.proofs.ties_even.nearest_shift.Statement.{statement}
 use Rattle.rounding.proofs.ties_even.nearest_shift.Tie as tie
 
-sub-result : tie.Need-sub-result
-sub-result c = search needs
-
-shl-result : tie.Need-shl-result
-shl-result c = search needs
-
 sub-result-2 : tie.Need-sub-result-2
 sub-result-2 c = let k = c .args .k in rw (one-shl (k - 1) (omega arith)) (pow-pos (k - 1))
 
 add-result : tie.Need-add-result
 add-result c = let k = c .args .k in rw (one-shl (k - 1) (omega arith)) (omega (arith, pow-mono {i = k - 1} {j = 63} (omega arith)))
 
-shr-result : tie.Need-shr-result
-shr-result c = search needs
-
 add-result-2 : tie.Need-add-result-2
 add-result-2 c = let k = c .args .k in rw (one-shl (k - 1) (omega arith)) (omega (arith, pow-mono {i = k - 1} {j = 63} (omega arith)))
-
-shr-result-2 : tie.Need-shr-result-2
-shr-result-2 c = search needs
 
 -- what is divided is shown by arithmetic to be what the law divides
 divided : (a b d r : ℕ) → b / d ≡ r → a ≡ b → a / d ≡ r
@@ -37,4 +25,6 @@ returns : tie.Need-returns
 returns c = let k = c .args .k in divided _ _ _ _ (nearest-shift (c .args .n) k (omega arith)) (omega (arith, one-shl (k - 1) (omega arith)))
 
 pub nearest-shift-spec : {M : Type 1} → statement M
-nearest-shift-spec = tie.close (tie.spec sub-result shl-result sub-result-2 add-result shr-result add-result-2 shr-result-2 returns)
+nearest-shift-spec =
+    tie.close
+    (tie.spec (search needs) (search needs) sub-result-2 add-result (search needs) add-result-2 (search needs) returns)

@@ -9,12 +9,6 @@ use Rattle.ieee.proofs.Patterns.Whole.{cut-size, none-size}
 use Rattle.rounding.proofs.to_integer.half_size.Statement.{statement}
 use Rattle.rounding.proofs.to_integer.half_size.Tie as tie
 
-sub-k : tie.Need-sub-k
-sub-k c = search needs
-
-add-nearest-shift : tie.Need-add-nearest-shift
-add-nearest-shift c = search needs
-
 nearest-shift-requires : tie.Need-nearest-shift-requires
 nearest-shift-requires c κs = ⊎-elim (λ w. omega (arith, w .0 .taken, w .1)) (λ w. omega (arith, w .0 .left, w .1)) (c .if1 .came)
 
@@ -27,4 +21,5 @@ returns c =
     (λ w. rw (w .1) (none-size binary64 e t (omega arith) (omega (arith, w .0 .left)) (c .before .before .pre .1))) (c .before .if1 .came)
 
 pub half-size-spec : {M : Type 1} → statement M
-half-size-spec = tie.close (tie.spec sub-k add-nearest-shift nearest-shift-requires returns)
+half-size-spec =
+    tie.close (tie.spec (search needs) (search needs) nearest-shift-requires returns)

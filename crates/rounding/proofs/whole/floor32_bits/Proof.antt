@@ -3,17 +3,9 @@ use borrow.Author.Needs.{needs}
 use Rattle.rounding.proofs.whole.floor32_bits.Statement.{statement}
 use Rattle.rounding.proofs.whole.floor32_bits.Tie as tie
 
-f32-of-requires : tie.Need-f32-of-requires
-f32-of-requires c κs = search needs
-
-floor32-requires : tie.Need-floor32-requires
-floor32-requires c κs = search needs
-
-bits32-requires : tie.Need-bits32-requires
-bits32-requires c κs = search needs
-
 returns : tie.Need-returns
 returns c = cc
 
 pub floor32-bits-spec : {M : Type 1} → statement M
-floor32-bits-spec = tie.close (tie.spec f32-of-requires floor32-requires bits32-requires returns)
+floor32-bits-spec =
+    tie.close (tie.spec (search needs) (search needs) (search needs) returns)

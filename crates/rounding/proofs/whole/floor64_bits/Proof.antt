@@ -3,17 +3,9 @@ use borrow.Author.Needs.{needs}
 use Rattle.rounding.proofs.whole.floor64_bits.Statement.{statement}
 use Rattle.rounding.proofs.whole.floor64_bits.Tie as tie
 
-f64-of-requires : tie.Need-f64-of-requires
-f64-of-requires c κs = search needs
-
-floor64-requires : tie.Need-floor64-requires
-floor64-requires c κs = search needs
-
-bits64-requires : tie.Need-bits64-requires
-bits64-requires c κs = search needs
-
 returns : tie.Need-returns
 returns c = cc
 
 pub floor64-bits-spec : {M : Type 1} → statement M
-floor64-bits-spec = tie.close (tie.spec f64-of-requires floor64-requires bits64-requires returns)
+floor64-bits-spec =
+    tie.close (tie.spec (search needs) (search needs) (search needs) returns)

@@ -11,29 +11,11 @@ use Rattle.rounding.proofs.whole.shifted.Tie as tie
 enum-told : tie.Need-enum-told
 enum-told c = search needs
 
-shr-result : tie.Need-shr-result
-shr-result c = search needs
-
-enum-told-2 : tie.Need-enum-told-2
-enum-told-2 c = search needs
-
-shl-result : tie.Need-shl-result
-shl-result c = search needs
-
 sub-result : tie.Need-sub-result
 sub-result c = let j = c .before .before .args .j in rw (one-shl j (omega arith)) (pow-pos j)
 
 add-result : tie.Need-add-result
 add-result c = let j = c .before .before .args .j in rw (one-shl j (omega arith)) (omega (arith, pow-mono {i = j} {j = 63} (omega arith)))
-
-shr-result-2 : tie.Need-shr-result-2
-shr-result-2 c = search needs
-
-enum-told-3 : tie.Need-enum-told-3
-enum-told-3 c = search needs
-
-nearest-shift-requires : tie.Need-nearest-shift-requires
-nearest-shift-requires c κs = search needs
 
 returns : tie.Need-returns
 returns c = rw (c .enum-told .given .1)
@@ -47,4 +29,5 @@ returns-3 c = rw (c .before .enum-told3 .given .1) (c .nearest-shift .ensures)
 pub shifted-spec : {M : Type 1} → statement M
 shifted-spec =
     tie.close
-    (tie.spec enum-told shr-result enum-told-2 shl-result sub-result add-result shr-result-2 enum-told-3 nearest-shift-requires returns returns-2 returns-3)
+    (tie.spec enum-told (search needs) (search needs) (search needs) sub-result add-result (search needs) (search needs)
+    (search needs) returns returns-2 returns-3)

@@ -14,15 +14,6 @@ use Rattle.rounding.proofs.whole.whole64.Tie as tie
 is : (c : tie.After-bits64) → ofBits binary64 (c .bits64 .result) ≡ c .before .args .x
 is c = rw (c .bits64 .ensures) (read-back binary64 (c .before .args .x) (c .before .good .0 .1))
 
-bits64-requires : tie.Need-bits64-requires
-bits64-requires c κs = search needs
-
-way-at-requires : tie.Need-way-at-requires
-way-at-requires c κs = search needs
-
-whole-size-requires : tie.Need-whole-size-requires
-whole-size-requires c κs = search needs
-
 int-to-float-n : tie.Need-int-to-float-n
 int-to-float-n c =
     let asked = c .before .before in
@@ -53,4 +44,4 @@ returns-3 c =
 
 pub whole64-spec : {M : Type 1} → statement M
 whole64-spec =
-    tie.close (tie.spec bits64-requires way-at-requires whole-size-requires int-to-float-n returns returns-2 returns-3)
+    tie.close (tie.spec (search needs) (search needs) (search needs) int-to-float-n returns returns-2 returns-3)

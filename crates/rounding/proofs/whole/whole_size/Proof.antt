@@ -5,21 +5,6 @@ use Rattle.ieee.proofs.Patterns.Whole.{cut-size, tiny-size}
 use Rattle.rounding.proofs.whole.whole_size.Statement.{statement}
 use Rattle.rounding.proofs.whole.whole_size.Tie as tie
 
-add-shifted : tie.Need-add-shifted
-add-shifted c = search needs
-
-shifted-requires : tie.Need-shifted-requires
-shifted-requires c κs = search needs
-
-add-shifted-2 : tie.Need-add-shifted-2
-add-shifted-2 c = search needs
-
-sub-shifted : tie.Need-sub-shifted
-sub-shifted c = search needs
-
-shifted-requires-2 : tie.Need-shifted-requires-2
-shifted-requires-2 c κs = search needs
-
 returns : tie.Need-returns
 returns c =
     let start = c .before .before in
@@ -31,4 +16,5 @@ returns-2 c =
     rw (c .shifted2 .ensures) (cut-size (wayOf (start .args .way)) (start .args .e) (start .args .t) (c .before .if1 .left) (start .pre .0))
 
 pub whole-size-spec : {M : Type 1} → statement M
-whole-size-spec = tie.close (tie.spec add-shifted shifted-requires add-shifted-2 sub-shifted shifted-requires-2 returns returns-2)
+whole-size-spec =
+    tie.close (tie.spec (search needs) (search needs) (search needs) (search needs) (search needs) returns returns-2)

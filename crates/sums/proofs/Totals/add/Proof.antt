@@ -4,20 +4,8 @@ use Rattle.sums.specs.Totals.{withFacet, onSlope}
 use Rattle.sums.proofs.Totals.add.Statement.{statement}
 use Rattle.sums.proofs.Totals.add.Tie as tie
 
-slope-of-requires : tie.Need-slope-of-requires
-slope-of-requires c κs = search needs
-
 enum-told : tie.Need-enum-told
 enum-told c = search needs
-
-enum-told-2 : tie.Need-enum-told-2
-enum-told-2 c = search needs
-
-enum-told-3 : tie.Need-enum-told-3
-enum-told-3 c = search needs
-
-enum-told-4 : tie.Need-enum-told-4
-enum-told-4 c = search needs
 
 returns : tie.Need-returns
 unfolding withFacet onSlope
@@ -38,13 +26,5 @@ returns-4 c = rw (← c .before .before .before .before .slope-of .ensures, c .b
 pub add-spec : {M : Type 1} → statement M
 add-spec =
     tie.close
-    (tie.spec
-    slope-of-requires
-    enum-told
-    enum-told-2
-    enum-told-3
-    enum-told-4
-    returns
-    returns-2
-    returns-3
+    (tie.spec (search needs) enum-told (search needs) (search needs) (search needs) returns returns-2 returns-3
     returns-4)

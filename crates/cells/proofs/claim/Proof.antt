@@ -41,6 +41,6 @@ returns c =
 pub claim-spec : {M : Type 1} → statement M
 claim-spec =
     tie.close
-    (tie.spec (search needs) (search needs) (search needs) (search needs) add-part-2 (search needs) (search needs)
-    (search needs) (search needs) (search needs) put-requires (search needs) put-requires-2 (search needs)
-    put-requires-3 same-length returns)
+    (tie.spec (λ c. search needs) (λ c. search needs) (λ c. search needs) (λ c. search needs) add-part-2
+    (λ c. search needs) (λ c. search needs) (λ c. search needs) (λ c. search needs) (λ c. search needs) put-requires
+    (λ c. search needs) put-requires-2 (λ c. search needs) put-requires-3 same-length returns)

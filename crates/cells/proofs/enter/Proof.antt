@@ -60,6 +60,6 @@ returns-2 c =
 pub enter-spec : {M : Type 1} → statement M
 enter-spec =
     tie.close
-    (tie.spec (search needs) (search needs) (search needs) (search needs) find-requires (search needs) (search needs)
-    (search needs) claim-requires (search needs) (search needs) (search needs) (search needs) returns (search needs)
-    returns-2)
+    (tie.spec (λ c κs. search needs) (λ c κs. search needs) (λ c. search needs) (λ c κs. search needs) find-requires
+    (λ c. search needs) (λ c. search needs) (λ c. search needs) claim-requires (λ c κs. search needs)
+    (λ c. search needs) (λ c κs. search needs) (λ c. search needs) returns (λ c. search needs) returns-2)

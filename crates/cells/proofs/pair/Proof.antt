@@ -26,5 +26,5 @@ returns c = refl
 pub pair-spec : {M : Type 1} → statement M
 pair-spec =
     tie.close
-    (tie.spec (search needs) (search needs) cast-result (search needs) (search needs) (search needs) cast-result-2
-    mul-result-3 add-result-2 returns)
+    (tie.spec (λ c. search needs) (λ c. search needs) cast-result (λ c. search needs) (λ c. search needs)
+    (λ c. search needs) cast-result-2 mul-result-3 add-result-2 returns)

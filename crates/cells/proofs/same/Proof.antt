@@ -11,5 +11,5 @@ returns c = rw (c .before .before .before .before .before .pair .ensures, c .bef
 pub same-spec : {M : Type 1} → statement M
 same-spec =
     tie.close
-    (tie.spec (search needs) (search needs) (search needs) (search needs) (search needs) (search needs) (search needs)
-    (search needs) returns)
+    (tie.spec (λ c. search needs) (λ c. search needs) (λ c. search needs) (λ c κs. search needs) (λ c. search needs)
+    (λ c κs. search needs) (λ c. search needs) (λ c κs. search needs) returns)

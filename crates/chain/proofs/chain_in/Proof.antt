@@ -20,5 +20,5 @@ returns c =
 pub chain-in-spec : {M : Type 1} → statement M
 chain-in-spec =
     tie.close
-    (tie.spec (search needs) (search needs) (search needs) gather-chain-requires (search needs) (search needs)
-    (search needs) returns)
+    (tie.spec (λ c. search needs) (λ c κs. search needs) (λ c κs. search needs) gather-chain-requires
+    (λ c κs. search needs) (λ c κs. search needs) (λ c. search needs) returns)

@@ -28,5 +28,6 @@ returns c =
 pub coherent-in-spec : {M : Type 1} → statement M
 coherent-in-spec =
     tie.close
-    (tie.spec (search needs) (search needs) (search needs) gather-requires (search needs) (search needs) (search needs)
-    (search needs) (search needs) (search needs) returns)
+    (tie.spec (λ c. search needs) (λ c κs. search needs) (λ c κs. search needs) gather-requires (λ c κs. search needs)
+    (λ c κs. search needs) (λ c κs. search needs) (λ c κs. search needs) (λ c. search needs) (λ c. search needs)
+    returns)

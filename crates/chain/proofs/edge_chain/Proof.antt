@@ -33,5 +33,5 @@ returns-2 c =
 pub edge-chain-spec : {M : Type 1} → statement M
 edge-chain-spec =
     tie.close
-    (tie.spec (search needs) (search needs) returns (search needs) (search needs) part-chain-in-end chain-in-requires
-    (search needs) returns-2)
+    (tie.spec (λ c. search needs) (λ c κs. search needs) returns (λ c. search needs) (λ c. search needs)
+    part-chain-in-end chain-in-requires (λ c. search needs) returns-2)

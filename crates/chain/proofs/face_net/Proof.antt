@@ -33,5 +33,5 @@ returns-2 c =
 pub face-net-spec : {M : Type 1} → statement M
 face-net-spec =
     tie.close
-    (tie.spec (search needs) (search needs) returns (search needs) (search needs) part-net-in-end net-in-requires
-    (search needs) returns-2)
+    (tie.spec (λ c. search needs) (λ c κs. search needs) returns (λ c. search needs) (λ c. search needs) part-net-in-end
+    net-in-requires (λ c. search needs) returns-2)

@@ -13,4 +13,4 @@ returns-2 c = rw (chain-none (c .before .before .before .before .args .ids .now)
 
 pub gather-chain-spec : {M : Type 1} → statement M
 gather-chain-spec =
-    tie.close (tie.spec (search needs) (search needs) (search needs) returns returns-2)
+    tie.close (tie.spec (λ c κs. search needs) (λ c κs. search needs) (λ c. search needs) returns returns-2)

@@ -33,5 +33,5 @@ returns-2 c =
 pub winding-coherent-spec : {M : Type 1} → statement M
 winding-coherent-spec =
     tie.close
-    (tie.spec (search needs) (search needs) returns (search needs) (search needs) part-coherent-in-end
-    coherent-in-requires (search needs) returns-2)
+    (tie.spec (λ c. search needs) (λ c κs. search needs) returns (λ c. search needs) (λ c. search needs)
+    part-coherent-in-end coherent-in-requires (λ c. search needs) returns-2)

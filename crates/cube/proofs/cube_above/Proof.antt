@@ -12,4 +12,4 @@ returns c =
 
 pub cube-above-spec : {M : Type 1} → statement M
 cube-above-spec =
-    tie.close (tie.spec (search needs) (search needs) (search needs) returns)
+    tie.close (tie.spec (λ c κs. search needs) (λ c κs. search needs) (λ c κs. search needs) returns)

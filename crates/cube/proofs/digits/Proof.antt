@@ -14,4 +14,4 @@ returns-2 c = (sig-above binary32 _ _ (c .if1 .left), omega arith)
 
 pub digits-spec : {M : Type 1} → statement M
 digits-spec =
-    tie.close (tie.spec (search needs) returns returns-2)
+    tie.close (tie.spec (λ c. search needs) returns returns-2)

@@ -14,4 +14,4 @@ returns-2 c = omega (arith, exp-is (c .before .args .b % 2 ^ 31 / 2 ^ 23))
 
 pub place-spec : {M : Type 1} → statement M
 place-spec =
-    tie.close (tie.spec (search needs) returns returns-2)
+    tie.close (tie.spec (λ c. search needs) returns returns-2)

@@ -11,4 +11,4 @@ returns-2 c = let start = c .before in sym (div-eq-of-lt (below-pow (start .args
 
 pub shifted-down-spec : {M : Type 1} → statement M
 shifted-down-spec =
-    tie.close (tie.spec (search needs) (search needs) returns-2)
+    tie.close (tie.spec (λ c. search needs) (λ c. search needs) returns-2)

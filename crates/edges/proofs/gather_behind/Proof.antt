@@ -51,6 +51,7 @@ returns c =
 pub gather-behind-spec : {M : Type 1} → statement M
 gather-behind-spec =
     tie.close
-    (tie.spec Inv-loop μ-loop loop-holds (search needs) (search needs) (search needs) (search needs) (search needs)
-    (search needs) (search needs) (search needs) (search needs) (search needs) slice-aggregate-triangle
-    triangle-requires (search needs) (search needs) loop-again same-length returns)
+    (tie.spec Inv-loop μ-loop loop-holds (λ c. search needs) (λ c. search needs) (λ c. search needs) (λ c. search needs)
+    (λ c. search needs) (λ c. search needs) (λ c. search needs) (λ c. search needs) (λ c. search needs)
+    (λ c. search needs) slice-aggregate-triangle triangle-requires (λ c. search needs) (λ c. search needs) loop-again
+    same-length returns)

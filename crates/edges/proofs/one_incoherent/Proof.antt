@@ -9,4 +9,4 @@ returns c = incoherent-one (c .args .uses) (c .args .ups)
 
 pub one-incoherent-spec : {M : Type 1} → statement M
 one-incoherent-spec =
-    tie.close (tie.spec (search needs) returns)
+    tie.close (tie.spec (λ c. search needs) returns)

@@ -34,4 +34,4 @@ returns c =
 
 pub one-unpaired-spec : {M : Type 1} → statement M
 one-unpaired-spec =
-    tie.close (tie.spec (search needs) returns)
+    tie.close (tie.spec (λ c. search needs) returns)

@@ -13,4 +13,4 @@ returns-2 c = λ es m. rw (step-proper _ _ (c .before .before .before .before .i
 
 pub proper-step-spec : {M : Type 1} → statement M
 proper-step-spec =
-    tie.close (tie.spec returns (search needs) (search needs) returns-2)
+    tie.close (tie.spec returns (λ c κs. search needs) (λ c. search needs) returns-2)

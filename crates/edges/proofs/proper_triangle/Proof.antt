@@ -48,4 +48,4 @@ returns c =
 
 pub proper-triangle-spec : {M : Type 1} → statement M
 proper-triangle-spec =
-    tie.close (tie.spec proper-step-requires proper-step-requires-2 proper-step-requires-3 (search needs) returns)
+    tie.close (tie.spec proper-step-requires proper-step-requires-2 proper-step-requires-3 (λ c. search needs) returns)

@@ -14,4 +14,5 @@ returns-2 c = λ es m. rw (c .before .before .before .before .if1 .left) (c .bef
 
 pub triangle-by-spec : {M : Type 1} → statement M
 triangle-by-spec =
-    tie.close (tie.spec (search needs) (search needs) (search needs) returns (search needs) returns-2)
+    tie.close
+    (tie.spec (λ c κs. search needs) (λ c κs. search needs) (λ c. search needs) returns (λ c. search needs) returns-2)

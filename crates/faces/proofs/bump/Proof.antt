@@ -14,5 +14,6 @@ add-word-2 c = let few : usesAt (c .before .args .work .now) (c .before .args .r
 pub bump-spec : {M : Type 1} → statement M
 bump-spec =
     tie.close
-    (tie.spec (search needs) (search needs) (search needs) (search needs) add-word-2 (search needs) (search needs)
-    (search needs) (search needs) (search needs) (search needs) (search needs) (search needs))
+    (tie.spec (λ c. search needs) (λ c. search needs) (λ c. search needs) (λ c. search needs) add-word-2
+    (λ c. search needs) (λ c. search needs) (λ c. search needs) (λ c. search needs) (λ c. search needs)
+    (λ c. search needs) (λ c. search needs) (λ c. search needs))

@@ -24,4 +24,5 @@ returns c = let s = c .before .before .before .before in rw (part-to-end (s .arg
 pub find-behind-spec : {M : Type 1} → statement M
 find-behind-spec =
     tie.close
-    (tie.spec (search needs) (search needs) (search needs) (search needs) slice-aggregate-find find-requires returns)
+    (tie.spec (λ c. search needs) (λ c. search needs) (λ c. search needs) (λ c. search needs) slice-aggregate-find
+    find-requires returns)

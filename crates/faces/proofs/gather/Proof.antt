@@ -46,5 +46,5 @@ returns c =
 pub gather-spec : {M : Type 1} → statement M
 gather-spec =
     tie.close
-    (tie.spec Inv-loop μ-loop loop-holds triangle-requires (search needs) (search needs) loop-again (search needs)
-    returns)
+    (tie.spec Inv-loop μ-loop loop-holds triangle-requires (λ c. search needs) (λ c. search needs) loop-again
+    (λ c. search needs) returns)

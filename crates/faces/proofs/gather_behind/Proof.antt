@@ -57,5 +57,5 @@ returns c =
 pub gather-behind-spec : {M : Type 1} → statement M
 gather-behind-spec =
     tie.close
-    (tie.spec Inv-loop μ-loop (search needs) loop-holds triangle-behind-requires (search needs) (search needs)
-    loop-again (search needs) returns)
+    (tie.spec Inv-loop μ-loop (λ c. search needs) loop-holds triangle-behind-requires (λ c. search needs)
+    (λ c. search needs) loop-again (λ c. search needs) returns)

@@ -49,5 +49,6 @@ returns c =
 pub net-spec : {M : Type 1} → statement M
 net-spec =
     tie.close
-    (tie.spec Inv-loop μ-loop loop-holds (search needs) (search needs) (search needs) (search needs) (search needs)
-    (search needs) (search needs) add-off (search needs) (search needs) loop-again returns)
+    (tie.spec Inv-loop μ-loop loop-holds (λ c. search needs) (λ c. search needs) (λ c. search needs) (λ c. search needs)
+    (λ c κs. search needs) (λ c κs. search needs) (λ c. search needs) add-off (λ c. search needs) (λ c. search needs)
+    loop-again returns)

@@ -10,4 +10,4 @@ returns c = rw (c .before .before .before .sort .ensures)
 
 pub same-spec : {M : Type 1} → statement M
 same-spec =
-    tie.close (tie.spec (search needs) returns)
+    tie.close (tie.spec (λ c κs. search needs) returns)

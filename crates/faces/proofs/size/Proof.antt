@@ -15,4 +15,4 @@ returns-2 c = omega arith
 
 pub size-spec : {M : Type 1} → statement M
 size-spec =
-    tie.close (tie.spec (search needs) returns returns-2)
+    tie.close (tie.spec (λ c. search needs) returns returns-2)

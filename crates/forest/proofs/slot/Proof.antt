@@ -9,4 +9,4 @@ cast-result c = omega (arith, c .shared-slice-known .given (c .before .args .r))
 
 pub slot-spec : {M : Type 1} → statement M
 slot-spec =
-    tie.close (tie.spec (search needs) (search needs) cast-result (search needs))
+    tie.close (tie.spec (λ c. search needs) (λ c. search needs) cast-result (λ c. search needs))

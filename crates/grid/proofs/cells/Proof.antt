@@ -19,4 +19,4 @@ returns-3 c = rw (← c .before .before .before .ceiling32 .ensures, ← c .befo
 
 pub cells-spec : {M : Type 1} → statement M
 cells-spec =
-    tie.close (tie.spec (search needs) (search needs) returns returns-2 returns-3)
+    tie.close (tie.spec (λ c κs. search needs) (λ c κs. search needs) returns returns-2 returns-3)

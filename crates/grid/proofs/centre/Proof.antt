@@ -11,4 +11,4 @@ returns c = refl
 
 pub centre-spec : {M : Type 1} → statement M
 centre-spec =
-    tie.close (tie.spec (search needs) (search needs) returns)
+    tie.close (tie.spec (λ c. search needs) (λ c. search needs) returns)

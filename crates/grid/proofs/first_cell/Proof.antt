@@ -10,4 +10,4 @@ returns c = rw (← c .before .before .least32 .ensures, ← c .before .least322
 
 pub first-cell-spec : {M : Type 1} → statement M
 first-cell-spec =
-    tie.close (tie.spec (search needs) (search needs) (search needs) returns)
+    tie.close (tie.spec (λ c κs. search needs) (λ c κs. search needs) (λ c κs. search needs) returns)

@@ -10,4 +10,4 @@ returns c = rw (← c .before .before .greatest32 .ensures, ← c .before .great
 
 pub last-cell-spec : {M : Type 1} → statement M
 last-cell-spec =
-    tie.close (tie.spec (search needs) (search needs) (search needs) returns)
+    tie.close (tie.spec (λ c κs. search needs) (λ c κs. search needs) (λ c κs. search needs) returns)

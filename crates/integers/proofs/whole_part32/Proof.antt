@@ -32,4 +32,4 @@ returns c = whole-part (c .args .x) (toBits binary32 (c .args .x)) (is c) (c .pr
 
 pub whole-part32-spec : {M : Type 1} → statement M
 whole-part32-spec =
-    tie.close (tie.spec float-to-bits-b (search needs) sub-result shr-result returns)
+    tie.close (tie.spec float-to-bits-b (λ c. search needs) sub-result shr-result returns)

@@ -12,4 +12,4 @@ returns c = record { is = refl; room = areas-fit (c .args .n) (c .args .surfaces
 
 pub areas-short-spec : {M : Type 1} → statement M
 areas-short-spec =
-    tie.close (tie.spec (search needs) (search needs) (search needs) returns)
+    tie.close (tie.spec (λ c. search needs) (λ c. search needs) (λ c. search needs) returns)

@@ -16,4 +16,6 @@ returns c =
 
 pub head-lines-spec : {M : Type 1} → statement M
 head-lines-spec =
-    tie.close (tie.spec (search needs) (search needs) (search needs) (search needs) (search needs) returns)
+    tie.close
+    (tie.spec (λ c κs. search needs) (λ c κs. search needs) (λ c κs. search needs) (λ c κs. search needs)
+    (λ c. search needs) returns)

@@ -18,4 +18,4 @@ returns-2 c =
 
 pub list-refusal-spec : {M : Type 1} → statement M
 list-refusal-spec =
-    tie.close (tie.spec returns (search needs) (search needs) (search needs) returns-2)
+    tie.close (tie.spec returns (λ c. search needs) (λ c κs. search needs) (λ c. search needs) returns-2)

@@ -15,4 +15,4 @@ returns c = spells-puts (number-lines (c .before .before .before .before .before
 
 pub number-lines-spec : {M : Type 1} → statement M
 number-lines-spec =
-    tie.close (tie.spec (search needs) (search needs) fill-requires (search needs) returns)
+    tie.close (tie.spec (λ c. search needs) (λ c. search needs) fill-requires (λ c. search needs) returns)

@@ -22,5 +22,5 @@ returns-2 c = rw (c .before .before .before .before .before .before .before .pri
 pub prism-line-spec : {M : Type 1} → statement M
 prism-line-spec =
     tie.close
-    (tie.spec enum-told (search needs) (search needs) (search needs) (search needs) (search needs) fill-requires
-    (search needs) returns (search needs) returns-2)
+    (tie.spec enum-told (λ c. search needs) (λ c κs. search needs) (λ c. search needs) (λ c. search needs)
+    (λ c. search needs) fill-requires (λ c. search needs) returns (λ c. search needs) returns-2)

@@ -37,6 +37,6 @@ returns c = left-none (c .before .loop .inv .1) (lines-end (c .before .before .b
 pub row-lines-spec : {M : Type 1} → statement M
 row-lines-spec =
     tie.close
-    (tie.spec Inv-loop μ-loop loop-holds (search needs) (search needs) (search needs) (search needs) (search needs)
-    (search needs) (search needs) (search needs) fill-requires (search needs) (search needs) loop-again (search needs)
-    returns)
+    (tie.spec Inv-loop μ-loop loop-holds (λ c. search needs) (λ c. search needs) (λ c. search needs) (λ c. search needs)
+    (λ c. search needs) (λ c. search needs) (λ c. search needs) (λ c. search needs) fill-requires (λ c. search needs)
+    (λ c. search needs) loop-again (λ c. search needs) returns)

@@ -12,4 +12,4 @@ returns c = (search needs, omega (arith, c .shared-slice-known .given (c .before
 
 pub byte-spec : {M : Type 1} → statement M
 byte-spec =
-    tie.close (tie.spec (search needs) cast-result returns)
+    tie.close (tie.spec (λ c. search needs) cast-result returns)

@@ -33,4 +33,6 @@ returns-3 c =
 
 pub flags-in-spec : {M : Type 1} → statement M
 flags-in-spec =
-    tie.close (tie.spec (search needs) (search needs) (search needs) returns (search needs) returns-2 returns-3)
+    tie.close
+    (tie.spec (λ c κs. search needs) (λ c κs. search needs) (λ c κs. search needs) returns (λ c. search needs) returns-2
+    returns-3)

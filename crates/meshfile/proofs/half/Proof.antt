@@ -11,4 +11,6 @@ returns c = omega arith
 
 pub half-spec : {M : Type 1} → statement M
 half-spec =
-    tie.close (tie.spec (search needs) (search needs) (search needs) (search needs) (search needs) returns)
+    tie.close
+    (tie.spec (λ c κs. search needs) (λ c. search needs) (λ c κs. search needs) (λ c. search needs) (λ c. search needs)
+    returns)

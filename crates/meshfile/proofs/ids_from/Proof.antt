@@ -28,5 +28,5 @@ returns-2 c = rw (← c .before .before .before .before .before .before .front-o
 pub ids-from-spec : {M : Type 1} → statement M
 ids-from-spec =
     tie.close
-    (tie.spec (search needs) (search needs) (search needs) add-ending-of sub-ending-of part-ending-of-start
-    (search needs) (search needs) (search needs) returns returns-2)
+    (tie.spec (λ c κs. search needs) (λ c. search needs) (λ c. search needs) add-ending-of sub-ending-of
+    part-ending-of-start (λ c. search needs) (λ c κs. search needs) (λ c κs. search needs) returns returns-2)

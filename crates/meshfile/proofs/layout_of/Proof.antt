@@ -28,5 +28,5 @@ returns-2 c = rw (← c .before .before .before .before .before .front-of .ensur
 pub layout-of-spec : {M : Type 1} → statement M
 layout-of-spec =
     tie.close
-    (tie.spec (search needs) (search needs) (search needs) add-vertices-from sub-vertices-from part-vertices-from-start
-    (search needs) (search needs) returns returns-2)
+    (tie.spec (λ c κs. search needs) (λ c. search needs) (λ c. search needs) add-vertices-from sub-vertices-from
+    part-vertices-from-start (λ c. search needs) (λ c κs. search needs) returns returns-2)

@@ -14,4 +14,4 @@ returns-2 c = rw (c .before .end2 .given .1)
 
 pub parts-by-spec : {M : Type 1} → statement M
 parts-by-spec =
-    tie.close (tie.spec (search needs) (search needs) returns returns-2)
+    tie.close (tie.spec (λ c. search needs) (λ c. search needs) returns returns-2)

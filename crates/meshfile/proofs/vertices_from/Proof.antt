@@ -28,5 +28,5 @@ returns-2 c = rw (← c .before .before .before .before .before .front-of .ensur
 pub vertices-from-spec : {M : Type 1} → statement M
 vertices-from-spec =
     tie.close
-    (tie.spec (search needs) (search needs) (search needs) add-ids-from sub-ids-from part-ids-from-start (search needs)
-    (search needs) returns returns-2)
+    (tie.spec (λ c κs. search needs) (λ c. search needs) (λ c. search needs) add-ids-from sub-ids-from
+    part-ids-from-start (λ c. search needs) (λ c κs. search needs) returns returns-2)

@@ -9,4 +9,5 @@ returns c = λ i. record { ax = c .before .before .before .before .before .coord
 pub flat-spec : {M : Type 1} → statement M
 flat-spec =
     tie.close
-    (tie.spec (search needs) (search needs) (search needs) (search needs) (search needs) (search needs) returns)
+    (tie.spec (λ c κs. search needs) (λ c κs. search needs) (λ c κs. search needs) (λ c κs. search needs)
+    (λ c κs. search needs) (λ c κs. search needs) returns)

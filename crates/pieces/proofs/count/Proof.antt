@@ -46,4 +46,5 @@ returns c =
 pub count-spec : {M : Type 1} → statement M
 count-spec =
     tie.close
-    (tie.spec Inv-loop μ-loop loop-holds one-root-requires add-roots (search needs) (search needs) loop-again returns)
+    (tie.spec Inv-loop μ-loop loop-holds one-root-requires add-roots (λ c. search needs) (λ c. search needs) loop-again
+    returns)

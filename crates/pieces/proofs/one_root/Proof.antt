@@ -26,4 +26,4 @@ returns-3 c =
 
 pub one-root-spec : {M : Type 1} → statement M
 one-root-spec =
-    tie.close (tie.spec (search needs) (search needs) returns returns-2 returns-3)
+    tie.close (tie.spec (λ c κs. search needs) (λ c κs. search needs) returns returns-2 returns-3)

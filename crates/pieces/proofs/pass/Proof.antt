@@ -40,4 +40,5 @@ returns c =
 pub pass-spec : {M : Type 1} → statement M
 pass-spec =
     tie.close
-    (tie.spec (search needs) (search needs) (search needs) fill-requires follow-requires (search needs) returns)
+    (tie.spec (λ c κs. search needs) (λ c κs. search needs) (λ c κs. search needs) fill-requires follow-requires
+    (λ c. search needs) returns)

@@ -33,5 +33,5 @@ returns-2 c =
 pub pieces-spec : {M : Type 1} → statement M
 pieces-spec =
     tie.close
-    (tie.spec (search needs) returns (search needs) (search needs) part-pieces-in-end pieces-in-requires (search needs)
-    returns-2)
+    (tie.spec (λ c κs. search needs) returns (λ c. search needs) (λ c. search needs) part-pieces-in-end
+    pieces-in-requires (λ c. search needs) returns-2)

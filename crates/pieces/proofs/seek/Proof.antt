@@ -8,4 +8,4 @@ returns c = rw (c .before .start .ensures .0, c .before .before .key .ensures) a
 
 pub seek-spec : {M : Type 1} → statement M
 seek-spec =
-    tie.close (tie.spec (search needs) (search needs) (search needs) returns)
+    tie.close (tie.spec (λ c κs. search needs) (λ c κs. search needs) (λ c κs. search needs) returns)

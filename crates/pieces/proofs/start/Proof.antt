@@ -19,4 +19,4 @@ returns c = c .home .ensures
 
 pub start-spec : {M : Type 1} → statement M
 start-spec =
-    tie.close (tie.spec mul-hash (search needs) (search needs) returns)
+    tie.close (tie.spec mul-hash (λ c. search needs) (λ c κs. search needs) returns)

@@ -15,4 +15,6 @@ returns-2 c = rw (le-ltb (length (c .before .before .before .before .before .bef
 
 pub probe-footprint-raw-spec : {M : Type 1} → statement M
 probe-footprint-raw-spec =
-    tie.close (tie.spec returns (search needs) (search needs) (search needs) (search needs) returns-2)
+    tie.close
+    (tie.spec returns (λ c κs. search needs) (λ c κs. search needs) (λ c κs. search needs) (λ c. search needs)
+    returns-2)

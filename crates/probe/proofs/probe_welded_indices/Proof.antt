@@ -17,4 +17,6 @@ returns-3 c = (rw (le-leb (length (c .before .before .before .before .before .ar
 
 pub probe-welded-indices-spec : {M : Type 1} → statement M
 probe-welded-indices-spec =
-    tie.close (tie.spec returns (search needs) (search needs) (search needs) (search needs) returns-2 returns-3)
+    tie.close
+    (tie.spec returns (λ c. search needs) (λ c. search needs) (λ c κs. search needs) (λ c. search needs) returns-2
+    returns-3)

@@ -19,4 +19,5 @@ returns-2 c = rw (sym (ap lengthIn (c .enum-told .given .1))) (record-prints _ _
 pub print-record-spec : {M : Type 1} → statement M
 print-record-spec =
     tie.close
-    (tie.spec (search needs) (search needs) (search needs) enum-told (search needs) returns (search needs) returns-2)
+    (tie.spec (λ c κs. search needs) (λ c κs. search needs) (λ c. search needs) enum-told (λ c. search needs) returns
+    (λ c. search needs) returns-2)

@@ -18,4 +18,6 @@ returns-2 c = rw (sym (ap lengthIn (c .enum-told .given .1))) (refusal-prints _ 
 
 pub print-refusal-spec : {M : Type 1} → statement M
 print-refusal-spec =
-    tie.close (tie.spec (search needs) (search needs) enum-told (search needs) returns (search needs) returns-2)
+    tie.close
+    (tie.spec (λ c κs. search needs) (λ c. search needs) enum-told (λ c. search needs) returns (λ c. search needs)
+    returns-2)

@@ -44,6 +44,6 @@ returns-2 c = rw (← mesh-text _ _ (omega arith) (omega arith) _ _ _ _ (c .befo
 pub run-spec : {M : Type 1} → statement M
 run-spec =
     tie.close
-    (tie.spec (search needs) (search needs) (search needs) (search needs) (search needs) (search needs)
-    array-share-prefix-vertices slice-aggregate-print-mesh array-share-prefix-ids slice-aggregate-print-mesh-2
-    print-mesh-requires returns returns-2)
+    (tie.spec (λ c. search needs) (λ c. search needs) (λ c κs. search needs) (λ c. search needs) (λ c κs. search needs)
+    (λ c. search needs) array-share-prefix-vertices slice-aggregate-print-mesh array-share-prefix-ids
+    slice-aggregate-print-mesh-2 print-mesh-requires returns returns-2)

@@ -22,4 +22,4 @@ returns-2 c =
 
 pub run-front-spec : {M : Type 1} → statement M
 run-front-spec =
-    tie.close (tie.spec slice-aggregate-run (search needs) (search needs) returns returns-2)
+    tie.close (tie.spec slice-aggregate-run (λ c κs. search needs) (λ c κs. search needs) returns returns-2)

@@ -33,5 +33,5 @@ returns-3 c =
 pub compute-spec : {M : Type 1} → statement M
 compute-spec =
     tie.close
-    (tie.spec (search needs) (search needs) enum-told (search needs) (search needs) full-requires returns returns-2
-    (search needs) (search needs) (search needs) returns-3)
+    (tie.spec (λ c κs. search needs) (λ c. search needs) enum-told (λ c κs. search needs) (λ c. search needs)
+    full-requires returns returns-2 (λ c. search needs) (λ c. search needs) (λ c. search needs) returns-3)

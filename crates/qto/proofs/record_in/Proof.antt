@@ -35,5 +35,5 @@ returns c =
 pub record-in-spec : {M : Type 1} → statement M
 record-in-spec =
     tie.close
-    (tie.spec (search needs) (search needs) (search needs) (search needs) part-measure-end measure-requires
-    record-by-requires (search needs) (search needs) (search needs) returns)
+    (tie.spec (λ c κs. search needs) (λ c. search needs) (λ c. search needs) (λ c. search needs) part-measure-end
+    measure-requires record-by-requires (λ c. search needs) (λ c. search needs) (λ c. search needs) returns)

@@ -42,5 +42,5 @@ returns-2 c =
 pub footprint-over-spec : {M : Type 1} → statement M
 footprint-over-spec =
     tie.close
-    (tie.spec (search needs) (search needs) (search needs) returns (search needs) mul-n (search needs) (search needs)
-    part-footprint-on-end (search needs) (search needs) returns-2)
+    (tie.spec (λ c κs. search needs) (λ c κs. search needs) (λ c κs. search needs) returns (λ c κs. search needs) mul-n
+    (λ c. search needs) (λ c. search needs) part-footprint-on-end (λ c κs. search needs) (λ c. search needs) returns-2)

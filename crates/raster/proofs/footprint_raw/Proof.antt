@@ -11,4 +11,6 @@ returns c =
 
 pub footprint-raw-spec : {M : Type 1} → statement M
 footprint-raw-spec =
-    tie.close (tie.spec (search needs) (search needs) (search needs) (search needs) (search needs) returns)
+    tie.close
+    (tie.spec (λ c κs. search needs) (λ c κs. search needs) (λ c κs. search needs) (λ c κs. search needs)
+    (λ c. search needs) returns)

@@ -22,4 +22,4 @@ returns-3 c = (rw (c .enum-told3 .given .1), omega arith)
 
 pub offset-spec : {M : Type 1} → statement M
 offset-spec =
-    tie.close (tie.spec enum-told (search needs) (search needs) returns returns-2 returns-3)
+    tie.close (tie.spec enum-told (λ c. search needs) (λ c. search needs) returns returns-2 returns-3)

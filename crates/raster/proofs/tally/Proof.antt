@@ -41,5 +41,5 @@ returns c =
 pub tally-spec : {M : Type 1} → statement M
 tally-spec =
     tie.close
-    (tie.spec Inv-loop μ-loop loop-holds (search needs) cast-sum add-sum (search needs) (search needs) loop-again
-    returns)
+    (tie.spec Inv-loop μ-loop loop-holds (λ c. search needs) cast-sum add-sum (λ c. search needs) (λ c. search needs)
+    loop-again returns)

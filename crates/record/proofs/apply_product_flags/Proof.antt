@@ -9,4 +9,4 @@ returns c = search (needs, clip-first)
 
 pub apply-product-flags-spec : {M : Type 1} → statement M
 apply-product-flags-spec =
-    tie.close (tie.spec (search needs) (search needs) returns)
+    tie.close (tie.spec (λ c κs. search needs) (λ c κs. search needs) returns)

@@ -17,4 +17,4 @@ returns-2 c = rw (c .before .before .profile .given .1) (c .mark-profile-invalid
 
 pub if-invalid-spec : {M : Type 1} → statement M
 if-invalid-spec =
-    tie.close (tie.spec enum-told (search needs) (search needs) returns returns-2)
+    tie.close (tie.spec enum-told (λ c. search needs) (λ c κs. search needs) returns returns-2)

@@ -8,4 +8,4 @@ returns c = rw (← c .before .relabelled .ensures) (c .marked .ensures)
 
 pub mark-clip-unapplied-spec : {M : Type 1} → statement M
 mark-clip-unapplied-spec =
-    tie.close (tie.spec (search needs) (search needs) returns)
+    tie.close (tie.spec (λ c κs. search needs) (λ c κs. search needs) returns)

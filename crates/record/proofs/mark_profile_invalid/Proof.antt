@@ -8,4 +8,4 @@ returns c = rw (← c .before .relabelled .ensures) (c .marked .ensures)
 
 pub mark-profile-invalid-spec : {M : Type 1} → statement M
 mark-profile-invalid-spec =
-    tie.close (tie.spec (search needs) (search needs) returns)
+    tie.close (tie.spec (λ c κs. search needs) (λ c κs. search needs) returns)

@@ -17,4 +17,4 @@ returns-2 c = rw (c .before .before .profile .given .1) (c .defect-number .ensur
 
 pub profile-number-spec : {M : Type 1} → statement M
 profile-number-spec =
-    tie.close (tie.spec enum-told (search needs) (search needs) returns returns-2)
+    tie.close (tie.spec enum-told (λ c. search needs) (λ c κs. search needs) returns returns-2)

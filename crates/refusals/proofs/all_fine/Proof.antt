@@ -31,5 +31,5 @@ returns c = fine-end (c .before .before .before .args .vertices .now) (c .before
 pub all-fine-spec : {M : Type 1} → statement M
 all-fine-spec =
     tie.close
-    (tie.spec Inv-loop μ-loop loop-holds (search needs) (search needs) (search needs) (search needs) (search needs)
-    loop-again returns)
+    (tie.spec Inv-loop μ-loop loop-holds (λ c. search needs) (λ c. search needs) (λ c κs. search needs)
+    (λ c. search needs) (λ c. search needs) loop-again returns)

@@ -8,4 +8,4 @@ returns c = rw (c .before .work-words .ensures, c .raster-bytes .ensures)
 
 pub areas-short-spec : {M : Type 1} → statement M
 areas-short-spec =
-    tie.close (tie.spec (search needs) (search needs) (search needs) returns)
+    tie.close (tie.spec (λ c κs. search needs) (λ c κs. search needs) (λ c. search needs) returns)

@@ -51,5 +51,5 @@ returns-2 c =
 pub checked-spec : {M : Type 1} → statement M
 checked-spec =
     tie.close
-    (tie.spec returns returns-2 (search needs) returns-3 areas-short-requires (search needs) returns-4 returns-5
-    returns-6)
+    (tie.spec returns returns-2 (λ c κs. search needs) returns-3 areas-short-requires (λ c κs. search needs) returns-4
+    returns-5 returns-6)

@@ -11,4 +11,6 @@ returns c = refl
 
 pub work-words-spec : {M : Type 1} → statement M
 work-words-spec =
-    tie.close (tie.spec (search needs) (search needs) (search needs) (search needs) (search needs) returns)
+    tie.close
+    (tie.spec (λ c. search needs) (λ c. search needs) (λ c. search needs) (λ c. search needs) (λ c. search needs)
+    returns)

@@ -35,7 +35,7 @@ print-short-requires c κs =
 pub print-line-of-spec : {M : Type 1} → statement M
 print-line-of-spec =
     tie.close
-    (tie.spec (search needs) (search needs) (search needs) (search needs) array-share-prefix-ids
-    slice-aggregate-print-ids (search needs) array-share-prefix-vertices slice-aggregate-print-short
-    array-share-prefix-ids-2 slice-aggregate-print-short-2 print-short-requires (search needs) (search needs)
-    (search needs) (search needs) (search needs))
+    (tie.spec (λ c. search needs) (λ c. search needs) (λ c κs. search needs) (λ c. search needs) array-share-prefix-ids
+    slice-aggregate-print-ids (λ c κs. search needs) array-share-prefix-vertices slice-aggregate-print-short
+    array-share-prefix-ids-2 slice-aggregate-print-short-2 print-short-requires (λ c. search needs)
+    (λ c κs. search needs) (λ c. search needs) (λ c. search needs) (λ c. search needs))

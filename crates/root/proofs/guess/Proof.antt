@@ -12,4 +12,4 @@ float-from-bits-y c = up-to-inf binary64 (0x5fe6eb50c7b537a9 - c .args .b / 2) (
 
 pub guess-spec : {M : Type 1} → statement M
 guess-spec =
-    tie.close (tie.spec (search needs) float-from-bits-y (search needs) (search needs))
+    tie.close (tie.spec (λ c. search needs) float-from-bits-y (λ c κs. search needs) (λ c. search needs))

@@ -19,4 +19,4 @@ returns c = let a = c .args .a in let b = c .args .b in byte a b (ltb a b) (ltb�
 
 pub less-spec : {M : Type 1} → statement M
 less-spec =
-    tie.close (tie.spec (search needs) returns)
+    tie.close (tie.spec (λ c. search needs) returns)

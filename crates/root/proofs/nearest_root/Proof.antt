@@ -102,5 +102,5 @@ returns-2 c = let p = parts-at (c .before) in same (c .before .before .args .m *
 pub nearest-root-spec : {M : Type 1} → statement M
 nearest-root-spec =
     tie.close
-    (tie.spec (search needs) mul-n sub-n mul-n-2 mul-t div-t mul-u rem-u mul-s add-s mul-if1 add-if1 mul-if1-2
+    (tie.spec (λ c κs. search needs) mul-n sub-n mul-n-2 mul-t div-t mul-u rem-u mul-s add-s mul-if1 add-if1 mul-if1-2
     add-result returns returns-2)

@@ -30,4 +30,4 @@ returns c =
 
 pub root-normal-spec : {M : Type 1} → statement M
 root-normal-spec =
-    tie.close (tie.spec (search needs) (search needs) (search needs) (search needs) returns)
+    tie.close (tie.spec (λ c. search needs) (λ c. search needs) (λ c κs. search needs) (λ c κs. search needs) returns)

@@ -8,4 +8,4 @@ returns c = rw (← c .before .before .get .ensures, ← c .before .get2 .ensure
 
 pub ahead-spec : {M : Type 1} → statement M
 ahead-spec =
-    tie.close (tie.spec (search needs) (search needs) (search needs) returns)
+    tie.close (tie.spec (λ c κs. search needs) (λ c κs. search needs) (λ c κs. search needs) returns)

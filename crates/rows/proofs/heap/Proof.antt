@@ -28,4 +28,5 @@ returns c = c .before .loop .inv .2
 pub heap-spec : {M : Type 1} → statement M
 heap-spec =
     tie.close
-    (tie.spec Inv-loop μ-loop loop-holds (search needs) (search needs) (search needs) loop-again (search needs) returns)
+    (tie.spec Inv-loop μ-loop loop-holds (λ c. search needs) (λ c κs. search needs) (λ c. search needs) loop-again
+    (λ c. search needs) returns)

@@ -14,4 +14,4 @@ returns-2 c = sym (largest-first (c .before .before .args .rows .now) (omega ari
 
 pub largest-spec : {M : Type 1} → statement M
 largest-spec =
-    tie.close (tie.spec returns (search needs) returns-2)
+    tie.close (tie.spec returns (λ c. search needs) returns-2)

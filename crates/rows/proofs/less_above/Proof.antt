@@ -13,4 +13,4 @@ returns-2 c = less-kept (c .before .args .m) (c .before .args .a) (c .if1 .left)
 
 pub less-above-spec : {M : Type 1} → statement M
 less-above-spec =
-    tie.close (tie.spec (search needs) returns returns-2)
+    tie.close (tie.spec (λ c κs. search needs) returns returns-2)

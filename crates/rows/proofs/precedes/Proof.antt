@@ -24,4 +24,4 @@ returns-2 c =
 
 pub precedes-spec : {M : Type 1} → statement M
 precedes-spec =
-    tie.close (tie.spec returns (search needs) (search needs) returns-2)
+    tie.close (tie.spec returns (λ c κs. search needs) (λ c κs. search needs) returns-2)

@@ -9,4 +9,4 @@ returns c = c .before .before .put .ensures ∙ rw (c .before .before .before .b
 
 pub scale-row-spec : {M : Type 1} → statement M
 scale-row-spec =
-    tie.close (tie.spec (search needs) (search needs) (search needs) returns)
+    tie.close (tie.spec (λ c κs. search needs) (λ c κs. search needs) (λ c. search needs) returns)

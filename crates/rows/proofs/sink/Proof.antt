@@ -43,5 +43,5 @@ returns-3 c = c .before .loop .inv .2
 pub sink-spec : {M : Type 1} → statement M
 sink-spec =
     tie.close
-    (tie.spec Inv-loop μ-loop loop-holds (search needs) (search needs) returns (search needs) (search needs) returns-2
-    (search needs) (search needs) loop-again (search needs) returns-3)
+    (tie.spec Inv-loop μ-loop loop-holds (λ c κs. search needs) (λ c. search needs) returns (λ c κs. search needs)
+    (λ c. search needs) returns-2 (λ c κs. search needs) (λ c. search needs) loop-again (λ c. search needs) returns-3)

@@ -25,4 +25,4 @@ returns c =
 
 pub sort-spec : {M : Type 1} → statement M
 sort-spec =
-    tie.close (tie.spec (search needs) (search needs) (search needs) returns)
+    tie.close (tie.spec (λ c κs. search needs) (λ c κs. search needs) (λ c. search needs) returns)

@@ -9,4 +9,4 @@ returns c = puts-byte (c .args .at) (c .args .byte) (c .args .out .now) (search 
 
 pub put-byte-spec : {M : Type 1} → statement M
 put-byte-spec =
-    tie.close (tie.spec (search needs) (search needs) (search needs) returns)
+    tie.close (tie.spec (λ c. search needs) (λ c. search needs) (λ c. search needs) returns)

@@ -39,5 +39,5 @@ returns c =
 pub walk-spec : {M : Type 1} → statement M
 walk-spec =
     tie.close
-    (tie.spec (search needs) (search needs) (search needs) (search needs) find-requires (search needs) bump-requires
-    (search needs) returns)
+    (tie.spec (λ c κs. search needs) (λ c κs. search needs) (λ c κs. search needs) (λ c κs. search needs) find-requires
+    (λ c κs. search needs) bump-requires (λ c. search needs) returns)

@@ -10,4 +10,4 @@ returns c = rw (← c .before .before .extent .ensures, ← c .before .extent2 .
 
 pub box-volume-spec : {M : Type 1} → statement M
 box-volume-spec =
-    tie.close (tie.spec (search needs) (search needs) (search needs) returns)
+    tie.close (tie.spec (λ c κs. search needs) (λ c κs. search needs) (λ c κs. search needs) returns)

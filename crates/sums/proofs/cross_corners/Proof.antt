@@ -10,4 +10,5 @@ returns c = crossed-corners _ _ _ _ (c .before .before .normal .ensures) (c .bef
 pub cross-corners-spec : {M : Type 1} → statement M
 cross-corners-spec =
     tie.close
-    (tie.spec (search needs) (search needs) (search needs) (search needs) (search needs) (search needs) returns)
+    (tie.spec (λ c κs. search needs) (λ c κs. search needs) (λ c. search needs) (λ c. search needs) (λ c. search needs)
+    (λ c κs. search needs) returns)

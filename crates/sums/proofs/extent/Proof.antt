@@ -10,4 +10,4 @@ returns c = c .greatest32 .ensures
 
 pub extent-spec : {M : Type 1} → statement M
 extent-spec =
-    tie.close (tie.spec (search needs) returns)
+    tie.close (tie.spec (λ c κs. search needs) returns)

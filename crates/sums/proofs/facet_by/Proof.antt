@@ -10,4 +10,5 @@ returns c = rw (c .before .before .before .before .before .before .narrow .ensur
 
 pub facet-by-spec : {M : Type 1} → statement M
 facet-by-spec =
-    tie.close (tie.spec (search needs) (search needs) (search needs) (search needs) returns)
+    tie.close
+    (tie.spec (λ c κs. search needs) (λ c κs. search needs) (λ c κs. search needs) (λ c κs. search needs) returns)

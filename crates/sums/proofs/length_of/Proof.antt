@@ -23,4 +23,4 @@ returns-2 c =
 
 pub length-of-spec : {M : Type 1} → statement M
 length-of-spec =
-    tie.close (tie.spec (search needs) returns returns-2)
+    tie.close (tie.spec (λ c κs. search needs) returns returns-2)

@@ -12,4 +12,5 @@ returns c = c .cross .ensures ∙ ap₂ cross (c .before .before .minus .ensures
 pub normal-spec : {M : Type 1} → statement M
 normal-spec =
     tie.close
-    (tie.spec (search needs) (search needs) (search needs) (search needs) (search needs) (search needs) returns)
+    (tie.spec (λ c. search needs) (λ c. search needs) (λ c. search needs) (λ c κs. search needs) (λ c κs. search needs)
+    (λ c κs. search needs) returns)

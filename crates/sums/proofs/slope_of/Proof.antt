@@ -26,4 +26,4 @@ returns-4 c =
 
 pub slope-of-spec : {M : Type 1} → statement M
 slope-of-spec =
-    tie.close (tie.spec returns returns-2 (search needs) returns-3 returns-4)
+    tie.close (tie.spec returns returns-2 (λ c κs. search needs) returns-3 returns-4)

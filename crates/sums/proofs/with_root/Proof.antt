@@ -9,4 +9,4 @@ returns c = prepares-crossed _ _ _ (c .before .bits64 .ensures) (c .length-of .e
 
 pub with-root-spec : {M : Type 1} → statement M
 with-root-spec =
-    tie.close (tie.spec (search needs) (search needs) returns)
+    tie.close (tie.spec (λ c κs. search needs) (λ c κs. search needs) returns)

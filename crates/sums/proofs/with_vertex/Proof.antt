@@ -40,6 +40,6 @@ returns c =
 pub with-vertex-spec : {M : Type 1} → statement M
 with-vertex-spec =
     tie.close
-    (tie.spec (search needs) (search needs) (search needs) (search needs) (search needs) (search needs) (search needs)
-    (search needs) (search needs) lower-requires lower-requires-2 lower-requires-3 higher-requires higher-requires-2
-    higher-requires-3 returns)
+    (tie.spec (λ c. search needs) (λ c. search needs) (λ c. search needs) (λ c. search needs) (λ c. search needs)
+    (λ c. search needs) (λ c. search needs) (λ c. search needs) (λ c. search needs) lower-requires lower-requires-2
+    lower-requires-3 higher-requires higher-requires-2 higher-requires-3 returns)

@@ -21,6 +21,7 @@ returns c = claimed (c .args .m) (c .args .r) (c .args .n) (c .args .k) (c .args
 pub claim-spec : {M : Type 1} → statement M
 claim-spec =
     tie.close
-    (tie.spec (search needs) (search needs) (search needs) (search needs) (search needs) (search needs) (search needs)
-    (search needs) slice-write-index-2 (search needs) (search needs) slice-write-index-3 (search needs) (search needs)
-    slice-write-index-4 (search needs) returns)
+    (tie.spec (λ c. search needs) (λ c. search needs) (λ c. search needs) (λ c. search needs) (λ c. search needs)
+    (λ c. search needs) (λ c. search needs) (λ c. search needs) slice-write-index-2 (λ c. search needs)
+    (λ c. search needs) slice-write-index-3 (λ c. search needs) (λ c. search needs) slice-write-index-4
+    (λ c. search needs) returns)

@@ -22,6 +22,6 @@ returns-4 c = rw (c .before .before .pattern-code .ensures (c .before .before .b
 pub code-of-normal-spec : {M : Type 1} → statement M
 code-of-normal-spec =
     tie.close
-    (tie.spec (search needs) (search needs) (search needs) (search needs) (search needs) returns (search needs)
-    (search needs) returns-2 (search needs) (search needs) returns-3 (search needs) (search needs) (search needs)
-    returns-4)
+    (tie.spec (λ c κs. search needs) (λ c κs. search needs) (λ c κs. search needs) (λ c κs. search needs)
+    (λ c κs. search needs) returns (λ c κs. search needs) (λ c κs. search needs) returns-2 (λ c κs. search needs)
+    (λ c κs. search needs) returns-3 (λ c κs. search needs) (λ c κs. search needs) (λ c κs. search needs) returns-4)

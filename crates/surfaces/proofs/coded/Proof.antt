@@ -26,4 +26,4 @@ returns c = rw (c .coded .ensures, kept (c .before), kept64 (c .before))
 
 pub coded-spec : {M : Type 1} → statement M
 coded-spec =
-    tie.close (tie.spec cast-coded (search needs) cast-result returns)
+    tie.close (tie.spec cast-coded (λ c κs. search needs) cast-result returns)

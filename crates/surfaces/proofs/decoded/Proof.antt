@@ -29,4 +29,4 @@ returns-2 c =
 
 pub decoded-spec : {M : Type 1} → statement M
 decoded-spec =
-    tie.close (tie.spec (search needs) sub-result returns returns-2)
+    tie.close (tie.spec (λ c. search needs) sub-result returns returns-2)

@@ -81,5 +81,5 @@ returns-2 c = let l = c .before .before .before .before .loop in record { within
 pub find-spec : {M : Type 1} → statement M
 find-spec =
     tie.close
-    (tie.spec Inv-loop μ-loop (search needs) loop-holds (search needs) (search needs) cast-s sub-same same-requires
-    (search needs) loop-less loop-again returns returns-2)
+    (tie.spec Inv-loop μ-loop (λ c. search needs) loop-holds (λ c. search needs) (λ c. search needs) cast-s sub-same
+    same-requires (λ c κs. search needs) loop-less loop-again returns returns-2)

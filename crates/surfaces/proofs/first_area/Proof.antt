@@ -9,4 +9,4 @@ returns c = refl
 
 pub first-area-spec : {M : Type 1} → statement M
 first-area-spec =
-    tie.close (tie.spec (search needs) (search needs) (search needs) returns)
+    tie.close (tie.spec (λ c. search needs) (λ c. search needs) (λ c. search needs) returns)

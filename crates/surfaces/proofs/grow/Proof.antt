@@ -9,4 +9,6 @@ returns c = refl
 
 pub grow-spec : {M : Type 1} → statement M
 grow-spec =
-    tie.close (tie.spec (search needs) (search needs) (search needs) (search needs) (search needs) returns)
+    tie.close
+    (tie.spec (λ c. search needs) (λ c. search needs) (λ c. search needs) (λ c. search needs) (λ c. search needs)
+    returns)

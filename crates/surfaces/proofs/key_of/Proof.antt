@@ -16,4 +16,4 @@ returns c =
 
 pub key-of-spec : {M : Type 1} → statement M
 key-of-spec =
-    tie.close (tie.spec (search needs) (search needs) (search needs) returns)
+    tie.close (tie.spec (λ c κs. search needs) (λ c κs. search needs) (λ c κs. search needs) returns)

@@ -27,6 +27,6 @@ returns c =
 pub new-row-spec : {M : Type 1} → statement M
 new-row-spec =
     tie.close
-    (tie.spec (search needs) (search needs) (search needs) (search needs) (search needs) (search needs) (search needs)
-    (search needs) (search needs) slice-write-rows-2 (search needs) (search needs) (search needs) slice-write-rows-3
-    (search needs) returns)
+    (tie.spec (λ c. search needs) (λ c κs. search needs) (λ c κs. search needs) (λ c. search needs) (λ c. search needs)
+    (λ c. search needs) (λ c κs. search needs) (λ c. search needs) (λ c. search needs) slice-write-rows-2
+    (λ c κs. search needs) (λ c. search needs) (λ c. search needs) slice-write-rows-3 (λ c. search needs) returns)

@@ -29,4 +29,4 @@ returns c = λ x is. c .coded-size .ensures ∙ small (c .before) (x ⊗ ten) is
 
 pub pattern-code-spec : {M : Type 1} → statement M
 pattern-code-spec =
-    tie.close (tie.spec (search needs) coded-size-requires cast-result returns)
+    tie.close (tie.spec (λ c κs. search needs) coded-size-requires cast-result returns)

@@ -66,6 +66,7 @@ returns-2 c =
 pub put-normal-spec : {M : Type 1} → statement M
 put-normal-spec =
     tie.close
-    (tie.spec (search needs) (search needs) (search needs) (search needs) find-requires (search needs) (search needs)
-    cast-s (search needs) (search needs) (search needs) (search needs) (search needs) mul-grow grow-requires
-    (search needs) (search needs) returns (search needs) (search needs) returns-2)
+    (tie.spec (λ c κs. search needs) (λ c κs. search needs) (λ c. search needs) (λ c κs. search needs) find-requires
+    (λ c. search needs) (λ c. search needs) cast-s (λ c κs. search needs) (λ c κs. search needs) (λ c κs. search needs)
+    (λ c. search needs) (λ c. search needs) mul-grow grow-requires (λ c. search needs) (λ c. search needs) returns
+    (λ c. search needs) (λ c. search needs) returns-2)

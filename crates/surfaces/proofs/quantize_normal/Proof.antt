@@ -13,4 +13,4 @@ returns c =
 
 pub quantize-normal-spec : {M : Type 1} → statement M
 quantize-normal-spec =
-    tie.close (tie.spec (search needs) (search needs) (search needs) returns)
+    tie.close (tie.spec (λ c κs. search needs) (λ c κs. search needs) (λ c κs. search needs) returns)

@@ -17,4 +17,4 @@ returns c =
 
 pub tenfold-spec : {M : Type 1} → statement M
 tenfold-spec =
-    tie.close (tie.spec (search needs) (search needs) returns)
+    tie.close (tie.spec (λ c κs. search needs) (λ c. search needs) returns)

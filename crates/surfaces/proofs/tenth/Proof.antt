@@ -10,4 +10,4 @@ returns c = rw (c .nearest-i32-to-f32 .ensures, toZ-ofZ w32 (c .before .args .k)
 
 pub tenth-spec : {M : Type 1} → statement M
 tenth-spec =
-    tie.close (tie.spec (search needs) returns)
+    tie.close (tie.spec (λ c κs. search needs) returns)

@@ -22,4 +22,4 @@ returns c = rounds (c .before .before .args .c) (c .before .round32 .result) (c 
 
 pub tenths-spec : {M : Type 1} → statement M
 tenths-spec =
-    tie.close (tie.spec (search needs) (search needs) returns)
+    tie.close (tie.spec (λ c κs. search needs) (λ c κs. search needs) returns)

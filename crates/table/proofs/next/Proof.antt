@@ -15,4 +15,4 @@ returns-2 c = rw (ne-eqb _ _ (c .if1 .left))
 
 pub next-spec : {M : Type 1} → statement M
 next-spec =
-    tie.close (tie.spec (search needs) returns returns-2)
+    tie.close (tie.spec (λ c. search needs) returns returns-2)

@@ -53,5 +53,5 @@ returns-3 c =
 pub read-input-spec : {M : Type 1} → statement M
 read-input-spec =
     tie.close
-    (tie.spec Inv-loop μ-loop (search needs) (search needs) (search needs) returns (search needs) returns-2
-    (search needs) loop-less loop-again (search needs) (search needs) returns-3)
+    (tie.spec Inv-loop μ-loop (λ c. search needs) (λ c κs. search needs) (λ c. search needs) returns (λ c. search needs)
+    returns-2 (λ c. search needs) loop-less loop-again (λ c κs. search needs) (λ c. search needs) returns-3)

@@ -33,4 +33,4 @@ returns c =
 
 pub tally-edges-spec : {M : Type 1} → statement M
 tally-edges-spec =
-    tie.close (tie.spec (search needs) returns)
+    tie.close (tie.spec (λ c κs. search needs) returns)

@@ -14,4 +14,4 @@ returns c =
 
 pub tally-faces-spec : {M : Type 1} → statement M
 tally-faces-spec =
-    tie.close (tie.spec (search needs) returns)
+    tie.close (tie.spec (λ c κs. search needs) returns)

@@ -21,4 +21,4 @@ returns c =
 
 pub classify-mesh-quality-spec : {M : Type 1} → statement M
 classify-mesh-quality-spec =
-    tie.close (tie.spec (search needs) (search needs) (search needs) returns)
+    tie.close (tie.spec (λ c κs. search needs) (λ c κs. search needs) (λ c. search needs) returns)

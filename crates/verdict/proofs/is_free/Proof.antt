@@ -17,4 +17,4 @@ returns-2 c = rw (c .enum-told2 .given .1)
 
 pub is-free-spec : {M : Type 1} → statement M
 is-free-spec =
-    tie.close (tie.spec enum-told (search needs) returns returns-2)
+    tie.close (tie.spec enum-told (λ c. search needs) returns returns-2)

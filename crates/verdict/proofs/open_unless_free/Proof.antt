@@ -17,4 +17,4 @@ returns-2 c = rw (c .enum-told .given .1)
 
 pub open-unless-free-spec : {M : Type 1} → statement M
 open-unless-free-spec =
-    tie.close (tie.spec (search needs) enum-told returns returns-2)
+    tie.close (tie.spec (λ c. search needs) enum-told returns returns-2)

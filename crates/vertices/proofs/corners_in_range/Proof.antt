@@ -10,4 +10,4 @@ returns c = rw (c .before .before .in-range .ensures, c .before .in-range2 .ensu
 
 pub corners-in-range-spec : {M : Type 1} → statement M
 corners-in-range-spec =
-    tie.close (tie.spec (search needs) (search needs) (search needs) returns)
+    tie.close (tie.spec (λ c κs. search needs) (λ c κs. search needs) (λ c κs. search needs) returns)

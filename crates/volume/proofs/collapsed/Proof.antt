@@ -10,4 +10,4 @@ returns c = rw (← c .cube-above .ensures)
 
 pub collapsed-spec : {M : Type 1} → statement M
 collapsed-spec =
-    tie.close (tie.spec (search needs) returns)
+    tie.close (tie.spec (λ c κs. search needs) returns)

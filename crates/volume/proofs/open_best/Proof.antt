@@ -14,4 +14,4 @@ returns-2 c = rw (← c .before .before .upper .ensures, ← c .before .trusted 
 
 pub open-best-spec : {M : Type 1} → statement M
 open-best-spec =
-    tie.close (tie.spec (search needs) (search needs) returns returns-2)
+    tie.close (tie.spec (λ c κs. search needs) (λ c κs. search needs) returns returns-2)

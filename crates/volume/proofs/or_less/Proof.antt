@@ -14,4 +14,4 @@ returns-2 c = rw (c .if1 .left)
 
 pub or-less-spec : {M : Type 1} → statement M
 or-less-spec =
-    tie.close (tie.spec (search needs) returns returns-2)
+    tie.close (tie.spec (λ c κs. search needs) returns returns-2)

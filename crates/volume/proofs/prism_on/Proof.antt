@@ -18,4 +18,5 @@ returns-2 c = (rw (c .before .before .before .before .if1 .left), c .before .bef
 
 pub prism-on-spec : {M : Type 1} → statement M
 prism-on-spec =
-    tie.close (tie.spec (search needs) (search needs) returns (search needs) (search needs) returns-2)
+    tie.close
+    (tie.spec (λ c κs. search needs) (λ c. search needs) returns (λ c κs. search needs) (λ c. search needs) returns-2)

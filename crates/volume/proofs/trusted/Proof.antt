@@ -10,4 +10,4 @@ returns c = rw (← c .collapsed .ensures)
 
 pub trusted-spec : {M : Type 1} → statement M
 trusted-spec =
-    tie.close (tie.spec (search needs) returns)
+    tie.close (tie.spec (λ c κs. search needs) returns)

@@ -22,4 +22,4 @@ returns-4 c = rw (c .before .if1 .left, c .if3 .left)
 
 pub upper-spec : {M : Type 1} → statement M
 upper-spec =
-    tie.close (tie.spec (search needs) returns returns-2 returns-3 returns-4)
+    tie.close (tie.spec (λ c κs. search needs) returns returns-2 returns-3 returns-4)

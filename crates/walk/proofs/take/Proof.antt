@@ -19,4 +19,6 @@ returns-3 c = subst (λ (p : Part). Takes (c .before .before .before .before .be
 
 pub take-spec : {M : Type 1} → statement M
 take-spec =
-    tie.close (tie.spec returns returns-2 (search needs) (search needs) (search needs) (search needs) returns-3)
+    tie.close
+    (tie.spec returns returns-2 (λ c κs. search needs) (λ c κs. search needs) (λ c. search needs) (λ c. search needs)
+    returns-3)

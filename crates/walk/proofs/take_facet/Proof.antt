@@ -9,4 +9,4 @@ returns c = takes-used _ _ _ _ _ _ _ _ _ _ (c .before .before .before .before .b
 
 pub take-facet-spec : {M : Type 1} → statement M
 take-facet-spec =
-    tie.close (tie.spec (search needs) (search needs) (search needs) (search needs) returns)
+    tie.close (tie.spec (λ c κs. search needs) (λ c κs. search needs) (λ c. search needs) (λ c. search needs) returns)

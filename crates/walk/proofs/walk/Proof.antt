@@ -16,4 +16,4 @@ returns c = walks _ _ _ _ _ _ _ _ (c .before .before .before .before .take-all .
 
 pub walk-spec : {M : Type 1} → statement M
 walk-spec =
-    tie.close (tie.spec (search needs) take-all-requires (search needs) (search needs) returns)
+    tie.close (tie.spec (λ c κs. search needs) take-all-requires (λ c. search needs) (λ c. search needs) returns)

@@ -10,4 +10,4 @@ returns c = rw (c .greatest32 .ensures)
 
 pub epsilon-spec : {M : Type 1} → statement M
 epsilon-spec =
-    tie.close (tie.spec (search needs) returns)
+    tie.close (tie.spec (λ c κs. search needs) returns)

@@ -17,4 +17,4 @@ returns-2 c = rw (le-ltb (c .before .args .id) (c .before .args .n) (omega arith
 
 pub id-by-spec : {M : Type 1} → statement M
 id-by-spec =
-    tie.close (tie.spec (search needs) (search needs) returns returns-2)
+    tie.close (tie.spec (λ c. search needs) (λ c. search needs) returns returns-2)

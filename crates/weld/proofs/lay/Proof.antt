@@ -10,4 +10,4 @@ returns c = lay-last (c .before .before .before .before .before .before .args .m
 
 pub lay-spec : {M : Type 1} → statement M
 lay-spec =
-    tie.close (tie.spec (search needs) (search needs) returns)
+    tie.close (tie.spec (λ c κs. search needs) (λ c. search needs) returns)

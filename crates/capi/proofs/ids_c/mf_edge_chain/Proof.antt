@@ -10,4 +10,4 @@ returns c = rw (c .edge-chain-number .ensures) (gives-turned edgeChainNumber _ _
 
 pub mf-edge-chain-spec : {M : Type 1} → statement M
 mf-edge-chain-spec =
-    tie.close (tie.spec (search needs) (search needs) (search needs) returns)
+    tie.close (tie.spec (λ c κs. search needs) (λ c κs. search needs) (λ c. search needs) returns)

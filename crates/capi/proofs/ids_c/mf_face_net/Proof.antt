@@ -14,4 +14,4 @@ returns c = rw (c .face-net-number .ensures) (gives-turned faceNetNumber _ _ _ _
 
 pub mf-face-net-spec : {M : Type 1} → statement M
 mf-face-net-spec =
-    tie.close (tie.spec (search needs) face-net-number-requires (search needs) returns)
+    tie.close (tie.spec (λ c κs. search needs) face-net-number-requires (λ c. search needs) returns)

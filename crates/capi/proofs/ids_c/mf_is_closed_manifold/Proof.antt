@@ -10,4 +10,4 @@ returns c = rw (c .verdict-number .ensures) (gives-turned verdictNumber _ _ _ _ 
 
 pub mf-is-closed-manifold-spec : {M : Type 1} → statement M
 mf-is-closed-manifold-spec =
-    tie.close (tie.spec (search needs) (search needs) (search needs) returns)
+    tie.close (tie.spec (λ c κs. search needs) (λ c κs. search needs) (λ c. search needs) returns)

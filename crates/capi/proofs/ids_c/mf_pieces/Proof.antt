@@ -10,4 +10,4 @@ returns c = rw (c .piece-count-number .ensures) (gives-turned pieceCountNumber _
 
 pub mf-pieces-spec : {M : Type 1} → statement M
 mf-pieces-spec =
-    tie.close (tie.spec (search needs) (search needs) (search needs) returns)
+    tie.close (tie.spec (λ c κs. search needs) (λ c κs. search needs) (λ c. search needs) returns)

@@ -10,4 +10,4 @@ returns c = rw (c .verdict-number .ensures) (gives-turned verdictNumber _ _ _ _ 
 
 pub mf-winding-coherent-spec : {M : Type 1} → statement M
 mf-winding-coherent-spec =
-    tie.close (tie.spec (search needs) (search needs) (search needs) returns)
+    tie.close (tie.spec (λ c κs. search needs) (λ c κs. search needs) (λ c. search needs) returns)

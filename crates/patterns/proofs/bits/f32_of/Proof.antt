@@ -14,4 +14,4 @@ returns c = unfold div ofBits in sym (above-inf binary32 (c .before .args .b) (c
 
 pub f32-of-spec : {M : Type 1} → statement M
 f32-of-spec =
-    tie.close (tie.spec float-from-bits-result returns (search needs))
+    tie.close (tie.spec float-from-bits-result returns (λ c. search needs))

@@ -15,4 +15,4 @@ returns c = unfold div ofBits in sym (above-inf binary64 (c .before .args .b) (o
 
 pub f64-of-spec : {M : Type 1} → statement M
 f64-of-spec =
-    tie.close (tie.spec float-from-bits-result returns (search needs))
+    tie.close (tie.spec float-from-bits-result returns (λ c. search needs))

@@ -10,4 +10,4 @@ returns c = let start = c .before .before .before in cc (read-back binary32 (sta
 
 pub magnitude32-spec : {M : Type 1} → statement M
 magnitude32-spec =
-    tie.close (tie.spec (search needs) (search needs) (search needs) returns)
+    tie.close (tie.spec (λ c κs. search needs) (λ c κs. search needs) (λ c κs. search needs) returns)

@@ -10,4 +10,4 @@ returns c = (omega (arith, shortened-normal (c .args .m) (c .pre .0) (c .pre .1)
 
 pub narrow-normal-spec : {M : Type 1} → statement M
 narrow-normal-spec =
-    tie.close (tie.spec (search needs) (search needs) (search needs) returns)
+    tie.close (tie.spec (λ c. search needs) (λ c. search needs) (λ c. search needs) returns)

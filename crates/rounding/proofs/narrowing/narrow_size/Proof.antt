@@ -24,4 +24,5 @@ returns-4 c =
 pub narrow-size-spec : {M : Type 1} → statement M
 narrow-size-spec =
     tie.close
-    (tie.spec (search needs) (search needs) (search needs) (search needs) returns returns-2 (search needs) returns-4)
+    (tie.spec (λ c. search needs) (λ c. search needs) (λ c κs. search needs) (λ c κs. search needs) returns returns-2
+    (λ c. search needs) returns-4)

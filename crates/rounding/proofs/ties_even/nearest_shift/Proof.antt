@@ -27,4 +27,5 @@ returns c = let k = c .args .k in divided _ _ _ _ (nearest-shift (c .args .n) k 
 pub nearest-shift-spec : {M : Type 1} → statement M
 nearest-shift-spec =
     tie.close
-    (tie.spec (search needs) (search needs) sub-result-2 add-result (search needs) add-result-2 (search needs) returns)
+    (tie.spec (λ c. search needs) (λ c. search needs) sub-result-2 add-result (λ c. search needs) add-result-2
+    (λ c. search needs) returns)

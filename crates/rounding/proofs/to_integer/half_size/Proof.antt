@@ -22,4 +22,4 @@ returns c =
 
 pub half-size-spec : {M : Type 1} → statement M
 half-size-spec =
-    tie.close (tie.spec (search needs) (search needs) nearest-shift-requires returns)
+    tie.close (tie.spec (λ c. search needs) (λ c. search needs) nearest-shift-requires returns)

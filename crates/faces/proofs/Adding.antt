@@ -7,7 +7,7 @@ use native.Mathlib.Omega.{arith}
 use lib.ListN.{length}
 use Rattle.ids.specs.Triangles.{triangle, triangleCount}
 use Rattle.ids.specs.Uses.{Use}
-use Rattle.ids.specs.FaceNet.{Face, sorted, faceUse}
+use Rattle.ids.specs.FaceNet.{Face, sortedIds, faceUse}
 use Rattle.table.specs.Rows.{homeRow, Found}
 use Rattle.faces.specs.Rows.{faceAt, wordAt, usesAt, put, hashOf, FaceTable, Room}
 use Rattle.faces.proofs.Parity.{weight-small}
@@ -24,8 +24,8 @@ module _ (ids : List ℕ) (n : ℕ) (table : List ℕ) (t start r by : ℕ) (f :
   pub bump-fits : (r < 65536) × (2 * r + 1 < length table) × (t < 32768) × (by ≤ 65536) × (usesAt table r < 32768)
   bump-fits = (omega (arith, found .within), omega (arith, found .within), omega arith, omega (arith, weight-small (faceUse (triangle ids t) .up)), small)
 
-  pub adding : (hash : ℕ) (after : List ℕ) → sorted (triangle ids t) ≡ f → hash ≡ hashOf f → start ≡ homeRow n hash → after ≡ put table r t (wordAt table r + by)
+  pub adding : (hash : ℕ) (after : List ℕ) → sortedIds (triangle ids t) ≡ f → hash ≡ hashOf f → start ≡ homeRow n hash → after ≡ put table r t (wordAt table r + by)
       → (es : List (Use Face)) → FaceTable ids n table es → FaceTable ids n after (es ++ faceUse (triangle ids t) ∷ [])
   adding hash after sorting hashing homing wrote es m =
       rw (wrote, weighed)
-      (added ids n table es r t fits here (omega (arith, small)) m (found-face n start hash (sorted (triangle ids t)) f (faceAt ids table) (usesAt table) r sorting hashing homing found))
+      (added ids n table es r t fits here (omega (arith, small)) m (found-face n start hash (sortedIds (triangle ids t)) f (faceAt ids table) (usesAt table) r sorting hashing homing found))

@@ -3,7 +3,7 @@ use mathlib.Core.Path.{_≡_, refl}
 use Prim.Native.Nat.{ℕ, _<_, min, max}
 use native.Mathlib.Omega.{arith}
 use Rattle.ids.specs.Triangles.{Triangle}
-use Rattle.ids.specs.FaceNet.{Face, sorted}
+use Rattle.ids.specs.FaceNet.{Face, sortedIds}
 use Rattle.table.specs.Rows.{homeRow, Found}
 use Rattle.table.proofs.Search.{home-below}
 use Rattle.faces.specs.Rows.{hashOf, homeOf}
@@ -13,9 +13,9 @@ pub face-of : (f : Face) (low mid high : ℕ) → f .low ≡ low → f .mid ≡ 
 face-of f low mid high p q r = λ i. record { low = p i; mid = q i; high = r i }
 
 -- the three ids sorted as the code does it
-pub sorted-by : (t : Triangle) → sorted t ≡ record { low = min (min (t .a) (t .b)) (t .c); mid = max (min (t .a) (t .b)) (min (max (t .a) (t .b)) (t .c)); high = max (max (t .a) (t .b)) (t .c) }
-unfolding sorted
-sorted-by t = face-of (sorted t) _ _ _ (omega arith) refl (omega arith)
+pub sorted-by : (t : Triangle) → sortedIds t ≡ record { low = min (min (t .a) (t .b)) (t .c); mid = max (min (t .a) (t .b)) (min (max (t .a) (t .b)) (t .c)); high = max (max (t .a) (t .b)) (t .c) }
+unfolding sortedIds
+sorted-by t = face-of (sortedIds t) _ _ _ (omega arith) refl (omega arith)
 
 pub home-in : (n : ℕ) (f : Face) → 0 < n → homeOf n f < n
 unfolding homeOf hashOf

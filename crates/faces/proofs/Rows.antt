@@ -10,7 +10,7 @@ use lib.ListN.{length, getD, set, replicate, length-set, getD-replicate}
 use lib.Seq.{getD-set-same, getD-set-other}
 use Rattle.ids.specs.Triangles.{triangle, triangleCount}
 use Rattle.ids.specs.Uses.{Use}
-use Rattle.ids.specs.FaceNet.{Face, sameFace, sorted, faceUse}
+use Rattle.ids.specs.FaceNet.{Face, sameFace, sortedIds, faceUse}
 use Rattle.table.specs.Rows.{Found, Free}
 use Rattle.table.specs.Counts.{usesIn, upsIn}
 use Rattle.table.proofs.Counts.{weigh, few-roomy, more-uses, more-ups, none-used, none-up}
@@ -36,7 +36,7 @@ module _ (t : List ℕ) (r named word : ℕ) where
 module _ (ids : List ℕ) (n : ℕ) (t : List ℕ) where
   -- row r, which a search found, counts one more use and names its triangle
   module _ (es : List (Use Face)) (r named : ℕ) (fits : 2 * n ≤ length t) (here : named < triangleCount ids) (few : usesAt t r < 65535)
-      (m : FaceTable ids n t es) (found : Found n (homeOf n (sorted (triangle ids named))) (faceAt ids t) (usesAt t) (sorted (triangle ids named)) r) where
+      (m : FaceTable ids n t es) (found : Found n (homeOf n (sortedIds (triangle ids named))) (faceAt ids t) (usesAt t) (sortedIds (triangle ids named)) r) where
     abbrev up : Bool
     up = faceUse (triangle ids named) .up
 
@@ -49,14 +49,14 @@ module _ (ids : List ℕ) (n : ℕ) (t : List ℕ) where
     room : 2 * r + 1 < length t
     room = omega (arith, found .within)
 
-    bumped : Bumped r (sorted (triangle ids named)) up (faceAt ids t) (faceAt ids after) (usesAt t) (usesAt after) (upsAt t) (upsAt after)
+    bumped : Bumped r (sortedIds (triangle ids named)) up (faceAt ids t) (faceAt ids after) (usesAt t) (usesAt after) (upsAt t) (upsAt after)
     bumped =
         let wrote : wordAt after r ≡ word = put-word t r named word room in
         record {
-          key-at = ap (λ (v : ℕ). sorted (triangle ids v)) (put-named t r named word room);
+          key-at = ap (λ (v : ℕ). sortedIds (triangle ids v)) (put-named t r named word room);
           cnt-at = ap usesIn wrote ∙ more-uses (wordAt t r) (few-roomy (wordAt t r) few) up;
           up-at = ap upsIn wrote ∙ more-ups (wordAt t r) (few-roomy (wordAt t r) few) up;
-          key-off = λ i ne. ap (λ (v : ℕ). sorted (triangle ids v)) (put-off t r named word (2 * i) (omega arith) (omega arith));
+          key-off = λ i ne. ap (λ (v : ℕ). sortedIds (triangle ids v)) (put-off t r named word (2 * i) (omega arith) (omega arith));
           cnt-off = λ i ne. ap usesIn (put-off t r named word (2 * i + 1) (omega arith) (omega arith));
           up-off = λ i ne. ap upsIn (put-off t r named word (2 * i + 1) (omega arith) (omega arith));
         }
@@ -69,7 +69,7 @@ module _ (ids : List ℕ) (n : ℕ) (t : List ℕ) where
     unfolding faceUse
     added = record {
       named = λ i. still-named i (ℕ-discrete i r);
-      means = step sameFace face-eq face-refl n (homeOf n) (faceAt ids t) (usesAt t) (upsAt t) es (faceUse (triangle ids named)) r (home-in n (sorted (triangle ids named)) (omega (arith, found .within)))
+      means = step sameFace face-eq face-refl n (homeOf n) (faceAt ids t) (usesAt t) (upsAt t) es (faceUse (triangle ids named)) r (home-in n (sortedIds (triangle ids named)) (omega (arith, found .within)))
           (m .means) found (faceAt ids after) (usesAt after) (upsAt after) bumped;
     }
 

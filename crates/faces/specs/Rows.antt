@@ -6,7 +6,7 @@ use lib.ListN.{length, getD, set, take, drop}
 use Rattle.ids.specs.Triangles.{triangle, triangleCount}
 use Rattle.ids.specs.Uses.{Use, bit}
 use Rattle.ids.specs.EdgeChain.{unbalanced}
-use Rattle.ids.specs.FaceNet.{Face, sameFace, sorted}
+use Rattle.ids.specs.FaceNet.{Face, sameFace, sortedIds}
 use Rattle.table.specs.Rows.{homeRow}
 use Rattle.table.specs.Counts.{upsIn, usesIn, magnitude}
 use Rattle.table.specs.Table.{gate, Means}
@@ -16,7 +16,7 @@ abbrev pub namedAt : List ℕ → ℕ → ℕ
 namedAt t i = getD t (2 * i) 0
 
 abbrev pub faceAt : List ℕ → List ℕ → ℕ → Face
-faceAt ids t i = sorted (triangle ids (namedAt t i))
+faceAt ids t i = sortedIds (triangle ids (namedAt t i))
 
 abbrev pub wordAt : List ℕ → ℕ → ℕ
 wordAt t i = getD t (2 * i + 1) 0

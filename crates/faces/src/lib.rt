@@ -6,7 +6,7 @@ ghost use Prim.Native.Nat.{ℕ, _+_, _*_, _≤_, _<_};
 ghost use lib.ListN.{length, take, drop};
 ghost use Rattle.ids.specs.Triangles.{triangle, triangleCount};
 ghost use Rattle.ids.specs.Uses.{Use};
-ghost use Rattle.ids.specs.FaceNet.{Face, sameFace, sorted, faceUse, face, faces};
+ghost use Rattle.ids.specs.FaceNet.{Face, sameFace, sortedIds, faceUse, face, faces};
 ghost use Rattle.table.specs.Rows.{sumTo, Found, Free};
 ghost use Rattle.table.specs.Counts.{usesIn, upsIn, magnitude};
 ghost use Rattle.table.specs.Table.{maxTo};
@@ -22,7 +22,7 @@ pub struct Sorted {
 // The ids of triangle t, sorted.
 fn sort(ids: &[u32], t: usize) -> Sorted
     requires { ⌜ (length (now ids) ≤ 98304) × (t < triangleCount (now ids)) ⌝ }
-    ensures { λ r. ⌜ sorted (triangle (now (ids .entry)) t) ≡ record { low = r .low; mid = r .mid; high = r .high } ⌝ }
+    ensures { λ r. ⌜ sortedIds (triangle (now (ids .entry)) t) ≡ record { low = r .low; mid = r .mid; high = r .high } ⌝ }
 {
     let at = 3 * t;
     let a = ids[at];
@@ -61,7 +61,7 @@ fn hash(low: u32, mid: u32, high: u32) -> u32
 // Is the face of triangle t the one with these ids?
 fn same(ids: &[u32], t: usize, low: u32, mid: u32, high: u32) -> bool
     requires { ⌜ (length (now ids) ≤ 98304) × (t < triangleCount (now ids)) ⌝ }
-    ensures { λ r. ⌜ r ≡ sameFace (sorted (triangle (now (ids .entry)) t)) (record { low = low; mid = mid; high = high }) ⌝ }
+    ensures { λ r. ⌜ r ≡ sameFace (sortedIds (triangle (now (ids .entry)) t)) (record { low = low; mid = mid; high = high }) ⌝ }
 {
     let s = sort(ids, t);
     (s.low == low) & ((s.mid == mid) & (s.high == high))

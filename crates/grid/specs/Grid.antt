@@ -1,5 +1,5 @@
 -- A grid of cells over a box, and the cells of a triangle's own box (01, Raster; 000, `footprint_raw`). f32, each step rounded once.
-use Prim.Native.Nat.{ℕ, _-_, _≤_, _<_, min, max}
+use Prim.Native.Nat.{ℕ, _-_, min, max}
 use lib.IntN.{ℤ, pos, negsuc}
 use lib.Ieee.{Float, binary32, ofBits, toSigned, toUnsigned}
 use Rattle.ieee.specs.Order.{least, greatest}
@@ -50,10 +50,3 @@ gridOf x y w h size =
       nx = cellsIn w size;
       ny = cellsIn h size;
     }
-
--- 1 to 256 cells a side
-pub record Sized (g : Grid) : Type 0 where
-  pub wide : 0 < g .nx
-  pub wide-most : g .nx ≤ 256
-  pub high : 0 < g .ny
-  pub high-most : g .ny ≤ 256

@@ -1,3 +1,4 @@
 -- The point test, and the arithmetic of a grid of cells over a box (01, Raster).
 pub mod Point
 pub mod Grid
+pub mod inner

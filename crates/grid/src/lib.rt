@@ -2,7 +2,8 @@
 ghost use mathlib.Core.Path.{_≡_};
 ghost use Prim.Native.Nat.{_≤_, _<_};
 ghost use Rattle.grid.specs.Point.{pointIn, counts as isCounted};
-ghost use Rattle.grid.specs.Grid.{cellsIn, cellAlong, firstCell, lastCell, centreOf, gridOf, Sized};
+ghost use Rattle.grid.specs.Grid.{cellsIn, cellAlong, firstCell, lastCell, centreOf, gridOf};
+ghost use Rattle.grid.specs.inner.Sized.{GridSized};
 
 // A triangle in the plane.
 pub struct Flat {
@@ -115,7 +116,7 @@ pub fn centre(x: f32, w: f32, i: usize) -> f32
 
 // The grid from (x, y) on over the lengths w and h.
 pub fn grid_over(x: f32, y: f32, w: f32, h: f32, size: f32) -> Grid
-    ensures { λ r. ⌜ (r ≡ gridOf x y w h size) × Sized r ⌝ }
+    ensures { λ r. ⌜ (r ≡ gridOf x y w h size) × GridSized r ⌝ }
 {
     let nx = cells(w, size);
     let ny = cells(h, size);

@@ -8,7 +8,7 @@ use native.Mathlib.Decide.{decLt}
 use borrow.Author.Tests.{lt-ltb, le-ltb, eq-eqb, eqb-true}
 use lib.Dec.{ltb, eqb}
 use lib.IntN.{ℤ, pos, negsuc, natAbs}
-use Rattle.ids.specs.Uses.{Use, bit, uses, signedSum, keys, keysThat, largest}
+use Rattle.ids.specs.Uses.{Use, bit, uses, signedSum, keys, keysThat, largestSum}
 use Rattle.ids.specs.EdgeChain.{Edge, sameEdge, chain, present, unbalanced, crowded, unpaired, properEdges, boundaryFree, overIncident, closedManifold}
 use Rattle.ids.specs.FaceNet.{sameFace, faces, maxAbs, allCancel}
 use Rattle.ids.specs.Meaning.{Tells, BoundaryFree, OverIncident, ClosedManifold, AllCancel, LargestFaceSum}
@@ -138,7 +138,7 @@ module _ (ids : List ℕ) where
   all-cancel-tells = record { sound = balanced sameFace face-eq face-refl (faces ids); complete = unbalanced-none sameFace face-eq face-refl (faces ids) }
 
   pub max-abs-is-largest : LargestFaceSum ids (maxAbs ids)
-  unfolding maxAbs largest
+  unfolding maxAbs largestSum
   max-abs-is-largest = record {
     above = λ f. elim (decLt 0 (uses sameFace f (faces ids))) [
       | yes l ↦ max-each sameFace face-eq face-refl (λ g. natAbs (signedSum sameFace g (faces ids))) (faces ids) f l

@@ -6,7 +6,7 @@ use native.Mathlib.Omega.{arith}
 use lib.IntN.{ℤ, pos, negsuc, sucℤ, predℤ, natAbs}
 use lib.ListN.{length, length-append}
 use Rattle.ids.specs.Triangles.{Triangle, distinct, overTriangles}
-use Rattle.ids.specs.Uses.{Use, counting, signedSum, keys, maxBy, largest}
+use Rattle.ids.specs.Uses.{Use, counting, signedSum, keys, maxBy, largestSum}
 use Rattle.ids.specs.FaceNet.{sameFace, faceUse, face, faces, maxAbs}
 
 suc-size : (z : ℤ) → natAbs (sucℤ z) ≤ natAbs z + 1
@@ -36,8 +36,8 @@ module _ {K : Type 0} (same : K → K → Bool) where
   signed-below k [] = omega arith
   signed-below k (e ∷ es) = omega (arith, counting-size (same k (e .key)) (e .up) (signedSum same k es), signed-below k es)
 
-  largest-below : (es : List (Use K)) → largest same es ≤ length es
-  unfolding largest
+  largest-below : (es : List (Use K)) → largestSum same es ≤ length es
+  unfolding largestSum
   largest-below es = maxBy-below (λ k. natAbs (signedSum same k es)) (length es) (λ k. signed-below k es) (keys same es)
 
 face-one : (t : Triangle) → length (face t) ≤ 1

@@ -4,7 +4,7 @@ use mathlib.Core.Bool.{Bool, cond, _&&_}
 use mathlib.Core.List.{List, [], _∷_}
 use lib.Dec.{ltb, eqb}
 use Rattle.ids.specs.Triangles.{Triangle, distinct, overTriangles}
-use Rattle.ids.specs.Uses.{Use, bit, keysThat, largest}
+use Rattle.ids.specs.Uses.{Use, bit, keysThat, largestSum}
 use Rattle.ids.specs.EdgeChain.{unbalanced}
 
 pub record Face : Type 0 where
@@ -16,8 +16,8 @@ unfoldable pub sameFace : Face → Face → Bool
 sameFace f g = eqb (f .low) (g .low) && (eqb (f .mid) (g .mid) && eqb (f .high) (g .high))
 
 -- the three ids sorted
-unfoldable pub sorted : Triangle → Face
-sorted t = record {
+unfoldable pub sortedIds : Triangle → Face
+sortedIds t = record {
   low = min (t .a) (min (t .b) (t .c));
   mid = max (min (t .a) (t .b)) (min (max (t .a) (t .b)) (t .c));
   high = max (t .a) (max (t .b) (t .c));
@@ -29,7 +29,7 @@ falls t = bit (ltb (t .b) (t .a)) + (bit (ltb (t .c) (t .b)) + bit (ltb (t .c) (
 
 -- the use that a triangle of three distinct ids makes
 unfoldable pub faceUse : Triangle → Use Face
-faceUse t = record { key = sorted t; up = eqb (falls t % 2) 0 }
+faceUse t = record { key = sortedIds t; up = eqb (falls t % 2) 0 }
 
 -- none if it repeats an id
 unfoldable pub face : Triangle → List (Use Face)
@@ -40,7 +40,7 @@ faces ids = overTriangles face ids
 
 -- the largest magnitude of a face's sum: 0 without faces
 unfoldable pub maxAbs : List ℕ → ℕ
-maxAbs ids = largest sameFace (faces ids)
+maxAbs ids = largestSum sameFace (faces ids)
 
 -- every face's sum is 0: so too without faces
 unfoldable pub allCancel : List ℕ → Bool

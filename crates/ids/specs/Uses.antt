@@ -56,5 +56,5 @@ module _ {K : Type 0} (same : K → K → Bool) where
   keysThat test es = sumBy (λ k. bit (test (uses k es) (natAbs (signedSum k es)))) (keys es)
 
   -- the largest magnitude of a key's signed sum
-  unfoldable pub largest : List (Use K) → ℕ
-  largest es = maxBy (λ k. natAbs (signedSum k es)) (keys es)
+  unfoldable pub largestSum : List (Use K) → ℕ
+  largestSum es = maxBy (λ k. natAbs (signedSum k es)) (keys es)

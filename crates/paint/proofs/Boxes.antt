@@ -14,7 +14,7 @@ use Rattle.grid.specs.declared.Grid.{Grid}
 use Rattle.grid.specs.Point.{pointIn}
 use Rattle.grid.specs.Grid.{centreOf}
 use Rattle.paint.specs.Covered.{between, hits}
-use Rattle.paint.specs.Painted.{Adds}
+use Rattle.paint.specs.inner.Painted.{Adds}
 use Rattle.paint.proofs.Painting.{adds-none, adds-same, adds-both}
 
 -- ---- sizes

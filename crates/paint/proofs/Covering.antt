@@ -12,7 +12,7 @@ use Rattle.grid.specs.declared.Grid.{Grid}
 use Rattle.grid.specs.Point.{counts}
 use Rattle.grid.specs.Grid.{firstCell, lastCell}
 use Rattle.paint.specs.Covered.{flat, between, hits, inRows, inColumns, fills, covers, some, covered}
-use Rattle.paint.specs.Painted.{Adds}
+use Rattle.paint.specs.inner.Painted.{Adds}
 use Rattle.paint.proofs.Painting.{adds-none, adds-same, adds-both}
 
 -- ---- a triangle in the plane

@@ -11,7 +11,7 @@ use lib.ListN.{length, getD, set, length-set}
 use lib.Seq.{getD-set-same, getD-set-other}
 use borrow.Author.Tests.{eq-eqb, ne-eqb}
 use Rattle.ids.specs.Uses.{bit}
-use Rattle.paint.specs.Painted.{Shows, Adds}
+use Rattle.paint.specs.inner.Painted.{Shows, Adds}
 
 -- nothing more is said
 pub adds-none : (t : List ℕ) (h : ℕ → Bool) → ((k : ℕ) → h k ≡ false) → Adds t t h

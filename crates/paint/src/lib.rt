@@ -7,9 +7,9 @@ ghost use lib.ListN.{length};
 ghost use Rattle.ids.specs.Triangles.{triangle, triangleCount};
 ghost use Rattle.vertices.specs.Vertices.{coordinate as coordinateOf};
 ghost use Rattle.grid.specs.Point.{pointIn};
-ghost use Rattle.grid.specs.Grid.{Sized};
+ghost use Rattle.grid.specs.inner.Sized.{GridSized};
 ghost use Rattle.paint.specs.Covered.{flat as flatOf, between, hits, fills, covers, covered};
-ghost use Rattle.paint.specs.Painted.{Adds};
+ghost use Rattle.paint.specs.inner.Painted.{Adds};
 use grid::Flat;
 use grid::Grid;
 
@@ -29,7 +29,7 @@ fn mark(part: &mut [u8], k: usize, px: f32, py: f32, t: Flat)
 
 // The cells of row j from column lo to column hi.
 fn paint_row(part: &mut [u8], g: Grid, t: Flat, j: usize, lo: usize, hi: usize)
-    requires { ⌜ Sized g × (j < g .ny) × (hi < g .nx) × (length (now part) ≡ g .nx * g .ny) ⌝ }
+    requires { ⌜ GridSized g × (j < g .ny) × (hi < g .nx) × (length (now part) ≡ g .nx * g .ny) ⌝ }
     ensures { λ _. ⌜ Adds (now (part .entry)) (now (part .exit))
         (λ k. eqb (k / g .nx) j && (between lo hi (k % g .nx) && hits g t (k % g .nx) (k / g .nx))) ⌝ }
 {
@@ -44,7 +44,7 @@ fn paint_row(part: &mut [u8], g: Grid, t: Flat, j: usize, lo: usize, hi: usize)
 
 // Those of the rows from first to last.
 fn paint_box(part: &mut [u8], g: Grid, t: Flat, lo: usize, hi: usize, first: usize, last: usize)
-    requires { ⌜ Sized g × (last < g .ny) × (hi < g .nx) × (length (now part) ≡ g .nx * g .ny) ⌝ }
+    requires { ⌜ GridSized g × (last < g .ny) × (hi < g .nx) × (length (now part) ≡ g .nx * g .ny) ⌝ }
     ensures { λ _. ⌜ Adds (now (part .entry)) (now (part .exit))
         (λ k. between first last (k / g .nx) && (between lo hi (k % g .nx) && hits g t (k % g .nx) (k / g .nx))) ⌝ }
 {
@@ -57,7 +57,7 @@ fn paint_box(part: &mut [u8], g: Grid, t: Flat, lo: usize, hi: usize, first: usi
 
 // The cells that a triangle in the plane covers.
 fn paint(part: &mut [u8], g: Grid, t: Flat)
-    requires { ⌜ Sized g × (length (now part) ≡ g .nx * g .ny) ⌝ }
+    requires { ⌜ GridSized g × (length (now part) ≡ g .nx * g .ny) ⌝ }
     ensures { λ _. ⌜ Adds (now (part .entry)) (now (part .exit)) (λ k. fills g t (k % g .nx) (k / g .nx)) ⌝ }
 {
     if grid::counts(t) {
@@ -102,7 +102,7 @@ fn paint_triangle(
     g: Grid,
     part: &mut [u8],
 )
-    requires { ⌜ (t < triangleCount (now ids)) × (u ≤ 2) × (v ≤ 2) × Sized g × (length (now part) ≡ g .nx * g .ny) ⌝ }
+    requires { ⌜ (t < triangleCount (now ids)) × (u ≤ 2) × (v ≤ 2) × GridSized g × (length (now part) ≡ g .nx * g .ny) ⌝ }
     ensures { λ _. ⌜ Adds (now (part .entry)) (now (part .exit))
         (λ k. covers (now (vertices .entry)) u v g (triangle (now (ids .entry)) t) (k % g .nx) (k / g .nx)) ⌝ }
 {
@@ -118,7 +118,7 @@ fn paint_triangle(
 // ---- all triangles
 
 pub fn paint_all(vertices: &[f32], ids: &[u32], u: usize, v: usize, g: Grid, part: &mut [u8])
-    requires { ⌜ (u ≤ 2) × (v ≤ 2) × Sized g × (length (now part) ≡ g .nx * g .ny) ⌝ }
+    requires { ⌜ (u ≤ 2) × (v ≤ 2) × GridSized g × (length (now part) ≡ g .nx * g .ny) ⌝ }
     ensures { λ _. ⌜ Adds (now (part .entry)) (now (part .exit)) (λ k. covered (now (vertices .entry)) u v g (now (ids .entry)) (k % g .nx) (k / g .nx)) ⌝ }
 {
     let n = ids.len() / 3;

@@ -18,9 +18,9 @@ use Rattle.ieee.proofs.Integers.Floats.{ofInt-whole, toSigned-whole}
 use Rattle.ids.specs.EdgeChain.{around, boundaryFree, chain, crowded, enough, overIncident, present, sameEdge, step, unbalanced}
 use Rattle.ids.specs.Examples.{tetrahedron}
 use Rattle.ids.specs.Triangles.{distinct, overTriangles, triangle}
-use Rattle.ids.specs.Uses.{bit, counting, keys, keysThat, largest, maxBy, signedSum, sumBy, uses}
+use Rattle.ids.specs.Uses.{bit, counting, keys, keysThat, largestSum, maxBy, signedSum, sumBy, uses}
 use Rattle.ieee.specs.Single.{extent}
-use Rattle.vertices.specs.Vertices.{cornersInRange, inRange as inRangeOf}
+use Rattle.vertices.specs.Vertices.{cornersInRange, inRange}
 use Rattle.sums.specs.Box.{box, boxTo, boxVolume, highest, lowest}
 use Rattle.sums.specs.Facet.{facetOf, normal, part, partOf, rebased, size, tetra}
 use Rattle.sums.specs.Totals.{onSlope, slopeOf, totalsTo, withFacet, withPart}
@@ -30,7 +30,7 @@ use Rattle.verdict.specs.declared.Quality.{Quality}
 use Rattle.verdict.specs.Verdict.{byChain, byFaces, nearZero, quality, tooLarge}
 use Rattle.qto.specs.Full.{distance, measures, measuresFrom, recordBy, recordFrom, recordOf, totals, verdict, volumeOf}
 use Rattle.place.specs.Moved.{isWhole, wholeOf, allWhole, Further, Moved, millimetre}
-use Rattle.place.specs.Example.{Point, shift, integers, floats, inRange, IntegersMeet, corners, here, there, RealMove}
+use Rattle.place.specs.Example.{Point, shift, integers, floats, integersFit, IntegersMeet, cornerPoints, here, there, RealMove}
 use Rattle.place.proofs.Shifted.{in-i64, whole-told}
 use Rattle.place.proofs.Vertices.{along}
 
@@ -42,15 +42,15 @@ moved-integer d z l l′ = of-integer (z +ℤ d) l′ ∙ sym (ap (λ (i : ℤ).
 
 -- ---- a list of integers in range
 
-first-within : (z : ℤ) (zs : List ℤ) → T (inRange (z ∷ zs)) → natAbs z ≤ 16777216
-unfolding inRange
-first-within z zs h = leb→le (natAbs z) 16777216 (and-l (leb (natAbs z) 16777216) (inRange zs) h)
+first-within : (z : ℤ) (zs : List ℤ) → T (integersFit (z ∷ zs)) → natAbs z ≤ 16777216
+unfolding integersFit
+first-within z zs h = leb→le (natAbs z) 16777216 (and-l (leb (natAbs z) 16777216) (integersFit zs) h)
 
-rest-within : (z : ℤ) (zs : List ℤ) → T (inRange (z ∷ zs)) → T (inRange zs)
-unfolding inRange
-rest-within z zs h = and-r (leb (natAbs z) 16777216) (inRange zs) h
+rest-within : (z : ℤ) (zs : List ℤ) → T (integersFit (z ∷ zs)) → T (integersFit zs)
+unfolding integersFit
+rest-within z zs h = and-r (leb (natAbs z) 16777216) (integersFit zs) h
 
-all-whole : (zs : List ℤ) → T (inRange zs) → T (allWhole (floats zs))
+all-whole : (zs : List ℤ) → T (integersFit zs) → T (allWhole (floats zs))
 unfolding floats allWhole
 all-whole [] h = tt
 all-whole (z ∷ zs) h =
@@ -77,7 +77,7 @@ module _ (dx dy dz : ℤ) (left left′ : List ℤ) where
   as-many e [] = e
   as-many e (p ∷ ps) = ap (λ n. suc (suc (suc n))) (as-many e ps)
 
-  further : length left ≤ 2 → (ps : List Point) → T (inRange (one ps)) → T (inRange (other ps)) → (axis : ℕ) → axis < 3
+  further : length left ≤ 2 → (ps : List Point) → T (integersFit (one ps)) → T (integersFit (other ps)) → (axis : ℕ) → axis < 3
       → Further (along dx dy dz axis) axis (floats (one ps)) (floats (other ps))
   unfolding integers shift floats
   further small [] h k axis a v l = absurd (omega (arith, same-number left))
@@ -103,11 +103,11 @@ integers-meet dx dy dz ps left left′ small same h k =
     }
 
 moved-there : Moved (pos 16777214) (negsuc 16777215) (negsuc 6) (floats here) (floats there)
-unfolding inRange integers shift
-moved-there = integers-meet (pos 16777214) (negsuc 16777215) (negsuc 6) corners (pos 1 ∷ []) (negsuc 4 ∷ []) (lit≤ tt) refl tt tt
+unfolding integersFit integers shift
+moved-there = integers-meet (pos 16777214) (negsuc 16777215) (negsuc 6) cornerPoints (pos 1 ∷ []) (negsuc 4 ∷ []) (lit≤ tt) refl tt tt
 
 closed-here : recordOf (floats here) tetrahedron millimetre .«mesh_quality» ≡ Quality.Closed
-unfolding integers floats tetrahedron recordOf recordBy recordFrom verdict measures measuresFrom volumeOf totals totalsTo withPart withFacet onSlope slopeOf part partOf cornersInRange inRangeOf rebased normal size tetra facetOf triangle boxTo lowest highest boxVolume extent quality tooLarge nearZero byChain byFaces boundaryFree overIncident enough chain step around sameEdge present unbalanced crowded keysThat largest keys counting uses signedSum bit sumBy maxBy distinct overTriangles least greatest magnitude rounded rootRound closestRoot floorRoot digits root add sub mul div lt le eq neg sum round units odd numberSize climb span isNan ofBits ofFields ofInt
+unfolding integers floats tetrahedron recordOf recordBy recordFrom verdict measures measuresFrom volumeOf totals totalsTo withPart withFacet onSlope slopeOf part partOf cornersInRange inRange rebased normal size tetra facetOf triangle boxTo lowest highest boxVolume extent quality tooLarge nearZero byChain byFaces boundaryFree overIncident enough chain step around sameEdge present unbalanced crowded keysThat largestSum keys counting uses signedSum bit sumBy maxBy distinct overTriangles least greatest magnitude rounded rootRound closestRoot floorRoot digits root add sub mul div lt le eq neg sum round units odd numberSize climb span isNan ofBits ofFields ofInt
 closed-here = refl
 
 -- the lowest x is 16,777,214 there and 0 here; it is that of vertex 0, whose cell has the numbers 167,772,150 and 0

@@ -40,27 +40,27 @@ unfoldable pub floats : List ℤ → List Float
 floats [] = []
 floats (z ∷ zs) = ofInt binary32 z ∷ floats zs
 
-unfoldable pub inRange : List ℤ → Bool
-inRange [] = true
-inRange (z ∷ zs) = leb (natAbs z) 16777216 && inRange zs
+unfoldable pub integersFit : List ℤ → Bool
+integersFit [] = true
+integersFit (z ∷ zs) = leb (natAbs z) 16777216 && integersFit zs
 
 -- what is left over may be any two, one or none, and others there than here (`integers-meet`)
 abbrev pub IntegersMeet : Type 0
 IntegersMeet =
     (dx dy dz : ℤ) (ps : List Point) (left left′ : List ℤ) → length left ≤ 2 → length left′ ≡ length left
-    → T (inRange (integers ps left)) → T (inRange (integers (shift dx dy dz ps) left′))
+    → T (integersFit (integers ps left)) → T (integersFit (integers (shift dx dy dz ps) left′))
     → Moved dx dy dz (floats (integers ps left)) (floats (integers (shift dx dy dz ps) left′))
 
-abbrev pub corners : List Point
-corners = point (pos 0) (pos 0) (pos 0) ∷ point (pos 2) (pos 0) (pos 0) ∷ point (pos 0) (pos 2) (pos 0) ∷ point (pos 0) (pos 0) (pos 2) ∷ []
+abbrev pub cornerPoints : List Point
+cornerPoints = point (pos 0) (pos 0) (pos 0) ∷ point (pos 2) (pos 0) (pos 0) ∷ point (pos 0) (pos 2) (pos 0) ∷ point (pos 0) (pos 0) (pos 2) ∷ []
 
 -- with a 1 left over
 abbrev pub here : List ℤ
-here = integers corners (pos 1 ∷ [])
+here = integers cornerPoints (pos 1 ∷ [])
 
 -- moved by 16,777,214, -16,777,216 and -7: to both ends of the range. What is left over is a -5, so it is not moved with its axis
 abbrev pub there : List ℤ
-there = integers (shift (pos 16777214) (negsuc 16777215) (negsuc 6) corners) (negsuc 4 ∷ [])
+there = integers (shift (pos 16777214) (negsuc 16777215) (negsuc 6) cornerPoints) (negsuc 4 ∷ [])
 
 -- (`real-move`)
 pub record RealMove : Type 0 where

@@ -33,28 +33,28 @@ use Rattle.meshfile.specs.Written.{allBytes, bytesOf, plain, recordOf as record
 use Rattle.listing.specs.Cube.{cubeRecord, cubeRows, CubeLines}
 use Rattle.listing.proofs.Cube.{cube-lines}
 use Rattle.program.specs.Program.{listed, meshText, textAt, textFor, textOf}
-use Rattle.program.specs.Cube.{cube, CubePrinted}
+use Rattle.program.specs.Cube.{cubeFile, CubePrinted}
 
-cube-file : fileOf (plain cube) ≡ File.Holds cube
-unfolding cube plain recordBytes allBytes bytesOf fileOf frontOf half word words lengthFits unitIn verticesIn idsIn ended endingOf
+cube-file : fileOf (plain cubeFile) ≡ File.Holds cubeFile
+unfolding cubeFile plain recordBytes allBytes bytesOf fileOf frontOf half word words lengthFits unitIn verticesIn idsIn ended endingOf
 cube-file = refl
 
-cube-passes : checkOf (floatsOf (cube .vertices)) (cube .ids) (ofBits binary32 (cube .unit)) 13824 65536 2048 ≡ Check.Full
-unfolding cube floatsOf checkOf unitFits workWords allFine magnitude le lt eq ofBits ofFields
+cube-passes : checkOf (floatsOf (cubeFile .vertices)) (cubeFile .ids) (ofBits binary32 (cubeFile .unit)) 13824 65536 2048 ≡ Check.Full
+unfolding cubeFile floatsOf checkOf unitFits workWords allFine magnitude le lt eq ofBits ofFields
 cube-passes = refl
 
-cube-record : recordOf (floatsOf (cube .vertices)) (cube .ids) (ofBits binary32 (cube .unit)) ≡ cubeRecord
-unfolding cube floatsOf cubeRecord recordOf recordBy recordFrom verdict measures measuresFrom volumeOf surfaceOf totals totalsTo withPart withFacet onSlope slopeOf part partOf cornersInRange inRange rebased normal size tetra facetOf triangle boxTo lowest highest boxVolume extent quality tooLarge nearZero byChain byFaces boundaryFree overIncident enough chain step around sameEdge present unbalanced crowded keysThat keys counting uses signedSum bit sumBy maxBy distinct overTriangles best bestOf buckets surfaceRows bucketsTo withSurface tenths keyOf sameKey sameInteger put rows precedes inserted sorted scaled largest leastAbove smallest least greatest magnitude integral rounded rootRound closestRoot floorRoot digits root add sub mul div lt le eq neg sum round units odd numberSize climb span isNan ofBits ofFields ofInt toSigned
+cube-record : recordOf (floatsOf (cubeFile .vertices)) (cubeFile .ids) (ofBits binary32 (cubeFile .unit)) ≡ cubeRecord
+unfolding cubeFile floatsOf cubeRecord recordOf recordBy recordFrom verdict measures measuresFrom volumeOf surfaceOf totals totalsTo withPart withFacet onSlope slopeOf part partOf cornersInRange inRange rebased normal size tetra facetOf triangle boxTo lowest highest boxVolume extent quality tooLarge nearZero byChain byFaces boundaryFree overIncident enough chain step around sameEdge present unbalanced crowded keysThat keys counting uses signedSum bit sumBy maxBy distinct overTriangles best bestOf buckets surfaceRows bucketsTo withSurface tenths keyOf sameKey sameInteger put rows precedes inserted sorted scaled largest leastAbove smallest least greatest magnitude integral rounded rootRound closestRoot floorRoot digits root add sub mul div lt le eq neg sum round units odd numberSize climb span isNan ofBits ofFields ofInt toSigned
 cube-record = refl
 
-cube-rows : surfaceRows (floatsOf (cube .vertices)) (cube .ids) (ofBits binary32 (cube .unit)) ≡ cubeRows
-unfolding cube floatsOf cubeRows surfaceRows buckets bucketsTo withSurface part partOf cornersInRange inRange rebased normal size tetra facetOf triangle boxTo lowest highest tenths keyOf sameKey sameInteger put rows precedes inserted sorted scaled least greatest integral rounded rootRound closestRoot floorRoot digits root add sub mul div lt le eq neg sum round units odd numberSize climb span isNan ofBits ofFields ofInt toSigned
+cube-rows : surfaceRows (floatsOf (cubeFile .vertices)) (cubeFile .ids) (ofBits binary32 (cubeFile .unit)) ≡ cubeRows
+unfolding cubeFile floatsOf cubeRows surfaceRows buckets bucketsTo withSurface part partOf cornersInRange inRange rebased normal size tetra facetOf triangle boxTo lowest highest tenths keyOf sameKey sameInteger put rows precedes inserted sorted scaled least greatest integral rounded rootRound closestRoot floorRoot digits root add sub mul div lt le eq neg sum round units odd numberSize climb span isNan ofBits ofFields ofInt toSigned
 cube-rows = refl
 
-cube-pieces : pieces shareId (cube .ids) ≡ 1
-unfolding cube pieces groups apart touched any has shareId those solid solids distinct triangle
+cube-pieces : pieces shareId (cubeFile .ids) ≡ 1
+unfolding cubeFile pieces groups apart touched any has shareId those solid solids distinct triangle
 cube-pieces = refl
 
 pub cube-printed : CubePrinted
-unfolding CubeLines cube textOf textFor meshText textAt listed ifClip ifInvalid profileAt
+unfolding CubeLines cubeFile textOf textFor meshText textAt listed ifClip ifInvalid profileAt
 cube-printed = rw (cube-file, cube-passes, cube-record, cube-rows, cube-pieces) cube-lines

@@ -12,7 +12,7 @@ use Rattle.meshfile.proofs.Bounds.{files-are-short, front-decides as file-front
 use Rattle.meshfile.proofs.One.{File56, file-56}
 use Rattle.listing.specs.Listing.{refusedLine}
 use Rattle.program.specs.Program.{textFor, textOf, Prints, RunOne}
-use Rattle.program.specs.Promises.{kept, FrontDecides, LongRefused, PrintsFront, RunFrontOne}
+use Rattle.program.specs.Promises.{kept, KeptDecides, LongRefused, PrintsFront, RunFrontOne}
 
 module _ (text area : List ℕ) (r : ℕ) (area′ : List ℕ) (printed : Prints text area r area′) where
   pub prints-inside : r ≤ length area′
@@ -29,7 +29,7 @@ run-front-one bytes n area r₁ r₂ area₁ area₂ x y = run-one (take n bytes
 
 -- ---- input that is longer than any file
 
-pub front-decides : FrontDecides
+pub front-decides : KeptDecides
 unfolding textOf
 front-decides bytes h = ap textFor (file-front-decides bytes h)
 

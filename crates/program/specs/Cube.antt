@@ -1,4 +1,4 @@
--- The cube of document 01 as a file: what the program prints for it is the listing that stands there. (`cube-printed`)
+-- The cubeFile of document 01 as a file: what the program prints for it is the listing that stands there. (`cube-printed`)
 use mathlib.Core.Path.{_≡_}
 use mathlib.Core.List.{[], _∷_}
 use Prim.Native.Nat.{ℕ}
@@ -12,8 +12,8 @@ abbrev pub two : ℕ
 two = 0x4000_0000
 
 -- unit 1.0, side 2, vertex id = x/2 + 2(y/2) + 4(z/2), triangles 023 031 457 476 015 054 267 273 046 062 137 175, no kind 4
-unfoldable pub cube : Contents
-cube =
+unfoldable pub cubeFile : Contents
+cubeFile =
     record {
       unit = 0x3f80_0000;
       vertices = 0 ∷ 0 ∷ 0 ∷ two ∷ 0 ∷ 0 ∷ 0 ∷ two ∷ 0 ∷ two ∷ two ∷ 0 ∷ 0 ∷ 0 ∷ two ∷ two ∷ 0 ∷ two ∷ 0 ∷ two ∷ two ∷ two ∷ two ∷ two ∷ [];
@@ -25,4 +25,4 @@ cube =
     }
 
 abbrev pub CubePrinted : Type 0
-CubePrinted = textOf (plain cube) ≡ text cubeText
+CubePrinted = textOf (plain cubeFile) ≡ text cubeText

@@ -33,8 +33,8 @@ abbrev pub kept : ℕ
 kept = 12319
 
 -- Of input that is longer than any file these decide, so it needs to keep no more.
-abbrev pub FrontDecides : Type 0
-FrontDecides = (bytes : List ℕ) → 12318 < length bytes → textOf (take kept bytes) ≡ textOf bytes
+abbrev pub KeptDecides : Type 0
+KeptDecides = (bytes : List ℕ) → 12318 < length bytes → textOf (take kept bytes) ≡ textOf bytes
 
 -- and it is refused
 abbrev pub LongRefused : Type 0

@@ -13,9 +13,10 @@ use Rattle.ieee.specs.Order.{greatest}
 use Rattle.ieee.specs.Single.{_⊖_, _⊗_, _⊘_, nought, number, extent}
 use Rattle.ids.specs.Uses.{bit}
 use Rattle.grid.specs.declared.Grid.{Grid}
-use Rattle.grid.specs.Grid.{gridOf, Sized}
+use Rattle.grid.specs.Grid.{gridOf}
+use Rattle.grid.specs.inner.Sized.{GridSized}
 use Rattle.paint.specs.Covered.{covered}
-use Rattle.paint.specs.Painted.{Shows, Adds}
+use Rattle.paint.specs.inner.Painted.{Shows, Adds}
 use Rattle.raster.specs.Footprint.{count, coveredCells, areaOn, footprintOver, footprint}
 
 pub count-next : (f : ℕ → Bool) (n : ℕ) → count f (n + 1) ≡ count f n + bit (f n)
@@ -23,7 +24,7 @@ unfolding count
 count-next f n = rw (add-one n)
 
 -- a grid has 65,536 cells at most
-pub few-cells : (g : Grid) → Sized g → g .nx * g .ny ≤ 65536
+pub few-cells : (g : Grid) → GridSized g → g .nx * g .ny ≤ 65536
 few-cells g s = le-trans (mul-le-mul (s .wide-most) (s .high-most)) (lit≤ tt)
 
 -- a zeroed raster says nothing

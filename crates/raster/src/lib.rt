@@ -4,8 +4,8 @@ ghost use mathlib.Core.Bool.{Bool};
 ghost use Prim.Native.Nat.{ℕ, _*_, _≤_};
 ghost use lib.ListN.{length};
 ghost use Rattle.ids.specs.Lent.{cleared};
-ghost use Rattle.grid.specs.Grid.{Sized};
-ghost use Rattle.paint.specs.Painted.{Shows};
+ghost use Rattle.grid.specs.inner.Sized.{GridSized};
+ghost use Rattle.paint.specs.inner.Painted.{Shows};
 ghost use Rattle.raster.specs.Footprint.{axisNumber, count, areaOn, footprint};
 use grid::Grid;
 
@@ -54,7 +54,7 @@ pub fn clear(area: &mut [u8], n: usize)
 
 // The footprint on a grid, over a part of one byte a cell.
 fn footprint_on(vertices: &[f32], ids: &[u32], u: usize, v: usize, g: Grid, part: &mut [u8]) -> f32
-    requires { ⌜ (u ≤ 2) × (v ≤ 2) × Sized g × (length (now part) ≡ g .nx * g .ny) ⌝ }
+    requires { ⌜ (u ≤ 2) × (v ≤ 2) × GridSized g × (length (now part) ≡ g .nx * g .ny) ⌝ }
     ensures { λ r. ⌜ r ≡ areaOn (now (vertices .entry)) u v (now (ids .entry)) g ⌝ }
 {
     let n = part.len();

@@ -5,7 +5,7 @@ use mathlib.Core.List.{List}
 use Prim.Native.Nat.{ℕ, zero, suc, _<_}
 use native.Mathlib.Omega.{arith}
 use lib.IntN.{natAbs}
-use Rattle.ids.specs.Uses.{Use, uses, signedSum, bit, keysThat, largest}
+use Rattle.ids.specs.Uses.{Use, uses, signedSum, bit, keysThat, largestSum}
 use Rattle.table.specs.Rows.{sumTo}
 use Rattle.table.specs.Counts.{magnitude}
 use Rattle.table.specs.Table.{maxTo, gate, Rows}
@@ -28,8 +28,8 @@ module _ {K : Type 0} (same : K → K → Bool) (n : ℕ) (key : ℕ → K) (cnt
       (λ i l. row (λ a b. bit (test a b)) i l (cnt i) refl)
       ∙ m .sums (λ k. bit (test (uses same k es) (natAbs (signedSum same k es))))
 
-  pub rows-largest : maxTo (λ i. gate (cnt i) (magnitude (cnt i) (up i))) n ≡ largest same es
-  unfolding largest
+  pub rows-largest : maxTo (λ i. gate (cnt i) (magnitude (cnt i) (up i))) n ≡ largestSum same es
+  unfolding largestSum
   rows-largest =
       maxTo-same (λ i. gate (cnt i) (natAbs (signedSum same (key i) es))) (λ i. gate (cnt i) (magnitude (cnt i) (up i))) n (λ i l. row (λ a b. b) i l (cnt i) refl)
       ∙ maxes same n key cnt up es m (λ k. natAbs (signedSum same k es))

@@ -10,7 +10,7 @@ use Rattle.ids.specs.EdgeChain.{boundaryFree, overIncident}
 use Rattle.ids.specs.FaceNet.{maxAbs, allCancel}
 use Rattle.weld.specs.Weld.{welded}
 use Rattle.verdict.specs.Verdict.{tooLarge, nearZero, byFaces, byChain, quality}
-use Rattle.verdict.specs.Steps.{chained, isFree, openUnlessFree}
+use Rattle.verdict.specs.inner.Steps.{chained, isFree, openUnlessFree}
 use Rattle.verdict.specs.declared.Quality.the-variants.{Closed, OpenShell, Degenerate}
 use Rattle.verdict.specs.declared.Chained.the-variants.{Boundary, Free}
 

@@ -9,7 +9,7 @@ use borrow.Rule.Slice.PartMut.{postOf, post-is}
 use lib.ListN.{length, take, drop, length-append, length-drop, drop-of-length-le}
 use lib.Seq.{length-take-le, drop-drop, drop-at}
 use Rattle.ids.proofs.Triangles.{append-none}
-use Rattle.verdict.specs.Steps.{chained}
+use Rattle.verdict.specs.inner.Steps.{chained}
 use Rattle.verdict.specs.declared.Chained.{Chained}
 
 -- the part from e on: what stands behind its first at - e words stands behind `at` in the whole

@@ -1,4 +1,4 @@
 -- Verdict (01): closed, open shell or degenerate; what each says of a mesh; and what the classifier's steps say.
 pub mod Verdict
-pub mod Steps
 pub mod Meaning
+pub mod inner

@@ -6,7 +6,7 @@ ghost use Rattle.ids.specs.Triangles.{triangleCount};
 ghost use Rattle.ids.specs.EdgeChain.{overIncident};
 ghost use Rattle.weld.specs.Weld.{welded};
 ghost use Rattle.verdict.specs.Verdict.{byFaces, byChain, quality as qualityOf};
-ghost use Rattle.verdict.specs.Steps.{chained, isFree, openUnlessFree, words, Room};
+ghost use Rattle.verdict.specs.inner.Steps.{chained, isFree, openUnlessFree, words, PartsFit};
 
 pub enum Quality {
     Closed,
@@ -73,7 +73,7 @@ fn by_ids(work: &mut [u32], i: usize, at: usize, near: bool) -> Chained
 
 // What the welded ids say.
 fn by_welded(vertices: &[f32], indices: &[u32], eps: f32, near: bool, work: &mut [u32]) -> Quality
-    requires { ⌜ Room (now vertices) (now indices) (now work) ⌝ }
+    requires { ⌜ PartsFit (now vertices) (now indices) (now work) ⌝ }
     ensures { λ r. ⌜ r ≡ openUnlessFree (chained (welded (now (vertices .entry)) (now (indices .entry)) eps) near) ⌝ }
 {
     let i = indices.len();
@@ -86,7 +86,7 @@ fn by_welded(vertices: &[f32], indices: &[u32], eps: f32, near: bool, work: &mut
 
 // What the given ids say, or if they are not boundary-free the welded ones.
 fn by_chain(vertices: &[f32], indices: &[u32], eps: f32, near: bool, work: &mut [u32]) -> Quality
-    requires { ⌜ Room (now vertices) (now indices) (now work) ⌝ }
+    requires { ⌜ PartsFit (now vertices) (now indices) (now work) ⌝ }
     ensures { λ r. ⌜ r ≡ byChain (now (vertices .entry)) (now (indices .entry)) eps near ⌝ }
 {
     let i = indices.len();
@@ -110,7 +110,7 @@ fn judge(
     aabb_volume: f32,
     work: &mut [u32],
 ) -> Quality
-    requires { ⌜ Room (now vertices) (now indices) (now work) ⌝ }
+    requires { ⌜ PartsFit (now vertices) (now indices) (now work) ⌝ }
     ensures { λ r. ⌜ r ≡ qualityOf (now (vertices .entry)) (now (indices .entry)) eps volume «aabb_volume» ⌝ }
 {
     if aabb_volume <= 0.0 {
@@ -132,7 +132,7 @@ pub fn classify_mesh_quality(
     aabb_volume: f32,
     work: &mut [u32],
 ) -> Quality
-    requires { ⌜ Room (now vertices) (now indices) (now work) ⌝ }
+    requires { ⌜ PartsFit (now vertices) (now indices) (now work) ⌝ }
     ensures { λ r. ⌜ (r ≡ qualityOf (now (vertices .entry)) (now (indices .entry)) eps volume «aabb_volume»)
         × (now (work .exit) ≡ replicate (words (now (vertices .entry)) (now (indices .entry))) 0) ⌝ }
 {

@@ -5,7 +5,7 @@ use native.Mathlib.Omega.{arith}
 use lib.ListN.{length}
 use borrow.Author.Needs.{needs}
 use Rattle.ids.specs.Triangles.{triangleCount}
-use Rattle.paint.specs.Painted.{Adds}
+use Rattle.paint.specs.inner.Painted.{Adds}
 use Rattle.paint.proofs.Covering.{coveredSofar, covered-first, covered-next, covered-last}
 use Rattle.paint.proofs.paint_all.Statement.{statement}
 use Rattle.paint.proofs.paint_all.Tie as tie

@@ -4,7 +4,7 @@ use Prim.Native.Nat.{_+_, _-_, _≤_, max}
 use native.Mathlib.Omega.{arith}
 use lib.ListN.{length}
 use borrow.Author.Needs.{needs}
-use Rattle.paint.specs.Painted.{Adds}
+use Rattle.paint.specs.inner.Painted.{Adds}
 use Rattle.paint.proofs.Boxes.{boxSofar, box-first, box-next, box-last}
 use Rattle.paint.proofs.paint_box.Statement.{statement}
 use Rattle.paint.proofs.paint_box.Tie as tie

@@ -5,7 +5,7 @@ use Prim.Native.Nat.{ℕ, _-_, _*_, _≤_}
 use native.Mathlib.Omega.{arith}
 use lib.ListN.{length}
 use borrow.Author.Needs.{needs}
-use Rattle.paint.specs.Painted.{Shows}
+use Rattle.paint.specs.inner.Painted.{Shows}
 use Rattle.raster.specs.Footprint.{count}
 use Rattle.raster.proofs.Counting.{count-next}
 use Rattle.raster.proofs.tally.Statement.{statement}

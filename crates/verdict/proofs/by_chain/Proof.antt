@@ -8,7 +8,7 @@ use lib.ListN.{length, take, drop}
 use native.Mathlib.Omega.{arith}
 use Rattle.ids.specs.EdgeChain.{boundaryFree}
 use Rattle.vertices.specs.Vertices.{vertexCount}
-use Rattle.verdict.specs.Steps.{chained, isFree, openUnlessFree}
+use Rattle.verdict.specs.inner.Steps.{chained, isFree, openUnlessFree}
 use Rattle.verdict.proofs.Meaning.{free-is, by-given, by-welded}
 use Rattle.verdict.proofs.Parts.{length-in-part, asked-behind}
 use Rattle.verdict.proofs.by_chain.Statement.{statement}

@@ -4,7 +4,7 @@ use borrow.Author.Needs.{needs}
 use Prim.Native.Nat.{_*_}
 use lib.ListN.{length, replicate, length-replicate}
 use Rattle.vertices.specs.Vertices.{vertexCount}
-use Rattle.verdict.specs.Steps.{openUnlessFree}
+use Rattle.verdict.specs.inner.Steps.{openUnlessFree}
 use Rattle.verdict.proofs.Parts.{asked-behind}
 use Rattle.verdict.proofs.by_welded.Statement.{statement}
 use Rattle.verdict.proofs.by_welded.Tie as tie

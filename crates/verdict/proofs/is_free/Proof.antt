@@ -1,6 +1,6 @@
 -- `verdict::is_free` meets its contract, arm by arm. Assumes nothing.
 use borrow.Author.Needs.{needs}
-use Rattle.verdict.specs.Steps.{isFree}
+use Rattle.verdict.specs.inner.Steps.{isFree}
 use Rattle.verdict.proofs.is_free.Statement.{statement}
 use Rattle.verdict.proofs.is_free.Tie as tie
 

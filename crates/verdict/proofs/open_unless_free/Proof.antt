@@ -1,6 +1,6 @@
 -- `verdict::open_unless_free` meets its contract, arm by arm. Assumes nothing.
 use borrow.Author.Needs.{needs}
-use Rattle.verdict.specs.Steps.{openUnlessFree}
+use Rattle.verdict.specs.inner.Steps.{openUnlessFree}
 use Rattle.verdict.proofs.open_unless_free.Statement.{statement}
 use Rattle.verdict.proofs.open_unless_free.Tie as tie
 

@@ -32,5 +32,5 @@ abbrev pub words : List Float → List ℕ → ℕ
 words vs ids = 5 * length ids + 4 * triangleCount ids + 8 * vertexCount vs
 
 -- no more floats and ids than the parts are made for, and just their words
-abbrev pub Room : List Float → List ℕ → List ℕ → Type 0
-Room vs ids w = (length vs ≤ 98304) × (length ids ≤ 98304) × (length w ≡ words vs ids)
+abbrev pub PartsFit : List Float → List ℕ → List ℕ → Type 0
+PartsFit vs ids w = (length vs ≤ 98304) × (length ids ≤ 98304) × (length w ≡ words vs ids)

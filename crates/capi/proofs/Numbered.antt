@@ -1,7 +1,7 @@
 -- The C form of the record: what `compute` answers becomes a number and words, after the flags are checked; and for every input there is one number and one later content of record and areas.
 use mathlib.Core.Path.{_≡_, refl, sym, ap, _∙_}
 use Prim.Native.Nat.{ℕ, _+_}
-use mathlib.Core.Bool.{Bool, true, false, not}
+use mathlib.Core.Bool.{Bool, true, false, not, cond}
 use mathlib.Core.List.{List}
 use lib.Dec.{eqb}
 use lib.ListN.{length}
@@ -12,7 +12,8 @@ use Rattle.record.specs.declared.Profile.{Profile}
 use Rattle.record.specs.Flags.{flagged}
 use Rattle.record.specs.Numbers.{profileAt, flagsFit}
 use Rattle.refusals.specs.declared.Check.{Check}
-use Rattle.refusals.specs.Refusals.{checkOf, first, workWords, rasterBytes}
+use Rattle.refusals.specs.Refusals.{checkOf}
+use Rattle.vertices.specs.Areas.{workWords, rasterBytes}
 use Rattle.qto.specs.declared.Answer.{Answer}
 use Rattle.qto.specs.Full.{recordOf, surfacesAfter}
 use Rattle.qto.specs.Compute.{answerAt, areaAt, Computes}
@@ -47,9 +48,9 @@ module _ (vs : List Float) (ids : List ℕ) (u : Float) (clip defect : ℕ) (w r
   said = checkOf vs ids u (length w) (length r) (length s)
 
   -- the check once the flags are tested
-  fit : (b t : Bool) → t ≡ flagsFit clip defect → not t ≡ b → first b (Check.Refuse 5) said ≡ checkFlags clip defect said
+  fit : (b t : Bool) → t ≡ flagsFit clip defect → not t ≡ b → cond b (Check.Refuse 5) said ≡ checkFlags clip defect said
   unfolding checkFlags
-  fit b t e h = ap (λ (f : Bool). first f (Check.Refuse 5) said) (sym h ∙ ap not e)
+  fit b t e h = ap (λ (f : Bool). cond f (Check.Refuse 5) said) (sym h ∙ ap not e)
 
   -- by what the flags and the table of refusals say
   by-check : (c : Check) (n : ℕ) (w′ r′ : List ℕ) (s′ : List Float) (words′ : List ℕ) → c ≡ checkFlags clip defect said → n ≡ numberAt c → words′ ≡ wordsAt c clip defect (recordOf vs ids u) words

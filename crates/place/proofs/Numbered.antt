@@ -1,6 +1,6 @@
 -- Demand 3 for the C interface, from that for `compute`: the words are made of the record. Assumes nothing.
 use mathlib.Core.Path.{_≡_, refl, ap}
-use mathlib.Core.Bool.{Bool, true, false, not}
+use mathlib.Core.Bool.{Bool, true, false, not, cond}
 use mathlib.Core.List.{List}
 use Prim.Native.Nat.{ℕ}
 use lib.Dec.{T}
@@ -12,7 +12,8 @@ use Rattle.verdict.specs.declared.Quality.{Quality}
 use Rattle.record.specs.declared.MeshQto.{MeshQto}
 use Rattle.record.specs.Numbers.{qualityNumber, profileAt, flagsFit}
 use Rattle.refusals.specs.declared.Check.{Check}
-use Rattle.refusals.specs.Refusals.{first, workWords, rasterBytes, checkOf}
+use Rattle.refusals.specs.Refusals.{checkOf}
+use Rattle.vertices.specs.Areas.{workWords, rasterBytes}
 use Rattle.qto.specs.Full.{recordOf, surfacesAfter}
 use Rattle.qto.specs.Compute.{answerAt, areaAt}
 use Rattle.qto.specs.Numbers.{wordsOf, withFlags, numberAt, wordsAt, checkFlags}
@@ -61,7 +62,7 @@ module _ (dx dy dz : ℤ) (vs vs′ : List Float) (ids : List ℕ) (u : Float) (
 
   -- whether the flags fit
   abbrev tried : Bool → Check → Check
-  tried fit k = first (not fit) (Check.Refuse 5) k
+  tried fit k = cond (not fit) (Check.Refuse 5) k
 
   words-stay : (fit : Bool) (clip defect : ℕ) (words : List ℕ)
       → owed (numberAt (tried fit (said vs′))) (wordsAt (tried fit (said vs′)) clip defect (recordOf vs′ ids u) words)

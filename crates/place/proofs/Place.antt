@@ -8,7 +8,8 @@ use lib.Ieee.{Float}
 use Rattle.ids.specs.Lent.{cleared}
 use Rattle.record.specs.declared.MeshQto.{MeshQto}
 use Rattle.refusals.specs.declared.Check.{Check}
-use Rattle.refusals.specs.Refusals.{workWords, checkOf}
+use Rattle.refusals.specs.Refusals.{checkOf}
+use Rattle.vertices.specs.Areas.{workWords}
 use Rattle.qto.specs.Full.{recordOf, surfacesAfter}
 use Rattle.qto.specs.Compute.{answerAt, areaAt}
 use Rattle.refusals.proofs.Checks.{Admitted, admitted}

@@ -1,6 +1,6 @@
 -- What the record is made of agrees, one part after the other; only the footprints of an open mesh depend on where it stands. Assumes nothing.
 use mathlib.Core.Path.{_≡_, refl, sym, _∙_}
-use mathlib.Core.Bool.{Bool, true, false}
+use mathlib.Core.Bool.{Bool, true, false, cond}
 use mathlib.Core.List.{List}
 use Prim.Native.Nat.{ℕ, _≤_}
 use native.Mathlib.Omega.{arith}
@@ -15,7 +15,7 @@ use Rattle.verdict.specs.declared.Quality.{Quality}
 use Rattle.verdict.specs.Verdict.{byChain, quality}
 use Rattle.volume.specs.declared.Method.{Method}
 use Rattle.volume.specs.declared.PrismBound.{PrismBound}
-use Rattle.volume.specs.Best.{upper, trusted, orElse, openBest, bestOf}
+use Rattle.volume.specs.Best.{upper, trusted, openBest, bestOf}
 use Rattle.record.specs.Numbers.{prismNumber}
 use Rattle.refusals.specs.Refusals.{unitFits}
 use Rattle.qto.specs.declared.Measures.{Measures}
@@ -31,7 +31,7 @@ open-bounded : (v s aabb p : Float) → prismNumber (openBest v s aabb p .prism)
 unfolding openBest prismNumber
 open-bounded v s aabb p = go (trusted p (upper p aabb) v s)
   where
-    go : (t : Bool) → prismNumber (orElse t (record { volume = v; method = Method.MeshOpen; reliable = true; prism = PrismBound.Bound p }) (record { volume = p; method = Method.PrismFallback; reliable = false; prism = PrismBound.Bound p }) .prism) ≡ 1
+    go : (t : Bool) → prismNumber (cond t (record { volume = v; method = Method.MeshOpen; reliable = true; prism = PrismBound.Bound p }) (record { volume = p; method = Method.PrismFallback; reliable = false; prism = PrismBound.Bound p }) .prism) ≡ 1
     go true = refl
     go false = refl
 

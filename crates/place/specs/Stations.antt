@@ -9,7 +9,8 @@ use lib.Ieee.{Float}
 use Rattle.ids.specs.Lent.{cleared}
 use Rattle.sums.specs.Box.{box, boxVolume}
 use Rattle.weld.specs.Weld.{epsilonOf, welded}
-use Rattle.refusals.specs.Refusals.{workWords, unitFits, checkOf}
+use Rattle.refusals.specs.Refusals.{unitFits, checkOf}
+use Rattle.vertices.specs.Areas.{workWords}
 use Rattle.qto.specs.Full.{cube, totals, surfaceRows, surfacesAfter, measures, distance, verdict}
 use Rattle.place.specs.Moved.{Moved, unitEnough}
 

@@ -25,7 +25,8 @@ use Rattle.volume.specs.Best.{bestOf}
 use Rattle.record.specs.Flags.{ifClip, ifInvalid}
 use Rattle.record.specs.Numbers.{profileAt}
 use Rattle.refusals.specs.declared.Check.{Check}
-use Rattle.refusals.specs.Refusals.{checkOf, unitFits, workWords}
+use Rattle.refusals.specs.Refusals.{checkOf, unitFits}
+use Rattle.vertices.specs.Areas.{workWords}
 use Rattle.qto.specs.Full.{best, buckets, measures, measuresFrom, recordBy, recordFrom, recordOf, surfaceOf, surfaceRows, totals, verdict, volumeOf}
 use Rattle.meshfile.specs.Format.{File, ended, endingOf, fileOf, frontOf, half, idsIn, lengthFits, unitIn, verticesIn, word, words}
 use Rattle.meshfile.specs.Reading.{floatsOf}
@@ -40,7 +41,7 @@ unfolding cubeFile plain recordBytes allBytes bytesOf fileOf frontOf half word w
 cube-file = refl
 
 cube-passes : checkOf (floatsOf (cubeFile .vertices)) (cubeFile .ids) (ofBits binary32 (cubeFile .unit)) 13824 65536 2048 ≡ Check.Full
-unfolding cubeFile floatsOf checkOf unitFits workWords allFine magnitude le lt eq ofBits ofFields
+unfolding cubeFile floatsOf checkOf unitFits allFine magnitude le lt eq ofBits ofFields
 cube-passes = refl
 
 cube-record : recordOf (floatsOf (cubeFile .vertices)) (cubeFile .ids) (ofBits binary32 (cubeFile .unit)) ≡ cubeRecord

@@ -6,7 +6,8 @@ use native.Mathlib.Omega.{arith}
 use borrow.Author.Tests.{le-ltb}
 use lib.Dec.{ltb}
 use lib.ListN.{length}
-use Rattle.refusals.specs.Refusals.{workWords, areasShort, checkOf}
+use Rattle.refusals.specs.Refusals.{areasShort, checkOf}
+use Rattle.vertices.specs.Areas.{workWords}
 use Rattle.program.specs.Promises.{checkFile, AreasSuffice}
 
 module _ (f i : ℕ) (hf : f ≤ 1536) (hi : i ≤ 1536) where
@@ -14,7 +15,6 @@ module _ (f i : ℕ) (hf : f ≤ 1536) (hi : i ≤ 1536) where
   not-many = rw (le-ltb 98304 f (omega arith), le-ltb 98304 i (omega arith))
 
   not-short : areasShort f i 13824 65536 2048 ≡ false
-  unfolding workWords
   not-short = rw (le-ltb 13824 (5 * i + 4 * (i / 3) + 8 * (f / 3)) (omega arith), le-ltb 2048 (4 * (i / 3)) (omega arith))
 
 pub areas-suffice : AreasSuffice

@@ -1,4 +1,4 @@
--- The cubeFile of document 01 as a file: what the program prints for it is the listing that stands there. (`cube-printed`)
+-- The cube of document 01 as a file: what the program prints for it is the listing that stands there. (`cube-printed`)
 use mathlib.Core.Path.{_≡_}
 use mathlib.Core.List.{[], _∷_}
 use Prim.Native.Nat.{ℕ}

@@ -2,23 +2,23 @@
 use mathlib.Core.Path.{_≡_}
 use mathlib.Core.Logic.{_⊎_}
 use Prim.Native.Nat.{ℕ, _%_, _^_, _≤_, _<_}
-use mathlib.Core.Bool.{false, not, _||_}
+use mathlib.Core.Bool.{false, not, _||_, cond}
 use mathlib.Core.List.{List}
 use lib.Dec.{ltb}
 use lib.ListN.{length, take}
 use lib.Ieee.{Float, binary32, ofBits}
 use Rattle.sums.specs.Fine.{fine, allFine}
 use Rattle.refusals.specs.declared.Check.{Check}
-use Rattle.refusals.specs.Refusals.{first, unitFits}
+use Rattle.refusals.specs.Refusals.{unitFits}
 use Rattle.listing.specs.Listing.{refusedLine}
 use Rattle.program.specs.Program.{checkMesh, textOf, Prints}
 
 -- the rows of 01's table that a file can meet: it is never too large, and no area is too short (`areas-suffice`)
 unfoldable pub checkFile : List Float → List ℕ → Float → Check
 checkFile vs ids u =
-    first (ltb (length ids) 3 || ltb (length vs) 9) Check.Zero
-    (first (not (unitFits u)) (Check.Refuse 2)
-    (first (not (allFine vs)) (Check.Refuse 4)
+    cond (ltb (length ids) 3 || ltb (length vs) 9) Check.Zero
+    (cond (not (unitFits u)) (Check.Refuse 2)
+    (cond (not (allFine vs)) (Check.Refuse 4)
     Check.Full))
 
 abbrev pub AreasSuffice : Type 0

@@ -6,6 +6,8 @@ use lib.Ieee.{Float}
 use Rattle.rows.specs.declared.PlanarSurface.{PlanarSurface}
 use Rattle.rows.specs.Rows.{flatten, rowsOf, scaled, sorted, largest, smallest, allPlain}
 use Rattle.rows.proofs.Flat.{rows-flat}
+use Rattle.qto.specs.declared.Extremes.{Extremes}
+use Rattle.qto.specs.inner.Steps.{Arranged}
 
 -- t as it was, t₁ when scaled, t₂ when in order
 module _ (by : Float) (t t₁ t₂ : List Float) (scale : t₁ ≡ flatten (scaled by (rowsOf t))) where
@@ -21,6 +23,7 @@ module _ (by : Float) (t t₁ t₂ : List Float) (scale : t₁ ≡ flatten (scal
   order-rows : t₂ ≡ flatten (sorted (rowsOf t₁)) → rowsOf t₂ ≡ sorted (scaled by (rowsOf t))
   order-rows sort = ap rowsOf (in-order sort) ∙ rows-flat (sorted (scaled by (rowsOf t)))
 
-  pub arranged : (l s : Float) → t₂ ≡ flatten (sorted (rowsOf t₁)) → l ≡ largest (rowsOf t₂) → s ≡ smallest (rowsOf t₂)
-      → (l ≡ largest (sorted (scaled by (rowsOf t)))) × (s ≡ smallest (sorted (scaled by (rowsOf t)))) × (t₂ ≡ flatten (sorted (scaled by (rowsOf t))))
-  arranged l s sort hl hs = (hl ∙ ap largest (order-rows sort), hs ∙ ap smallest (order-rows sort), in-order sort)
+  pub arranged : (r : Extremes) → t₂ ≡ flatten (sorted (rowsOf t₁)) → r .largest ≡ largest (rowsOf t₂) → r .smallest ≡ smallest (rowsOf t₂)
+      → Arranged t by r t₂
+  arranged r sort hl hs =
+      record { largest-is = hl ∙ ap largest (order-rows sort); smallest-is = hs ∙ ap smallest (order-rows sort); later = in-order sort }

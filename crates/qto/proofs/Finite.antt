@@ -32,7 +32,7 @@ use Rattle.verdict.specs.declared.Quality.{Quality}
 use Rattle.volume.specs.declared.Best.{Best}
 use Rattle.volume.specs.declared.Method.{Method}
 use Rattle.volume.specs.declared.PrismBound.{PrismBound}
-use Rattle.volume.specs.Best.{prism, upper, trusted, orElse, openBest, bestOf}
+use Rattle.volume.specs.Best.{prism, upper, trusted, openBest, bestOf}
 use Rattle.record.specs.declared.MeshQto.{MeshQto}
 use Rattle.record.specs.Record.{zeroRecord}
 use Rattle.refusals.specs.declared.Check.{Check}
@@ -150,7 +150,7 @@ best-finite Quality.OpenShell v s aabb p h g = go (trusted p (upper p aabb) v s)
   where
     go : (b : Bool)
         → FiniteBest
-        (orElse b (record { volume = v; method = Method.MeshOpen; reliable = true; prism = PrismBound.Bound p })
+        (cond b (record { volume = v; method = Method.MeshOpen; reliable = true; prism = PrismBound.Bound p })
         (record { volume = p; method = Method.PrismFallback; reliable = false; prism = PrismBound.Bound p }))
     go true = record { volume = h; prism = g }
     go false = record { volume = g; prism = g }

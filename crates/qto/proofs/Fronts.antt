@@ -7,14 +7,13 @@ use lib.ListN.{length, take, drop, replicate}
 use lib.Seq.{length-front, length-take-le}
 use borrow.Rule.Slice.PartMut.{post-is, postOf}
 use Rattle.ids.specs.Lent.{cleared}
-use Rattle.refusals.specs.Refusals.{workWords}
+use Rattle.vertices.specs.Areas.{workWords}
 
 same : (n : ℕ) → n - 0 ≡ n
 same n = omega arith
 
 -- the index of the rows is the front of the work words
 pub index-fits : (f i w : ℕ) → w ≡ workWords f i → 5 * (i / 3) ≤ w
-unfolding workWords
 index-fits f i w e = omega arith
 
 pub front-exact : (n m : ℕ) (t : List ℕ) → m ≡ n → n ≤ length t → length (take (m - 0) t) ≡ n

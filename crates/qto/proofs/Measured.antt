@@ -11,6 +11,7 @@ use lib.Ieee.Positive.{positive}
 use Rattle.ieee.specs.Rounded.{rounded}
 use Rattle.ieee.specs.Single.{_⊗_}
 use Rattle.ieee.specs.Double.{_⊠_, _⧄_}
+use Rattle.ids.specs.Lent.{mostEntries}
 use Rattle.ids.specs.Triangles.{triangleCount}
 use Rattle.sums.specs.declared.Bounds.{Bounds}
 use Rattle.sums.specs.declared.Thresholds.{Thresholds}
@@ -29,8 +30,10 @@ use Rattle.surfaces.proofs.Keys.{length-rows}
 use Rattle.walk.specs.declared.Sums.{Sums}
 use Rattle.walk.specs.Walk.{Walks}
 use Rattle.walk.proofs.Worth.{buckets-plain}
-use Rattle.refusals.specs.Refusals.{unitFits}
+use Rattle.refusals.specs.Refusals.{unitFits, Passes}
+use Rattle.qto.specs.declared.Extremes.{Extremes}
 use Rattle.qto.specs.declared.Measures.{Measures}
+use Rattle.qto.specs.inner.Steps.{Arrangeable, Arranged}
 use Rattle.qto.specs.Full.{square, cube, totals, volumeOf, surfaceOf, buckets, surfaceRows, surfacesAfter, measuresFrom, measures}
 
 pub unit-ends : (u : Float) → T (unitFits u) → T (le leastUnit u) × T (le u mostUnit)
@@ -41,25 +44,28 @@ pub unit-square : (u : Float) → T (unitFits u) → T (positive (square u))
 unit-square u h = let e = unit-ends u h in square-positive u (e .0) (e .1)
 
 -- the walk from the box minimum o by the pair p found the sums r and made the surface area w of s
+pub record Found (vs : List Float) (ids : List ℕ) (b : Bounds) (o : List Float) (p : Thresholds) (s : List Float) (r : Sums) (w : List Float) : Type 0 where
+  pub is-box : b ≡ box vs
+  pub is-origin : o ≡ origin b
+  pub is-pair : p ≡ thresholds
+  pub walked : Walks vs o p ids s r w
+
 module _
-    (vs : List Float)
-    (ids : List ℕ)
+    {vs : List Float}
+    {ids : List ℕ}
+    {b : Bounds}
+    {o : List Float}
+    {p : Thresholds}
+    {s : List Float}
+    {r : Sums}
+    {w : List Float}
     (u : Float)
-    (b : Bounds)
-    (o : List Float)
-    (p : Thresholds)
-    (s : List Float)
-    (r : Sums)
-    (w : List Float)
-    (is-box : b ≡ box vs)
-    (is-origin : o ≡ origin b)
-    (is-pair : p ≡ thresholds)
-    (walked : Walks vs o p ids s r w)
+    (found : Found vs ids b o p s r w)
   where
     walks : Walks vs (origin (box vs)) thresholds ids s r w
     walks =
-        subst (λ (q : Thresholds). Walks vs (origin (box vs)) q ids s r w) is-pair
-        (subst (λ (q : List Float). Walks vs q p ids s r w) (is-origin ∙ ap origin is-box) walked)
+        subst (λ (q : Thresholds). Walks vs (origin (box vs)) q ids s r w) (found .is-pair)
+        (subst (λ (q : List Float). Walks vs q p ids s r w) (found .is-origin ∙ ap origin (found .is-box)) (found .walked))
 
     totalled : r .totals ≡ totals vs ids
     unfolding totals
@@ -76,7 +82,7 @@ module _
     long : length (flatten (rows (buckets vs ids))) ≡ 4 * r .rows
     long = length-flatten (rows (buckets vs ids)) ∙ ap (λ (k : ℕ). 4 * k) (length-rows (buckets vs ids) ∙ sym counted)
 
-    pub few : length ids ≤ 98304 → r .rows ≤ 32768
+    pub few : length ids ≤ mostEntries → r .rows ≤ 32768
     few h = omega (arith, h, walks .few)
 
     count-rows : r .rows ≡ length (surfaceRows vs ids u)
@@ -102,33 +108,39 @@ module _
       unfolding surfaceRows
       arranged-rows = ap (λ (l : List PlanarSurface). sorted (scaled (square u) l)) front-rows
 
-      pub front-length : length (take k w) ≡ 4 * r .rows
+      front-length : length (take k w) ≡ 4 * r .rows
       front-length = ap length front ∙ long
 
-      pub front-plain : T (unitFits u) → T (allFine vs) → T (allPlain (scaled (square u) (rowsOf (take k w))))
+      front-plain : T (unitFits u) → T (allFine vs) → T (allPlain (scaled (square u) (rowsOf (take k w))))
       unfolding buckets
       front-plain h fine =
-          subst (λ (l : List PlanarSurface). T (allPlain (scaled (square u) l))) (sym front-rows) (buckets-plain vs ids (square u) (triangleCount ids) fine (unit-square u h))
+          subst (λ (l : List PlanarSurface). T (allPlain (scaled (square u) l))) (sym front-rows)
+          (buckets-plain vs ids (square u) (triangleCount ids) fine (unit-square u h))
 
-      pub measured : (l m volume surface c q : Float) → l ≡ largest (sorted (scaled (square u) (rowsOf (take k w)))) → m ≡ smallest (sorted (scaled (square u) (rowsOf (take k w))))
-          → volume ≡ rounded binary32 (r .totals .volume6 ⧄ ofBits binary64 0x4018_0000_0000_0000 ⊠ c) → c ≡ cube u
-          → surface ≡ rounded binary32 (r .totals .surface ⊠ q) → q ≡ square u
-          → _≡_ {A = Measures}
-          (record {
-            volume = volume;
-            surface = surface;
-            top = r .totals .top ⊗ square u;
-            bottom = r .totals .bottom ⊗ square u;
-            side = r .totals .side ⊗ square u;
-            inclined = r .totals .inclined ⊗ square u;
-            largest = l;
-            smallest = m;
-            count = r .rows;
-          })
-          (measures vs ids u)
-      unfolding measures measuresFrom volumeOf surfaceOf
-      measured l m volume surface c q hl hm hv hc hs hq = rw (hl, hm, hv, hc, hs, hq, arranged-rows, count-rows, totalled)
+      pub arrangeable : Passes vs ids u → Arrangeable (take k w) (r .rows) (square u)
+      arrangeable h = record { few = few (h .ids-most); floats = front-length; plain = front-plain (h .unit) (h .fine) }
 
-      pub rows-after : (x y : List Float) → x ≡ flatten (sorted (scaled (square u) (rowsOf (take k w)))) → y ≡ drop (4 * r .rows) w → x ++ y ≡ surfacesAfter vs ids u s
-      unfolding surfacesAfter
-      rows-after x y hx hy = rw (hx, hy ∙ ap (λ (n : ℕ). drop n w) (sym is-front), back, arranged-rows)
+      -- what the code makes of the sums and of the rows when these are in order: x before y, which stands behind the rows
+      module _ (e : Extremes) (x : List Float) (arranged : Arranged (take k w) (square u) e x) where
+        pub measured : (volume surface c q : Float) → volume ≡ rounded binary32 (r .totals .volume6 ⧄ ofBits binary64 0x4018_0000_0000_0000 ⊠ c) → c ≡ cube u
+            → surface ≡ rounded binary32 (r .totals .surface ⊠ q) → q ≡ square u
+            → _≡_ {A = Measures}
+            (record {
+              volume = volume;
+              surface = surface;
+              top = r .totals .top ⊗ square u;
+              bottom = r .totals .bottom ⊗ square u;
+              side = r .totals .side ⊗ square u;
+              inclined = r .totals .inclined ⊗ square u;
+              largest = e .largest;
+              smallest = e .smallest;
+              count = r .rows;
+            })
+            (measures vs ids u)
+        unfolding measures measuresFrom volumeOf surfaceOf
+        measured volume surface c q hv hc hs hq =
+            rw (arranged .largest-is, arranged .smallest-is, hv, hc, hs, hq, arranged-rows, count-rows, totalled)
+
+        pub rows-after : (y : List Float) → y ≡ drop (4 * r .rows) w → x ++ y ≡ surfacesAfter vs ids u s
+        unfolding surfacesAfter
+        rows-after y hy = rw (arranged .later, hy ∙ ap (λ (n : ℕ). drop n w) (sym is-front), back, arranged-rows)

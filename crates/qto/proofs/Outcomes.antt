@@ -8,7 +8,8 @@ use Rattle.ids.specs.Lent.{cleared}
 use Rattle.record.specs.declared.MeshQto.{MeshQto}
 use Rattle.record.specs.Record.{zeroRecord}
 use Rattle.refusals.specs.declared.Check.{Check}
-use Rattle.refusals.specs.Refusals.{checkOf, workWords, rasterBytes}
+use Rattle.refusals.specs.Refusals.{checkOf}
+use Rattle.vertices.specs.Areas.{workWords, rasterBytes}
 use Rattle.qto.specs.declared.Answer.{Answer}
 use Rattle.qto.specs.Full.{recordOf, surfacesAfter}
 use Rattle.qto.specs.Compute.{answerAt, areaAt, Computes, ComputeOne}

@@ -5,3 +5,4 @@ pub mod Starred
 pub mod Compute
 pub mod Numbers
 pub mod Domain
+pub mod inner

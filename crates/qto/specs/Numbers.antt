@@ -1,7 +1,7 @@
 -- The record as the C interface has it: 17 words, and refusals as numbers. Flag values that are none are refusal 5, tried first.
 use mathlib.Core.Path.{_≡_}
 use Prim.Native.Nat.{ℕ, _+_}
-use mathlib.Core.Bool.{not}
+use mathlib.Core.Bool.{not, cond}
 use mathlib.Core.List.{List, [], _∷_}
 use lib.Dec.{eqb}
 use lib.ListN.{length}
@@ -13,7 +13,8 @@ use Rattle.record.specs.Record.{zeroRecord}
 use Rattle.record.specs.Flags.{flagged}
 use Rattle.record.specs.Numbers.{qualityNumber, methodNumber, profileNumber, profileAt, prismNumber, prismBits, flagsFit}
 use Rattle.refusals.specs.declared.Check.{Check}
-use Rattle.refusals.specs.Refusals.{checkOf, first, workWords, rasterBytes}
+use Rattle.refusals.specs.Refusals.{checkOf}
+use Rattle.vertices.specs.Areas.{workWords, rasterBytes}
 use Rattle.qto.specs.Full.{recordOf, surfacesAfter}
 use Rattle.qto.specs.Compute.{areaAt}
 
@@ -54,7 +55,7 @@ wordsAt Check.Zero clip defect q words = wordsOf (withFlags clip defect zeroReco
 wordsAt Check.Full clip defect q words = wordsOf (withFlags clip defect q)
 
 unfoldable pub checkFlags : ℕ → ℕ → Check → Check
-checkFlags clip defect c = first (not (flagsFit clip defect)) (Check.Refuse 5) c
+checkFlags clip defect c = cond (not (flagsFit clip defect)) (Check.Refuse 5) c
 
 abbrev pub checkAll : List Float → List ℕ → Float → ℕ → ℕ → List ℕ → List ℕ → List Float → Check
 checkAll vs ids u clip defect w r s = checkFlags clip defect (checkOf vs ids u (length w) (length r) (length s))

@@ -1,16 +1,10 @@
-// `compute`: the takeoff of one mesh. It answers or refuses by document 01's table; the record comes by value, its surface rows in the lent surface area.
-ghost use mathlib.Core.Path.{_≡_};
-ghost use Prim.Native.Nat.{_*_, _≤_};
-ghost use lib.Dec.{T};
-ghost use lib.ListN.{length, replicate};
-ghost use Rattle.ids.specs.Lent.{cleared};
-ghost use Rattle.ids.specs.Triangles.{triangleCount};
-ghost use Rattle.sums.specs.Box.{box};
-ghost use Rattle.sums.specs.Fine.{allFine};
-ghost use Rattle.rows.specs.Rows.{flatten, rowsOf, scaled, sorted, largest, smallest, allPlain};
-ghost use Rattle.refusals.specs.Refusals.{unitFits, workWords, Passes};
-ghost use Rattle.qto.specs.Full.{surfacesAfter, measures as measuresOf, verdict as verdictOf, recordBy, recordOf};
+// `compute`: the takeoff of one mesh. It answers or refuses by document 01's table; the record comes by value, its surface rows
+// in the lent surface area.
+ghost use lib.ListN.{length};
+ghost use Rattle.refusals.specs.inner.Admitted.{Admitted};
 ghost use Rattle.qto.specs.Compute.{Computes};
+ghost use Rattle.qto.specs.inner.Steps.{Arrangeable, Arranged, Measurable, Measured};
+ghost use Rattle.qto.specs.inner.Steps.{Recordable, RecordedBy, Exact, RecordedIn, Recorded};
 use record::MeshQto;
 use record::Profile;
 pub use record::apply_product_flags;
@@ -28,9 +22,8 @@ pub struct Extremes {
 
 // Scales n rows and puts them in order.
 fn arrange(rows: &mut [f32], n: usize, by: f32) -> Extremes
-    requires { ⌜ (n ≤ 32768) × (length (now rows) ≡ 4 * n) × T (allPlain (scaled by (rowsOf (now rows)))) ⌝ }
-    ensures { λ r. ⌜ (r .largest ≡ largest (sorted (scaled by (rowsOf (now (rows .entry)))))) × (r .smallest ≡ smallest (sorted (scaled by (rowsOf (now (rows .entry))))))
-        × (now (rows .exit) ≡ flatten (sorted (scaled by (rowsOf (now (rows .entry)))))) ⌝ }
+    requires { ⌜ Arrangeable (now rows) n by ⌝ }
+    ensures { λ r. ⌜ Arranged (now (rows .entry)) by r (now (rows .exit)) ⌝ }
 {
     rows::scale(rows, n, by);
     rows::sort(rows, n);
@@ -60,10 +53,9 @@ fn measure(
     index: &mut [u32],
     surfaces: &mut [f32],
 ) -> Measures
-    requires { ⌜ (length (now indices) ≤ 98304) × (3 ≤ length (now indices)) × (b ≡ box (now vertices)) × T (unitFits «unit_scale») × T (allFine (now vertices))
-        × (length (now index) ≡ 5 * triangleCount (now indices)) × (4 * triangleCount (now indices) ≤ length (now surfaces)) ⌝ }
-    ensures { λ r. ⌜ (r ≡ measuresOf (now (vertices .entry)) (now (indices .entry)) «unit_scale») × (r .count ≤ 32768)
-        × (now (surfaces .exit) ≡ surfacesAfter (now (vertices .entry)) (now (indices .entry)) «unit_scale» (now (surfaces .entry))) ⌝ }
+    requires { ⌜ Measurable (now vertices) (now indices) b «unit_scale» (now index) (now surfaces) ⌝ }
+    ensures { λ r. ⌜ Measured (now (vertices .entry)) (now (indices .entry)) «unit_scale» (now (surfaces .entry))
+        r (now (surfaces .exit)) ⌝ }
 {
     let square = unit_scale * unit_scale;
     let cube = std::num::f32_to_f64_with_nan(square * unit_scale);
@@ -103,10 +95,8 @@ fn record_by(
     work: &mut [u32],
     raster: &mut [u8],
 ) -> MeshQto
-    requires { ⌜ (length (now vertices) ≤ 98304) × (length (now indices) ≤ 98304) × (b ≡ box (now vertices)) × (m .count ≤ 32768)
-        × (length (now work) ≡ workWords (length (now vertices)) (length (now indices))) × (length (now raster) ≡ 65536) ⌝ }
-    ensures { λ r. ⌜ (r ≡ recordBy (now (vertices .entry)) (now (indices .entry)) «unit_scale» m (verdictOf (now (vertices .entry)) (now (indices .entry)) «unit_scale» (m .volume)))
-        × (now (work .exit) ≡ replicate (workWords (length (now (vertices .entry))) (length (now (indices .entry)))) 0) × (now (raster .exit) ≡ replicate 65536 0) ⌝ }
+    requires { ⌜ Recordable (now vertices) (now indices) b m (now work) (now raster) ⌝ }
+    ensures { λ r. ⌜ RecordedBy (now (vertices .entry)) (now (indices .entry)) «unit_scale» m r (now (work .exit)) (now (raster .exit)) ⌝ }
 {
     let cube = unit_scale * unit_scale * unit_scale;
     let aabb = sums::box_volume(b, cube);
@@ -145,11 +135,9 @@ fn record_in(
     raster: &mut [u8],
     surfaces: &mut [f32],
 ) -> MeshQto
-    requires { ⌜ Passes (now vertices) (now indices) «unit_scale» × (length (now work) ≡ workWords (length (now vertices)) (length (now indices))) × (length (now raster) ≡ 65536)
-        × (4 * triangleCount (now indices) ≤ length (now surfaces)) ⌝ }
-    ensures { λ r. ⌜ (r ≡ recordOf (now (vertices .entry)) (now (indices .entry)) «unit_scale»)
-        × (now (work .exit) ≡ replicate (workWords (length (now (vertices .entry))) (length (now (indices .entry)))) 0) × (now (raster .exit) ≡ replicate 65536 0)
-        × (now (surfaces .exit) ≡ surfacesAfter (now (vertices .entry)) (now (indices .entry)) «unit_scale» (now (surfaces .entry))) ⌝ }
+    requires { ⌜ Exact (now vertices) (now indices) «unit_scale» (now work) (now raster) (now surfaces) ⌝ }
+    ensures { λ r. ⌜ RecordedIn (now (vertices .entry)) (now (indices .entry)) «unit_scale» (now (surfaces .entry))
+        r (now (work .exit)) (now (raster .exit)) (now (surfaces .exit)) ⌝ }
 {
     let b = sums::box_of(vertices);
     let n = 5 * (indices.len() / 3);
@@ -166,12 +154,10 @@ fn full(
     raster: &mut [u8],
     surfaces: &mut [f32],
 ) -> MeshQto
-    requires { ⌜ Passes (now vertices) (now indices) «unit_scale» × (workWords (length (now vertices)) (length (now indices)) ≤ length (now work)) × (65536 ≤ length (now raster))
-        × (4 * triangleCount (now indices) ≤ length (now surfaces)) ⌝ }
-    ensures { λ r. ⌜ (r ≡ recordOf (now (vertices .entry)) (now (indices .entry)) «unit_scale»)
-        × (now (work .exit) ≡ cleared (workWords (length (now (vertices .entry))) (length (now (indices .entry)))) (now (work .entry)))
-        × (now (raster .exit) ≡ cleared 65536 (now (raster .entry)))
-        × (now (surfaces .exit) ≡ surfacesAfter (now (vertices .entry)) (now (indices .entry)) «unit_scale» (now (surfaces .entry))) ⌝ }
+    requires { ⌜ Admitted (now vertices) (now indices) «unit_scale» (length (now work)) (length (now raster)) (length (now surfaces)) ⌝ }
+    ensures { λ r. ⌜ Recorded (now (vertices .entry)) (now (indices .entry)) «unit_scale»
+        (now (work .entry)) (now (raster .entry)) (now (surfaces .entry))
+        r (now (work .exit)) (now (raster .exit)) (now (surfaces .exit)) ⌝ }
 {
     let words = refusals::work_words(vertices.len(), indices.len());
     let bytes = refusals::raster_bytes();
@@ -199,7 +185,8 @@ pub fn compute(
     raster: &mut [u8],
     surfaces: &mut [f32],
 ) -> Answer
-    ensures { λ r. ⌜ Computes (now (vertices .entry)) (now (indices .entry)) «unit_scale» (now (work .entry)) (now (raster .entry)) (now (surfaces .entry))
+    ensures { λ r. ⌜ Computes (now (vertices .entry)) (now (indices .entry)) «unit_scale»
+        (now (work .entry)) (now (raster .entry)) (now (surfaces .entry))
         r (now (work .exit)) (now (raster .exit)) (now (surfaces .exit)) ⌝ }
 {
     let c = refusals::checked(

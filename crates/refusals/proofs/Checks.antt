@@ -1,6 +1,6 @@
 -- The table of refusals by its tests: the first row that applies, and what it says of a mesh and of the lent areas that none does.
 use mathlib.Core.Path.{_≡_, refl, sym, _∙_, ap}
-use mathlib.Core.Bool.{Bool, true, false, not, _||_, false≢true}
+use mathlib.Core.Bool.{Bool, true, false, not, _||_, false≢true, cond}
 use Prim.Native.Nat.{ℕ, _≤_}
 use native.Mathlib.Omega.{arith}
 use mathlib.Core.List.{List}
@@ -10,7 +10,9 @@ use lib.Ieee.{Float}
 use borrow.Author.Tests.{ltb-false}
 use Rattle.sums.specs.Fine.{allFine}
 use Rattle.refusals.specs.declared.Check.{Check}
-use Rattle.refusals.specs.Refusals.{workWords, surfaceFloats, rasterBytes, areasShort, unitFits, first, checkOf, Passes}
+use Rattle.refusals.specs.Refusals.{areasShort, unitFits, checkOf, Passes}
+use Rattle.refusals.specs.inner.Admitted.{Admitted}
+use Rattle.vertices.specs.Areas.{workWords, surfaceFloats, rasterBytes}
 
 neither : (p q : Bool) → (p || q) ≡ false → (p ≡ false) × (q ≡ false)
 neither false false e = (refl, refl)
@@ -68,7 +70,7 @@ isFull Check.Zero = false
 isFull Check.Full = true
 
 -- each of the five tests failed
-five-left : (p q r s t : Bool) → first p (Check.Refuse 1) (first q Check.Zero (first (not r) (Check.Refuse 2) (first s (Check.Refuse 3) (first (not t) (Check.Refuse 4) Check.Full)))) ≡ Check.Full
+five-left : (p q r s t : Bool) → cond p (Check.Refuse 1) (cond q Check.Zero (cond (not r) (Check.Refuse 2) (cond s (Check.Refuse 3) (cond (not t) (Check.Refuse 4) Check.Full)))) ≡ Check.Full
     → (p ≡ false) × (q ≡ false) × T r × (s ≡ false) × T t
 unfolding isFull
 five-left true q r s t e = absurd (false≢true (ap isFull e))
@@ -79,13 +81,8 @@ five-left false false true false false e = absurd (false≢true (ap isFull e))
 five-left false false true false true e = (refl, refl, tt, refl, tt)
 
 -- the mesh passes, and the areas are long enough
-pub record Admitted (vs : List Float) (ids : List ℕ) (u : Float) (w r s : ℕ) : Type 0 where
-  pub mesh : Passes vs ids u
-  pub work : workWords (length vs) (length ids) ≤ w
-  pub raster : rasterBytes ≤ r
-  pub surfaces : surfaceFloats (length ids) ≤ s
-
-pub admitted : (vs : List Float) (ids : List ℕ) (u : Float) (w r s : ℕ) (k : Check) → k ≡ Check.Full → k ≡ checkOf vs ids u w r s → Admitted vs ids u w r s
+pub admitted : (vs : List Float) (ids : List ℕ) (u : Float) (w r s : ℕ) (k : Check) → k ≡ Check.Full → k ≡ checkOf vs ids u w r s
+    → Admitted vs ids u w r s
 unfolding checkOf
 admitted vs ids u w r s k h e =
     let t = five-left (ltb 98304 (length vs) || ltb 98304 (length ids)) (ltb (length ids) 3 || ltb (length vs) 9) (unitFits u)

@@ -1,23 +1,14 @@
 -- Order of checks (01): the rows of the table are tried from the top, and the first that applies decides.
-use Prim.Native.Nat.{ℕ, _+_, _*_, _/_, _≤_}
-use mathlib.Core.Bool.{Bool, true, false, not, _&&_, _||_}
+use Prim.Native.Nat.{ℕ, _≤_}
+use mathlib.Core.Bool.{Bool, cond, not, _&&_, _||_}
 use mathlib.Core.List.{List}
 use lib.Dec.{T, ltb}
 use lib.ListN.{length}
 use lib.Ieee.{Float, binary32, le, ofBits}
+use Rattle.ids.specs.Lent.{mostEntries}
+use Rattle.vertices.specs.Areas.{workWords, surfaceFloats, rasterBytes}
 use Rattle.sums.specs.Fine.{allFine}
 use Rattle.refusals.specs.declared.Check.{Check}
-
--- how many work words a mesh of f floats and i ids needs: for edges 4i, for faces 4⌊i/3⌋, for the weld 8⌊f/3⌋, and for ids i
-unfoldable pub workWords : ℕ → ℕ → ℕ
-workWords f i = 5 * i + 4 * (i / 3) + 8 * (f / 3)
-
--- how many floats of surface area
-abbrev pub surfaceFloats : ℕ → ℕ
-surfaceFloats i = 4 * (i / 3)
-
-abbrev pub rasterBytes : ℕ
-rasterBytes = 65536
 
 -- a unit from 2^-20 to 16: no NaN is
 unfoldable pub unitFits : Float → Bool
@@ -27,14 +18,10 @@ unitFits u = le (ofBits binary32 0x3580_0000) u && le u (ofBits binary32 0x4180_
 abbrev pub areasShort : ℕ → ℕ → ℕ → ℕ → ℕ → Bool
 areasShort f i w r s = ltb w (workWords f i) || (ltb r rasterBytes || ltb s (surfaceFloats i))
 
-abbrev pub first : Bool → Check → Check → Check
-first true c rest = c
-first false c rest = rest
-
 -- what a mesh that gets a full record has
 pub record Passes (vs : List Float) (ids : List ℕ) (u : Float) : Type 0 where
-  pub floats-most : length vs ≤ 98304
-  pub ids-most : length ids ≤ 98304
+  pub floats-most : length vs ≤ mostEntries
+  pub ids-most : length ids ≤ mostEntries
   pub floats-least : 9 ≤ length vs
   pub ids-least : 3 ≤ length ids
   pub unit : T (unitFits u)
@@ -43,9 +30,9 @@ pub record Passes (vs : List Float) (ids : List ℕ) (u : Float) : Type 0 where
 -- by the floats, the ids, the unit, and the lengths of work area, raster and surface area
 unfoldable pub checkOf : List Float → List ℕ → Float → ℕ → ℕ → ℕ → Check
 checkOf vs ids u w r s =
-    first (ltb 98304 (length vs) || ltb 98304 (length ids)) (Check.Refuse 1)
-    (first (ltb (length ids) 3 || ltb (length vs) 9) Check.Zero
-    (first (not (unitFits u)) (Check.Refuse 2)
-    (first (areasShort (length vs) (length ids) w r s) (Check.Refuse 3)
-    (first (not (allFine vs)) (Check.Refuse 4)
+    cond (ltb mostEntries (length vs) || ltb mostEntries (length ids)) (Check.Refuse 1)
+    (cond (ltb (length ids) 3 || ltb (length vs) 9) Check.Zero
+    (cond (not (unitFits u)) (Check.Refuse 2)
+    (cond (areasShort (length vs) (length ids) w r s) (Check.Refuse 3)
+    (cond (not (allFine vs)) (Check.Refuse 4)
     Check.Full))))

@@ -2,7 +2,8 @@
 ghost use mathlib.Core.Path.{_≡_};
 ghost use Prim.Native.Nat.{_≤_};
 ghost use Rattle.sums.specs.Fine.{allFine};
-ghost use Rattle.refusals.specs.Refusals.{workWords, rasterBytes, unitFits, areasShort, checkOf};
+ghost use Rattle.refusals.specs.Refusals.{unitFits, areasShort, checkOf};
+ghost use Rattle.vertices.specs.Areas.{workWords, rasterBytes};
 
 pub enum Check {
     Refuse(u8),

@@ -2,11 +2,11 @@
 ghost use mathlib.Core.Path.{_≡_};
 ghost use Prim.Native.Nat.{_+_, _*_, _/_, _≤_};
 ghost use lib.ListN.{length, drop, replicate};
-ghost use Rattle.ids.specs.Triangles.{triangleCount};
-ghost use Rattle.ids.specs.EdgeChain.{overIncident};
+ghost use Rattle.ids.specs.Lent.{mostEntries};
+ghost use Rattle.vertices.specs.Areas.{workWords};
 ghost use Rattle.weld.specs.Weld.{welded};
 ghost use Rattle.verdict.specs.Verdict.{byFaces, byChain, quality as qualityOf};
-ghost use Rattle.verdict.specs.inner.Steps.{chained, isFree, openUnlessFree, words, PartsFit};
+ghost use Rattle.verdict.specs.inner.Steps.{chained, isFree, openUnlessFree, PartsFit, FacesFit};
 
 pub enum Quality {
     Closed,
@@ -42,7 +42,7 @@ fn open_unless_free(said: Chained) -> Quality
 
 // The quality of ids that are boundary-free. They stand behind the first `at` words; the face part starts the area.
 fn by_faces(area: &mut [u32], at: usize, over_incident: bool, near: bool) -> Quality
-    requires { ⌜ (at ≤ length (now area)) × (length (now area) ≤ at + 98304) × (4 * triangleCount (drop at (now area)) ≤ at) × («over_incident» ≡ overIncident (drop at (now area))) ⌝ }
+    requires { ⌜ FacesFit (now area) at «over_incident» ⌝ }
     ensures { λ r. ⌜ r ≡ byFaces (drop at (now (area .entry))) near ⌝ }
 {
     if !(over_incident | near) {
@@ -60,7 +60,7 @@ fn by_faces(area: &mut [u32], at: usize, over_incident: bool, near: bool) -> Qua
 
 // What the i ids say that stand behind the first `at` words; in front lie the edge part, then the face part.
 fn by_ids(work: &mut [u32], i: usize, at: usize, near: bool) -> Chained
-    requires { ⌜ (i ≤ 98304) × (length (now work) ≡ at + i) × (4 * i + 4 * (i / 3) ≤ at) ⌝ }
+    requires { ⌜ (i ≤ mostEntries) × (length (now work) ≡ at + i) × (4 * i + 4 * (i / 3) ≤ at) ⌝ }
     ensures { λ r. ⌜ r ≡ chained (drop at (now (work .entry))) near ⌝ }
 {
     let e = 4 * i;
@@ -134,7 +134,7 @@ pub fn classify_mesh_quality(
 ) -> Quality
     requires { ⌜ PartsFit (now vertices) (now indices) (now work) ⌝ }
     ensures { λ r. ⌜ (r ≡ qualityOf (now (vertices .entry)) (now (indices .entry)) eps volume «aabb_volume»)
-        × (now (work .exit) ≡ replicate (words (now (vertices .entry)) (now (indices .entry))) 0) ⌝ }
+        × (now (work .exit) ≡ replicate (workWords (length (now (vertices .entry))) (length (now (indices .entry)))) 0) ⌝ }
 {
     let q = judge(vertices, indices, eps, volume, aabb_volume, work);
     let n = work.len();

@@ -1,2 +1,3 @@
 -- The vertices of a mesh.
 pub mod Vertices
+pub mod Areas

@@ -64,13 +64,9 @@ trusted p most v s = lt nought most && (lt nought v && (not (collapsed p most v 
 
 -- ---- the best volume, by |volume| v, the surface area s, the box and the prism p
 
-abbrev pub orElse : Bool → Best → Best → Best
-orElse true a b = a
-orElse false a b = b
-
 unfoldable pub openBest : Float → Float → Float → Float → Best
 openBest v s box p =
-    orElse (trusted p (upper p box) v s)
+    cond (trusted p (upper p box) v s)
     (record { volume = v; method = Method.MeshOpen; reliable = true; prism = PrismBound.Bound p })
     (record { volume = p; method = Method.PrismFallback; reliable = false; prism = PrismBound.Bound p })
 

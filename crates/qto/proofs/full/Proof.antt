@@ -1,5 +1,5 @@
 -- `qto::full` meets its contract: the parts that are lent come back zero. Assumes nothing.
-use Rattle.refusals.specs.Refusals.{workWords}
+use Rattle.vertices.specs.Areas.{workWords}
 use Rattle.qto.proofs.Fronts.{front-exact, front-cleared}
 use lib.ListN.{length}
 use borrow.Author.Needs.{needs}

@@ -1,5 +1,5 @@
 -- `qto::record_by` meets its contract: by its parts. Assumes nothing.
-use Rattle.refusals.specs.Refusals.{workWords}
+use Rattle.vertices.specs.Areas.{workWords}
 use Rattle.qto.proofs.Assembled.{assembled}
 use Rattle.qto.specs.Full.{recordFrom}
 use borrow.Author.Needs.{needs}
@@ -7,11 +7,10 @@ use Rattle.qto.proofs.record_by.Statement.{statement}
 use Rattle.qto.proofs.record_by.Tie as tie
 
 classify-mesh-quality-requires : tie.Need-classify-mesh-quality-requires
-unfolding workWords
 classify-mesh-quality-requires c κs = (c .before .before .before .before .before .before .before .pre .0, c .before .before .before .before .before .before .before .pre .1, c .before .before .before .before .before .before .before .pre .4)
 
 returns : tie.Need-returns
-unfolding workWords recordFrom
+unfolding recordFrom
 returns c =
     let args = c .before .before .before .before .before .before .before .before .before .before .before .before .before .before .before .before .args in
     let the-classify-mesh-quality = c .before .before .before .before .before .before .before .before .classify-mesh-quality in

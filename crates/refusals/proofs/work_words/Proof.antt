@@ -1,12 +1,11 @@
 -- `refusals::work_words` meets its contract: the words needed are those of document 01. Assumes nothing.
 use mathlib.Core.Path.{refl}
-use Rattle.refusals.specs.Refusals.{workWords}
+use Rattle.vertices.specs.Areas.{workWords}
 use borrow.Author.Needs.{needs}
 use Rattle.refusals.proofs.work_words.Statement.{statement}
 use Rattle.refusals.proofs.work_words.Tie as tie
 
 returns : tie.Need-returns
-unfolding workWords
 returns c = refl
 
 pub work-words-spec : {M : Type 1} → statement M

@@ -26,7 +26,7 @@ module _ (c : tie.After-is-free) where
       let w = st .args .work .now in
       let front = 4 * i + 4 * (i / 3) in
       let m = 8 * vertexCount (st .args .vertices .now) in
-      asked-behind i (vertexCount (st .args .vertices .now)) w (kept .last .1 .0) (take m (take (length w - front) (drop front w))) _ (st .args .near) (asked .result) (st .pre .2) (length-in-part front m w (omega (arith, st .pre .2))) (kept .ensures) (asked .ensures)
+      asked-behind i (vertexCount (st .args .vertices .now)) w (kept .last .1 .0) (take m (take (length w - front) (drop front w))) _ (st .args .near) (asked .result) (st .pre .words) (length-in-part front m w (omega (arith, st .pre .words))) (kept .ensures) (asked .ensures)
 
   told : boundaryFree (st .args .indices .now) ≡ c .is-free .result
   told = free-is (st .args .indices .now) (st .args .near) ∙ ap isFree (sym said) ∙ sym (c .is-free .ensures)

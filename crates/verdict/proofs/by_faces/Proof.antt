@@ -21,7 +21,7 @@ module _ (c : tie.After-net-behind) where
   ids = drop (st .args .at) (st .args .area .now)
 
   asked : overIncident ids || st .args .near ≡ true
-  asked = ap (λ (b : Bool). b || st .args .near) (sym (st .pre .3)) ∙ not-false _ (c .before .before .if1 .left)
+  asked = ap (λ (b : Bool). b || st .args .near) (sym (st .pre .told)) ∙ not-false _ (c .before .before .if1 .left)
 
   largest : leb 2 (maxAbs ids) ≡ leb 2 (c .net-behind .result .«max_abs»)
   largest = ap (leb 2) (sym (c .net-behind .ensures .0))
@@ -32,7 +32,7 @@ module _ (c : tie.After-net-behind) where
 returns : tie.Need-returns
 returns c =
     let s = c .before .before in
-    sym (unasked (drop (s .args .at) (s .args .area .now)) (s .args .near) (ap (λ (b : Bool). b || s .args .near) (sym (s .pre .3)) ∙ not-true _ (c .if1 .taken)))
+    sym (unasked (drop (s .args .at) (s .args .area .now)) (s .args .near) (ap (λ (b : Bool). b || s .args .near) (sym (s .pre .told)) ∙ not-true _ (c .if1 .taken)))
 
 returns-2 : tie.Need-returns-2
 returns-2 c = let k = c .before .before .before .before in sym (one-sided (ids k) (st k .args .near) (asked k) (largest k ∙ le-leb 2 (k .net-behind .result .«max_abs») (c .if2 .taken)))

@@ -33,12 +33,14 @@ by-faces-requires : tie.Need-by-faces-requires
 by-faces-requires c κs =
     let k = c .before .before .before .before .before in
     let s = st k in
-    let w = k .chain-behind .last .0 in (
-      rw (part-to-end w (edge-part k), length-drop) (omega (arith, s .pre .1, s .pre .2, k .chain-behind .kept)),
-      rw (part-to-end w (edge-part k), length-drop) (omega (arith, s .pre .0, s .pre .1, s .pre .2, k .chain-behind .kept)),
-      rw (same k, length-drop) (omega (arith, s .pre .1, s .pre .2)),
-      rw (same k) (k .chain-behind .ensures .1),
-    )
+    let w = k .chain-behind .last .0 in
+    let n = k .chain-behind .kept in
+    record {
+      within = rw (part-to-end w (edge-part k), length-drop) (omega (arith, s .pre .1, s .pre .2, n));
+      few = rw (part-to-end w (edge-part k), length-drop) (omega (arith, s .pre .0, s .pre .1, s .pre .2, n));
+      room = rw (same k, length-drop) (omega (arith, s .pre .1, s .pre .2));
+      told = rw (same k) (k .chain-behind .ensures .1);
+    }
 
 returns-2 : tie.Need-returns-2
 returns-2 c =

@@ -16,7 +16,7 @@ returns c =
     let k = c .before .before .before .before .before .before .before .welded-indices in
     let asked = c .before .before .before .by-ids in
     c .open-unless-free .ensures
-    ∙ ap openUnlessFree (asked-behind (length (a .indices .now)) (vertexCount (a .vertices .now)) (a .work .now) (k .last .1 .1 .1 .0) (replicate (8 * vertexCount (a .vertices .now)) 0) _ (a .near) (asked .result) (s .pre .2) (length-replicate (8 * vertexCount (a .vertices .now)) 0) (k .ensures) (asked .ensures))
+    ∙ ap openUnlessFree (asked-behind (length (a .indices .now)) (vertexCount (a .vertices .now)) (a .work .now) (k .last .1 .1 .1 .0) (replicate (8 * vertexCount (a .vertices .now)) 0) _ (a .near) (asked .result) (s .pre .words) (length-replicate (8 * vertexCount (a .vertices .now)) 0) (k .ensures) (asked .ensures))
 
 pub by-welded-spec : {M : Type 1} → statement M
 by-welded-spec =

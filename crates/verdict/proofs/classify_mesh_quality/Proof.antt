@@ -16,7 +16,7 @@ returns c =
     let w = c .before .before .before .before .before .before .judge .last .1 .1 .1 .1 .1 .0 in
     let vs = s .args .vertices .now in
     let ids = s .args .indices .now in
-    let long : length w ≡ 5 * length ids + 4 * triangleCount ids + 8 * vertexCount vs = omega (arith, s .pre .2, c .before .before .before .before .before .before .judge .kept) in
+    let long : length w ≡ 5 * length ids + 4 * triangleCount ids + 8 * vertexCount vs = omega (arith, s .pre .words, c .before .before .before .before .before .before .judge .kept) in
     (c .before .before .before .before .before .before .judge .ensures, rw (← long) (c .before .before .clear .ensures ∙ cleared-all (length w) w refl))
 
 pub classify-mesh-quality-spec : {M : Type 1} → statement M

@@ -3,11 +3,12 @@ use mathlib.Core.Path.{_≡_}
 use Prim.Native.Nat.{ℕ, _+_, _*_, _≤_}
 use mathlib.Core.Bool.{Bool, true, false, cond}
 use mathlib.Core.List.{List}
-use lib.ListN.{length}
+use lib.ListN.{length, drop}
 use lib.Ieee.{Float}
-use Rattle.ids.specs.EdgeChain.{boundaryFree}
+use Rattle.ids.specs.EdgeChain.{boundaryFree, overIncident}
+use Rattle.ids.specs.Lent.{mostEntries}
 use Rattle.ids.specs.Triangles.{triangleCount}
-use Rattle.vertices.specs.Vertices.{vertexCount}
+use Rattle.vertices.specs.Areas.{workWords}
 use Rattle.verdict.specs.declared.Chained.{Chained}
 use Rattle.verdict.specs.declared.Chained.the-variants.{Boundary, Free}
 use Rattle.verdict.specs.declared.Quality.{Quality}
@@ -27,10 +28,17 @@ unfoldable pub openUnlessFree : Chained → Quality
 openUnlessFree (Free q) = q
 openUnlessFree Boundary = OpenShell
 
--- how many words edge, face, weld and id part have together
-abbrev pub words : List Float → List ℕ → ℕ
-words vs ids = 5 * length ids + 4 * triangleCount ids + 8 * vertexCount vs
+-- ---- the lent area
 
 -- no more floats and ids than the parts are made for, and just their words
-abbrev pub PartsFit : List Float → List ℕ → List ℕ → Type 0
-PartsFit vs ids w = (length vs ≤ 98304) × (length ids ≤ 98304) × (length w ≡ words vs ids)
+pub record PartsFit (vs : List Float) (ids w : List ℕ) : Type 0 where
+  pub floats-most : length vs ≤ mostEntries
+  pub ids-most : length ids ≤ mostEntries
+  pub words : length w ≡ workWords (length vs) (length ids)
+
+-- ids stand behind the first `at` words, there is room for their face part in front of them, and `over` says whether their chain is over-incident
+pub record FacesFit (area : List ℕ) (at : ℕ) (over : Bool) : Type 0 where
+  pub within : at ≤ length area
+  pub few : length area ≤ at + mostEntries
+  pub room : 4 * triangleCount (drop at area) ≤ at
+  pub told : over ≡ overIncident (drop at area)

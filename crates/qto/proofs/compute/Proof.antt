@@ -6,29 +6,42 @@ use borrow.Author.Needs.{needs}
 use Rattle.qto.proofs.compute.Statement.{statement}
 use Rattle.qto.proofs.compute.Tie as tie
 
+abbrev start : tie.After-checked → tie.Start
+start c = c .before .before .before .before .before .before
+
 enum-told : tie.Need-enum-told
 enum-told c = search needs
 
 full-requires : tie.Need-full-requires
 full-requires c κs =
-    let args = c .before .before .before .before .before .before .before .before .before .before .before .args in
-    let a = admitted (args .vertices .now) (args .indices .now) (args .unit-scale) (length (args .work .now)) (length (args .raster .now)) (length (args .surfaces .now)) _ (c .before .before .before .enum-told2 .given .1) (c .before .before .before .before .before .checked .ensures) in (a .mesh, a .work, a .raster, a .surfaces)
+    let told = c .before .before .before in
+    let checked = told .before .before in
+    let a = start checked .args in
+    admitted (a .vertices .now) (a .indices .now) (a .unit-scale) (length (a .work .now)) (length (a .raster .now)) (length (a .surfaces .now)) _
+    (told .enum-told2 .given .1) (checked .checked .ensures)
 
 returns : tie.Need-returns
 returns c =
-    let args = c .before .before .before .before .before .before .before .before .before .args in
-    refused (args .vertices .now) (args .indices .now) (args .unit-scale) (args .work .now) (args .raster .now) (args .surfaces .now) _ _ (c .before .c .given .1) (c .before .before .before .checked .ensures)
+    let k = c .before .before .before in
+    let a = start k .args in
+    refused (a .vertices .now) (a .indices .now) (a .unit-scale) (a .work .now) (a .raster .now) (a .surfaces .now) (k .checked .result)
+    (k .checked .ensures) _ (c .before .c .given .1)
 
 returns-2 : tie.Need-returns-2
 returns-2 c =
-    let args = c .before .before .before .before .before .before .before .before .before .args in
-    zero (args .vertices .now) (args .indices .now) (args .unit-scale) (args .work .now) (args .raster .now) (args .surfaces .now) _ _ (c .before .enum-told .given .1) (c .before .before .before .checked .ensures) (c .zero-record .ensures)
+    let k = c .before .before .before in
+    let a = start k .args in
+    zero (a .vertices .now) (a .indices .now) (a .unit-scale) (a .work .now) (a .raster .now) (a .surfaces .now) (k .checked .result)
+    (k .checked .ensures) _ (c .before .enum-told .given .1) (c .zero-record .ensures)
 
 returns-3 : tie.Need-returns-3
 returns-3 c =
-    let args = c .before .before .before .before .before .before .before .before .before .before .before .before .before .before .before .before .before .before .args in
-    let the-full = c .before .before .before .before .before .before .full in
-    full (args .vertices .now) (args .indices .now) (args .unit-scale) (args .work .now) (args .raster .now) (args .surfaces .now) _ _ _ _ _ (c .before .before .before .before .before .before .before .before .before .before .enum-told2 .given .1) (c .before .before .before .before .before .before .before .before .before .before .before .before .checked .ensures) (the-full .ensures .0) (the-full .ensures .1) (the-full .ensures .2) (the-full .ensures .3)
+    let done = c .before .before .before .before .before .before in
+    let told = done .before .before .before .before in
+    let k = told .before .before in
+    let a = start k .args in
+    full (a .vertices .now) (a .indices .now) (a .unit-scale) (a .work .now) (a .raster .now) (a .surfaces .now) (k .checked .result)
+    (k .checked .ensures) (told .enum-told2 .given .1) (done .full .ensures)
 
 pub compute-spec : {M : Type 1} → statement M
 compute-spec =

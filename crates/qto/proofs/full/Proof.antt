@@ -1,22 +1,46 @@
 -- `qto::full` meets its contract: the parts that are lent come back zero. Assumes nothing.
-use Rattle.vertices.specs.Areas.{workWords}
+use Rattle.vertices.specs.Areas.{workWords, rasterBytes}
 use Rattle.qto.proofs.Fronts.{front-exact, front-cleared}
+use Prim.Native.Nat.{ℕ}
 use lib.ListN.{length}
 use borrow.Author.Needs.{needs}
 use Rattle.qto.proofs.full.Statement.{statement}
 use Rattle.qto.proofs.full.Tie as tie
 
+-- the numbers that the code has of words and bytes
+module _ (c : tie.After-raster-bytes) where
+  abbrev sized : tie.After-work-words
+  sized = c .before
+
+  abbrev start : tie.Start
+  start = sized .before .before .before .before .before .before
+
+  abbrev words : ℕ
+  words = workWords (length (start .args .vertices .now)) (length (start .args .indices .now))
+
 record-in-requires : tie.Need-record-in-requires
 record-in-requires c κs =
-    let start = c .before .before .before .before .before .before .before .before .before .before in
-    let args = start .args in
-    (start .pre .0, front-exact (workWords (length (args .vertices .now)) (length (args .indices .now))) _ (args .work .now) (c .before .before .before .before .work-words .ensures) (start .pre .1), front-exact 65536 _ (args .raster .now) (c .before .before .before .raster-bytes .ensures) (start .pre .2), start .pre .3)
+    let k = c .before .before .before in
+    let s = start k in
+    record {
+      mesh = s .pre .mesh;
+      words = front-exact (words k) _ (s .args .work .now) (sized k .work-words .ensures) (s .pre .work);
+      bytes = front-exact rasterBytes _ (s .args .raster .now) (k .raster-bytes .ensures) (s .pre .raster);
+      room = s .pre .surfaces;
+    }
 
 returns : tie.Need-returns
 returns c =
-    let args = c .before .before .before .before .before .before .before .before .before .before .before .before .before .before .before .before .before .args in
-    let the-record-in = c .before .before .before .before .before .before .record-in in
-    (the-record-in .ensures .0, front-cleared (workWords (length (args .vertices .now)) (length (args .indices .now))) _ (args .work .now) (the-record-in .last .1 .1 .1 .0) (c .before .before .before .before .before .before .before .before .before .before .before .work-words .ensures) (the-record-in .ensures .1), front-cleared 65536 _ (args .raster .now) (the-record-in .last .1 .1 .1 .1 .0) (c .before .before .before .before .before .before .before .before .before .before .raster-bytes .ensures) (the-record-in .ensures .2), the-record-in .ensures .3)
+    let last = c .before .before .before .before .before .before in
+    let k = last .before .before .before .before in
+    let a = start k .args in
+    let q = last .record-in in
+    record {
+      is = q .ensures .is;
+      work = front-cleared (words k) _ (a .work .now) (q .last .1 .1 .1 .0) (sized k .work-words .ensures) (q .ensures .work);
+      raster = front-cleared rasterBytes _ (a .raster .now) (q .last .1 .1 .1 .1 .0) (k .raster-bytes .ensures) (q .ensures .raster);
+      surfaces = q .ensures .surfaces;
+    }
 
 pub full-spec : {M : Type 1} → statement M
 full-spec =

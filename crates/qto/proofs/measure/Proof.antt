@@ -1,28 +1,67 @@
 -- `qto::measure` meets its contract: by what the walk left in the surface area. Assumes nothing.
-use Rattle.qto.proofs.Measured.{few, front-length, front-plain, measured, rows-after}
+use Rattle.qto.proofs.Measured.{Found, few, arrangeable, measured, rows-after}
 use borrow.Rule.Slice.PartMut.{post-is}
+use mathlib.Core.List.{List}
 use Prim.Native.Nat.{_*_, _-_}
 use native.Mathlib.Omega.{arith}
 use borrow.Author.Needs.{needs}
+use lib.Ieee.{Float}
 use Rattle.qto.proofs.measure.Statement.{statement}
 use Rattle.qto.proofs.measure.Tie as tie
 
+abbrev start : tie.After-origin → tie.Start
+start c = c .before .before .before .before .before .before
+
+-- what the walk was given and left
+module _ (c : tie.After-walk) where
+  abbrev from-origin : tie.After-origin
+  from-origin = c .before .before .before .before
+
+  abbrev s : tie.Start
+  s = start from-origin
+
+  abbrev u : Float
+  u = s .args .unit-scale
+
+  abbrev area : List Float
+  area = c .walk .last .1 .1 .1 .1 .1 .0
+
+  found : Found (s .args .vertices .now) (s .args .indices .now) (s .args .b) (from-origin .origin .result) (c .before .before .before .house-rule .result)
+      (s .args .surfaces .now) (c .walk .result) area
+  found =
+      record {
+        is-box = s .pre .is-box;
+        is-origin = from-origin .origin .ensures;
+        is-pair = c .before .before .before .house-rule .ensures;
+        walked = c .walk .ensures;
+      }
+
 arrange-requires : tie.Need-arrange-requires
 arrange-requires c κs =
-    let args = c .before .before .before .before .before .before .before .before .before .before .before .before .before .before .before .before .args in
-    let the-origin = c .before .before .before .before .before .before .before .before .before .before .origin in
-    let the-house-rule = c .before .before .before .before .before .before .before .before .before .house-rule in
-    let the-walk = c .before .before .before .before .before .before .walk in
-    (few (args .vertices .now) (args .indices .now) (args .unit-scale) (args .b) (the-origin .result) (the-house-rule .result) (args .surfaces .now) (the-walk .result) (the-walk .last .1 .1 .1 .1 .1 .0) (c .before .before .before .before .before .before .before .before .before .before .before .before .before .before .before .before .pre .2) (the-origin .ensures) (the-house-rule .ensures) (the-walk .ensures) (c .before .before .before .before .before .before .before .before .before .before .before .before .before .before .before .before .pre .0), front-length (args .vertices .now) (args .indices .now) (args .unit-scale) (args .b) (the-origin .result) (the-house-rule .result) (args .surfaces .now) (the-walk .result) (the-walk .last .1 .1 .1 .1 .1 .0) (c .before .before .before .before .before .before .before .before .before .before .before .before .before .before .before .before .pre .2) (the-origin .ensures) (the-house-rule .ensures) (the-walk .ensures) (4 * the-walk .result .rows - 0) (omega arith), front-plain (args .vertices .now) (args .indices .now) (args .unit-scale) (args .b) (the-origin .result) (the-house-rule .result) (args .surfaces .now) (the-walk .result) (the-walk .last .1 .1 .1 .1 .1 .0) (c .before .before .before .before .before .before .before .before .before .before .before .before .before .before .before .before .pre .2) (the-origin .ensures) (the-house-rule .ensures) (the-walk .ensures) (4 * the-walk .result .rows - 0) (omega arith) (c .before .before .before .before .before .before .before .before .before .before .before .before .before .before .before .before .pre .3) (c .before .before .before .before .before .before .before .before .before .before .before .before .before .before .before .before .pre .4))
+    let k = c .before .before .before .before .before .before in
+    arrangeable (u k) (found k) (4 * k .walk .result .rows - 0) (omega arith) (s k .pre .mesh)
+
+-- where the rows were arranged
+abbrev lent : tie.After-arrange → tie.After-slice-known4
+lent c = c .before .before .before
+
+abbrev at-walk : tie.After-arrange → tie.After-walk
+at-walk c = lent c .before .before .before .before
 
 returns : tie.Need-returns
 returns c =
-    let args = c .before .before .before .before .before .before .before .before .before .before .before .before .before .before .before .before .before .before .before .before .before .before .before .before .before .before .before .before .args in
-    let the-origin = c .before .before .before .before .before .before .before .before .before .before .before .before .before .before .before .before .before .before .before .before .before .before .origin in
-    let the-house-rule = c .before .before .before .before .before .before .before .before .before .before .before .before .before .before .before .before .before .before .before .before .before .house-rule in
-    let the-walk = c .before .before .before .before .before .before .before .before .before .before .before .before .before .before .before .before .before .before .walk in
-    let the-arrange = c .before .before .before .before .before .before .before .before .before .before .before .arrange in
-    (measured (args .vertices .now) (args .indices .now) (args .unit-scale) (args .b) (the-origin .result) (the-house-rule .result) (args .surfaces .now) (the-walk .result) (the-walk .last .1 .1 .1 .1 .1 .0) (c .before .before .before .before .before .before .before .before .before .before .before .before .before .before .before .before .before .before .before .before .before .before .before .before .before .before .before .before .pre .2) (the-origin .ensures) (the-house-rule .ensures) (the-walk .ensures) (4 * the-walk .result .rows - 0) (omega arith) _ _ _ _ _ _ (the-arrange .ensures .0) (the-arrange .ensures .1) (c .before .before .before .before .before .before .before .narrow .ensures) (c .before .before .before .before .before .before .before .before .before .before .before .before .before .before .before .before .before .before .before .before .before .before .before .f32-to-f64-with-nan .ensures) (c .before .before .before .before .narrow2 .ensures) (c .before .before .before .before .before .before .f32-to-f64-with-nan2 .ensures), few (args .vertices .now) (args .indices .now) (args .unit-scale) (args .b) (the-origin .result) (the-house-rule .result) (args .surfaces .now) (the-walk .result) (the-walk .last .1 .1 .1 .1 .1 .0) (c .before .before .before .before .before .before .before .before .before .before .before .before .before .before .before .before .before .before .before .before .before .before .before .before .before .before .before .before .pre .2) (the-origin .ensures) (the-house-rule .ensures) (the-walk .ensures) (c .before .before .before .before .before .before .before .before .before .before .before .before .before .before .before .before .before .before .before .before .before .before .before .before .before .before .before .before .pre .0), rows-after (args .vertices .now) (args .indices .now) (args .unit-scale) (args .b) (the-origin .result) (the-house-rule .result) (args .surfaces .now) (the-walk .result) (the-walk .last .1 .1 .1 .1 .1 .0) (c .before .before .before .before .before .before .before .before .before .before .before .before .before .before .before .before .before .before .before .before .before .before .before .before .before .before .before .before .pre .2) (the-origin .ensures) (the-house-rule .ensures) (the-walk .ensures) (4 * the-walk .result .rows - 0) (omega arith) _ _ (the-arrange .ensures .2) (post-is 0 (4 * the-walk .result .rows) (the-walk .last .1 .1 .1 .1 .1 .0) (omega arith)))
+    let after = c .before .before .before .before .before in
+    let last = after .before .before .before .before .before .before in
+    let k = at-walk last in
+    let front = 4 * k .walk .result .rows in
+    let e = last .arrange in
+    record {
+      is =
+          measured (u k) (found k) (front - 0) (omega arith) (e .result) _ (e .ensures) _ _ _ _ (after .before .before .narrow .ensures)
+          (from-origin k .before .f32-to-f64-with-nan .ensures) (c .before .before .before .before .narrow2 .ensures) (after .before .f32-to-f64-with-nan2 .ensures);
+      few = few (u k) (found k) (s k .pre .mesh .ids-most);
+      later = rows-after (u k) (found k) (front - 0) (omega arith) (e .result) _ (e .ensures) _ (post-is 0 front (area k) (omega arith));
+    }
 
 pub measure-spec : {M : Type 1} → statement M
 measure-spec =

@@ -9,28 +9,55 @@ use borrow.Author.Needs.{needs}
 use Rattle.qto.proofs.record_in.Statement.{statement}
 use Rattle.qto.proofs.record_in.Tie as tie
 
+abbrev start : tie.After-box-of → tie.Start
+start c = c .before .before .before .before .before .before
+
+abbrev at-box : tie.After-measure → tie.After-box-of
+at-box c = c .before .before .before
+
 part-measure-end : tie.Need-part-measure-end
-part-measure-end c = let start = c .before .before .before .before .before .before in index-fits _ (length (start .args .indices .now)) _ (start .pre .1)
+part-measure-end c = let s = start c in index-fits _ (length (s .args .indices .now)) _ (s .pre .words)
 
 measure-requires : tie.Need-measure-requires
 measure-requires c κs =
-    let start = c .before .before .before .before .before .before .before .before in
-    let args = start .args in
-    let mesh = start .pre .0 in
-    (mesh .ids-most, mesh .ids-least, c .before .before .box-of .ensures, mesh .unit, mesh .fine, front-exact (5 * triangleCount (args .indices .now)) _ (args .work .now) refl (index-fits _ (length (args .indices .now)) _ (start .pre .1)), start .pre .3)
+    let boxed = c .before .before in
+    let s = start boxed in
+    let fits = index-fits _ (length (s .args .indices .now)) _ (s .pre .words) in
+    record {
+      mesh = s .pre .mesh;
+      is-box = boxed .box-of .ensures;
+      index-words = front-exact (5 * triangleCount (s .args .indices .now)) _ (s .args .work .now) refl fits;
+      room = s .pre .room;
+    }
 
 record-by-requires : tie.Need-record-by-requires
 record-by-requires c κs =
-    let args = c .before .before .before .before .before .before .before .before .before .before .before .before .before .before .before .args in
-    let the-measure = c .before .before .before .before .before .before .measure in
-    (c .before .before .before .before .before .before .before .before .before .before .before .before .before .before .before .pre .0 .floats-most, c .before .before .before .before .before .before .before .before .before .before .before .before .before .before .before .pre .0 .ids-most, c .before .before .before .before .before .before .before .before .before .box-of .ensures, the-measure .ensures .1, front-kept (5 * (length (args .indices .now) / 3)) (args .work .now) (the-measure .last .1 .1 .1 .1 .0) (the-measure .kept .1 .1 .1 .1 .0) ∙ c .before .before .before .before .before .before .before .before .before .before .before .before .before .before .before .pre .1, c .before .before .before .before .before .before .before .before .before .before .before .before .before .before .before .pre .2)
+    let measured = c .before .before .before .before .before .before in
+    let boxed = at-box measured in
+    let s = start boxed in
+    let i = 5 * (length (s .args .indices .now) / 3) in
+    record {
+      floats-most = s .pre .mesh .floats-most;
+      ids-most = s .pre .mesh .ids-most;
+      is-box = boxed .box-of .ensures;
+      few = measured .measure .ensures .few;
+      words = front-kept i (s .args .work .now) (measured .measure .last .1 .1 .1 .1 .0) (measured .measure .kept .1 .1 .1 .1 .0) ∙ s .pre .words;
+      bytes = s .pre .bytes;
+    }
 
 returns : tie.Need-returns
 returns c =
-    let args = c .before .before .before .before .before .before .before .before .before .before .before .before .before .before .before .before .before .before .before .before .args in
-    let the-measure = c .before .before .before .before .before .before .before .before .before .before .before .measure in
-    let the-record-by = c .before .before .before .before .record-by in
-    (of-mesh (args .vertices .now) (args .indices .now) (args .unit-scale) (the-measure .result) (the-record-by .result) (the-measure .ensures .0) (the-record-by .ensures .0), the-record-by .ensures .1, the-record-by .ensures .2, the-measure .ensures .2)
+    let recorded = c .before .before .before .before in
+    let measured = recorded .before .before .before .before .before .before .before in
+    let a = start (at-box measured) .args in
+    let m = measured .measure in
+    let q = recorded .record-by in
+    record {
+      is = of-mesh (a .vertices .now) (a .indices .now) (a .unit-scale) (m .result) (q .result) (m .ensures .is) (q .ensures .is);
+      work = q .ensures .work;
+      raster = q .ensures .raster;
+      surfaces = m .ensures .later;
+    }
 
 pub record-in-spec : {M : Type 1} → statement M
 record-in-spec =

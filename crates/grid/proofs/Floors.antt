@@ -36,13 +36,15 @@ unfolding clamped
 clamped-low m zero = refl
 clamped-low m (suc k) = least-zero m
 
-pub clamped-floor : (m : ℕ) (q : Float) → m < 2 ^ 63 → T (fits binary32 q) → clamped m (toSigned 63 (floor binary32 q)) ≡ min (toUnsigned 64 q) m
+pub clamped-floor : (m : ℕ) (q : Float) → m < 2 ^ 63 → T (fits binary32 q)
+    → clamped m (toSigned 63 (floor binary32 q)) ≡ min (toUnsigned 64 q) m
 unfolding integral toUnsigned
 clamped-floor m nan l t = unfold clamped toSigned in refl
 clamped-floor m (inf true) l t = unfold toSigned in clamped-low m (2 ^ 63)
 clamped-floor m (inf false) l t = unfold clamped toSigned in ends m 0 (2 ^ 63) (2 ^ 64) l (omega arith)
 clamped-floor m (fin true n e) l t = let k = floor-down binary32 63 n e t in rw (k .1) (clamped-low m (k .0))
-clamped-floor m (fin false n e) l t = rw (floor-up binary32 63 n e t) (unfold clamped in both-ends m (n * up e / down e) (2 ^ 63) (2 ^ 64) l (omega arith))
+clamped-floor m (fin false n e) l t =
+    rw (floor-up binary32 63 n e t) (unfold clamped in both-ends m (n * up e / down e) (2 ^ 63) (2 ^ 64) l (omega arith))
 
 -- ---- by comparing with m, which the format has, and with 1
 smaller : (a m : ℕ) → a ≤ m → a ≡ min a m

@@ -70,7 +70,8 @@ module _ (px py : Float) (t : Flat) where
   pub first-positive : lt d-less d ≡ true → not (lt e e-less || lt f f-less) ≡ pointIn px py t
   first-positive h = rw (in-products, h, lt-asym d-less d h, and-true (lt e e-less || lt f f-less))
 
-  pub first-neither : lt d d-less ≡ false → lt d-less d ≡ false → not ((lt e e-less && lt f-less f) || (lt e-less e && lt f f-less)) ≡ pointIn px py t
+  pub first-neither : lt d d-less ≡ false → lt d-less d ≡ false
+      → not ((lt e e-less && lt f-less f) || (lt e-less e && lt f f-less)) ≡ pointIn px py t
   first-neither h k =
       rw (in-products, h, k)
       (ap not (differ (lt e e-less) (lt e-less e) (lt f f-less) (lt f-less f) (lt-asym e e-less) (lt-asym f f-less)))

@@ -37,7 +37,8 @@ placeOf d e f = placeBy (someNegative d e f) (somePositive d e f) (someZero d e 
 -- the three values are the sides of the point by a to b, b to c and c to a
 unfoldable pub place : Float → Float → Flat → Place
 place px py t =
-    placeOf (side px py (t .ax) (t .ay) (t .bx) (t .by)) (side px py (t .bx) (t .by) (t .cx) (t .cy)) (side px py (t .cx) (t .cy) (t .ax) (t .ay))
+    placeOf (side px py (t .ax) (t .ay) (t .bx) (t .by)) (side px py (t .bx) (t .by) (t .cx) (t .cy))
+    (side px py (t .cx) (t .cy) (t .ax) (t .ay))
 
 -- edges included
 unfoldable pub notOutside : Place → Bool

@@ -1,4 +1,5 @@
--- What the groups are: none is empty, each element is in the groups as often as in the list, a chain of joined elements leads between any two of a group, and
+-- What the groups are: none is empty, each element is in the groups as often as in the list, a chain of joined elements leads between any
+-- two of a group, and
 -- none leads out of one. `pieces` counts these classes of the distinct-id triangles. Assumes nothing.
 use mathlib.Core.Path.{_≡_, refl, sym, _∙_, subst}
 use mathlib.Core.Bool.{Bool, true, false, cond, false≢true}
@@ -12,7 +13,8 @@ use Rattle.ids.specs.Triangles.{triangle}
 use Rattle.ids.specs.Pieces.{any, touched, groups, shareId, solids, pieces}
 use Rattle.ids.specs.Classes.{mem, Chain, Each, AreClasses}
 use Rattle.ids.specs.Classes.Chain.{here, step}
-use Rattle.ids.proofs.Groups.{Group, total, witness, mem-append, or-cases, or-left, or-right, each-apart, each-map, part-mem, are-groups}
+use Rattle.ids.proofs.Groups.{Group, total, witness, mem-append, or-cases, or-left, or-right, each-apart, each-map, part-mem}
+use Rattle.ids.proofs.Groups.{are-groups}
 use Rattle.ids.proofs.Shared.{share-both}
 
 module _ (joined : ℕ → ℕ → Bool) (both : (x y : ℕ) → joined x y ≡ true → joined y x ≡ true) where
@@ -32,16 +34,19 @@ module _ (joined : ℕ → ℕ → Bool) (both : (x y : ℕ) → joined x y ≡ 
   abbrev Tied : List ℕ → List ℕ → Type 0
   Tied ts g = (x y : ℕ) → mem x g ≡ true → mem y g ≡ true → Chain joined ts x y
 
-  touched-tied : (t : ℕ) (ts : List ℕ) (gs : List (List ℕ)) → Each (Group joined ts) gs → Each (Tied ts) gs → (x : ℕ) → mem x (touched (joined t) gs) ≡ true → Chain joined (t ∷ ts) t x
+  touched-tied : (t : ℕ) (ts : List ℕ) (gs : List (List ℕ)) → Each (Group joined ts) gs → Each (Tied ts) gs → (x : ℕ)
+      → mem x (touched (joined t) gs) ≡ true → Chain joined (t ∷ ts) t x
   unfolding touched any
   touched-tied t ts [] e o x m = absurd (false≢true m)
   touched-tied t ts (g ∷ gs) e o x m = go (any (joined t) g) refl m (touched-tied t ts gs (e .1) (o .1) x)
     where
-      go : (b : Bool) → any (joined t) g ≡ b → mem x (cond b (g ++ touched (joined t) gs) (touched (joined t) gs)) ≡ true → (mem x (touched (joined t) gs) ≡ true → Chain joined (t ∷ ts) t x) → Chain joined (t ∷ ts) t x
+      go : (b : Bool) → any (joined t) g ≡ b → mem x (cond b (g ++ touched (joined t) gs) (touched (joined t) gs)) ≡ true
+          → (mem x (touched (joined t) gs) ≡ true → Chain joined (t ∷ ts) t x) → Chain joined (t ∷ ts) t x
       go true n m ih =
           let w = witness (joined t) g n in
           or-cases (mem x g) (mem x (touched (joined t) gs)) (sym (mem-append x g _) ∙ m)
-          (λ q. step (or-left (eqb t t) _ (eq-eqb t t refl)) (or-right (eqb (w .0) t) _ (part-mem g ts (e .0 .part) (w .0) (w .1))) (w .2) (wider t (o .0 (w .0) x (w .1) q))) ih
+          (λ q. step (or-left (eqb t t) _ (eq-eqb t t refl)) (or-right (eqb (w .0) t) _ (part-mem g ts (e .0 .part) (w .0) (w .1)))
+          (w .2) (wider t (o .0 (w .0) x (w .1) q))) ih
       go false n m ih = ih m
 
   tied-next : (t : ℕ) (ts : List ℕ) → Each (Tied ts) (groups joined ts) → Each (Tied (t ∷ ts)) (groups joined (t ∷ ts))
@@ -49,7 +54,10 @@ module _ (joined : ℕ → ℕ → Bool) (both : (x y : ℕ) → joined x y ≡ 
   tied-next t ts o = (first, each-apart (joined t) (groups joined ts) (λ g k n x y mx my. wider t (k x y mx my)) o)
     where
       from : (x : ℕ) → mem x (t ∷ touched (joined t) (groups joined ts)) ≡ true → Chain joined (t ∷ ts) t x
-      from x m = or-cases (eqb x t) (mem x (touched (joined t) (groups joined ts))) m (λ e. subst (Chain joined (t ∷ ts) t) (sym (eqb-true x t e)) here) (λ e. touched-tied t ts (groups joined ts) (are-groups joined both ts) o x e)
+      from x m =
+          or-cases (eqb x t) (mem x (touched (joined t) (groups joined ts))) m
+          (λ e. subst (Chain joined (t ∷ ts) t) (sym (eqb-true x t e)) here)
+          (λ e. touched-tied t ts (groups joined ts) (are-groups joined both ts) o x e)
 
       first : Tied (t ∷ ts) (t ∷ touched (joined t) (groups joined ts))
       first x y mx my = then (back (from x mx)) (from y my)
@@ -73,13 +81,15 @@ module _ (joined : ℕ → ℕ → Bool) (both : (x y : ℕ) → joined x y ≡ 
 
   -- the groups are the classes of the relation that the joins generate
   pub groups-are-classes : (ts : List ℕ) → AreClasses joined ts (groups joined ts)
-  groups-are-classes ts = record { some = some-of ts; once = λ x. total (λ y. bit (eqb x y)) joined ts; tied = tied ts; closed = chained ts }
+  groups-are-classes ts =
+      record { some = some-of ts; once = λ x. total (λ y. bit (eqb x y)) joined ts; tied = tied ts; closed = chained ts }
 
 -- do triangles s and t share an id?
 abbrev pub sharing : List ℕ → ℕ → ℕ → Bool
 sharing ids s t = shareId (triangle ids s) (triangle ids t)
 
 -- the classes of the distinct-id triangles that chains of shared ids make; `pieces` counts them
-pub pieces-are-classes : (ids : List ℕ) → AreClasses (sharing ids) (solids ids) (groups (sharing ids) (solids ids)) × (pieces shareId ids ≡ length (groups (sharing ids) (solids ids)))
+pub pieces-are-classes : (ids : List ℕ) → AreClasses (sharing ids) (solids ids) (groups (sharing ids) (solids ids))
+    × (pieces shareId ids ≡ length (groups (sharing ids) (solids ids)))
 unfolding pieces
 pieces-are-classes ids = (groups-are-classes (sharing ids) (λ x y h. share-both (triangle ids x) (triangle ids y) h) (solids ids), refl)

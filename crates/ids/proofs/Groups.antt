@@ -1,4 +1,5 @@
--- The groups of a list, and labels: a labelling that is as coarse as the joins ask, and no coarser, has one element that is its own label in each group.
+-- The groups of a list, and labels: a labelling that is as coarse as the joins ask, and no coarser, has one element that is its own label
+-- in each group.
 -- Assumes nothing.
 use mathlib.Core.Path.{_≡_, refl, sym, ap, _∙_, subst}
 use mathlib.Core.Bool.{Bool, true, false, cond, _||_, true≢false, false≢true}
@@ -31,12 +32,16 @@ or-left false b h = absurd (false≢true h)
 pub witness : (p : ℕ → Bool) (l : List ℕ) → any p l ≡ true → (x : ℕ) × (mem x l ≡ true) × (p x ≡ true)
 unfolding any
 witness p [] h = absurd (false≢true h)
-witness p (x ∷ l) h = or-cases (p x) (any p l) h (λ q. (x, or-left (eqb x x) _ (eq-eqb x x refl), q)) (λ q. let r = witness p l q in (r .0, or-right (eqb (r .0) x) _ (r .1), r .2))
+witness p (x ∷ l) h =
+    or-cases (p x) (any p l) h (λ q. (x, or-left (eqb x x) _ (eq-eqb x x refl), q))
+    (λ q. let r = witness p l q in (r .0, or-right (eqb (r .0) x) _ (r .1), r .2))
 
 pub any-of : (p : ℕ → Bool) (l : List ℕ) (x : ℕ) → mem x l ≡ true → p x ≡ true → any p l ≡ true
 unfolding any
 any-of p [] x h q = absurd (false≢true h)
-any-of p (y ∷ l) x h q = or-cases (eqb x y) (mem x l) h (λ e. or-left (p y) _ (subst (λ (z : ℕ). p z ≡ true) (eqb-true x y e) q)) (λ e. or-right (p y) _ (any-of p l x e q))
+any-of p (y ∷ l) x h q =
+    or-cases (eqb x y) (mem x l) h (λ e. or-left (p y) _ (subst (λ (z : ℕ). p z ≡ true) (eqb-true x y e) q))
+    (λ e. or-right (p y) _ (any-of p l x e q))
 
 pub mem-append : (x : ℕ) (l m : List ℕ) → mem x (l ++ m) ≡ mem x l || mem x m
 unfolding any
@@ -58,7 +63,9 @@ unfolding touched apart sumBy
 split-sum w p [] = omega arith
 split-sum w p (g ∷ gs) = go (any p g) (split-sum w p gs)
   where
-    go : (b : Bool) → sumBy w (touched p gs) + sumBy (sumBy w) (apart p gs) ≡ sumBy (sumBy w) gs → sumBy w (cond b (g ++ touched p gs) (touched p gs)) + sumBy (sumBy w) (cond b (apart p gs) (g ∷ apart p gs)) ≡ sumBy w g + sumBy (sumBy w) gs
+    go : (b : Bool) → sumBy w (touched p gs) + sumBy (sumBy w) (apart p gs) ≡ sumBy (sumBy w) gs
+        → sumBy w (cond b (g ++ touched p gs) (touched p gs)) + sumBy (sumBy w) (cond b (apart p gs) (g ∷ apart p gs))
+        ≡ sumBy w g + sumBy (sumBy w) gs
     go true h = omega (arith, sum-append w g (touched p gs))
     go false h = omega arith
 
@@ -89,7 +96,8 @@ pub each-map : {P Q : List ℕ → Type 0} (gs : List (List ℕ)) → ((g : List
 each-map [] f e = tt
 each-map (g ∷ gs) f e = (f g (e .0), each-map gs f (e .1))
 
-pub each-apart : {P Q : List ℕ → Type 0} (p : ℕ → Bool) (gs : List (List ℕ)) → ((g : List ℕ) → P g → any p g ≡ false → Q g) → Each P gs → Each Q (apart p gs)
+pub each-apart : {P Q : List ℕ → Type 0} (p : ℕ → Bool) (gs : List (List ℕ)) → ((g : List ℕ) → P g → any p g ≡ false → Q g)
+    → Each P gs → Each Q (apart p gs)
 unfolding apart
 each-apart p [] f e = tt
 each-apart {P} {Q} p (g ∷ gs) f e = go (any p g) refl (each-apart p gs f (e .1))
@@ -127,13 +135,17 @@ module _ (joined : ℕ → ℕ → Bool) (both : (x y : ℕ) → joined x y ≡ 
           rest : mem y g ≡ false → 0 < sumBy (times y) gs
           rest q = elim (decLt 0 (times y g)) [ yes l ↦ absurd (true≢false (sym (mem-times y g l) ∙ q)) | no l ↦ omega arith ]
 
-  touched-shut : (p : ℕ → Bool) (ts : List ℕ) (gs : List (List ℕ)) → Each (Group joined ts) gs → (x y : ℕ) → mem y ts ≡ true → joined x y ≡ true → mem x (touched p gs) ≡ true → mem y (touched p gs) ≡ true
+  touched-shut : (p : ℕ → Bool) (ts : List ℕ) (gs : List (List ℕ)) → Each (Group joined ts) gs → (x y : ℕ) → mem y ts ≡ true
+      → joined x y ≡ true → mem x (touched p gs) ≡ true → mem y (touched p gs) ≡ true
   unfolding touched any
   touched-shut p ts [] e x y my j mx = absurd (false≢true mx)
   touched-shut p ts (g ∷ gs) e x y my j mx = go (any p g) mx (touched-shut p ts gs (e .1) x y my j)
     where
-      go : (b : Bool) → mem x (cond b (g ++ touched p gs) (touched p gs)) ≡ true → (mem x (touched p gs) ≡ true → mem y (touched p gs) ≡ true) → mem y (cond b (g ++ touched p gs) (touched p gs)) ≡ true
-      go true m ih = mem-append y g _ ∙ or-cases (mem x g) (mem x (touched p gs)) (sym (mem-append x g _) ∙ m) (λ q. or-left (mem y g) _ (e .0 .shut x y my j q)) (λ q. or-right (mem y g) _ (ih q))
+      go : (b : Bool) → mem x (cond b (g ++ touched p gs) (touched p gs)) ≡ true
+          → (mem x (touched p gs) ≡ true → mem y (touched p gs) ≡ true) → mem y (cond b (g ++ touched p gs) (touched p gs)) ≡ true
+      go true m ih =
+          mem-append y g _ ∙ or-cases (mem x g) (mem x (touched p gs)) (sym (mem-append x g _) ∙ m)
+          (λ q. or-left (mem y g) _ (e .0 .shut x y my j q)) (λ q. or-right (mem y g) _ (ih q))
       go false m ih = ih m
 
   -- one element more
@@ -144,10 +156,12 @@ module _ (joined : ℕ → ℕ → Bool) (both : (x y : ℕ) → joined x y ≡ 
       gs : List (List ℕ)
       gs = groups joined ts
 
-      news : (x y : ℕ) → mem y (t ∷ ts) ≡ true → joined x y ≡ true → mem x (t ∷ touched (joined t) gs) ≡ true → mem y (t ∷ touched (joined t) gs) ≡ true
+      news : (x y : ℕ) → mem y (t ∷ ts) ≡ true → joined x y ≡ true → mem x (t ∷ touched (joined t) gs) ≡ true
+          → mem y (t ∷ touched (joined t) gs) ≡ true
       news x y my j mx = or-cases (eqb y t) (mem y ts) my (λ e. or-left (eqb y t) _ e) (λ e. or-right (eqb y t) _
           (or-cases (eqb x t) (mem x (touched (joined t) gs)) mx
-          (λ q. touched-covers t y gs (omega (arith, total (λ z. bit (eqb y z)) joined ts, times-mem y ts e)) (subst (λ (z : ℕ). joined z y ≡ true) (eqb-true x t q) j))
+          (λ q. touched-covers t y gs (omega (arith, total (λ z. bit (eqb y z)) joined ts, times-mem y ts e))
+          (subst (λ (z : ℕ). joined z y ≡ true) (eqb-true x t q) j))
           (λ q. touched-shut (joined t) ts gs ih x y e j q)))
 
       first : Group joined (t ∷ ts) (t ∷ touched (joined t) gs)
@@ -162,7 +176,8 @@ module _ (joined : ℕ → ℕ → Bool) (both : (x y : ℕ) → joined x y ≡ 
         some = h .some;
         part = λ w. omega (arith, h .part w);
         shut = λ x y my j mx. or-cases (eqb y t) (mem y ts) my
-            (λ e. absurd (true≢false (sym (any-of (joined t) g x mx (both x t (subst (λ (z : ℕ). joined x z ≡ true) (eqb-true y t e) j))) ∙ n)))
+            (λ e. absurd (true≢false (sym (any-of (joined t) g x mx
+            (both x t (subst (λ (z : ℕ). joined x z ≡ true) (eqb-true y t e) j))) ∙ n)))
             (λ e. h .shut x y e j mx);
       }
 
@@ -180,25 +195,30 @@ module _ (joined : ℕ → ℕ → Bool) (both : (x y : ℕ) → joined x y ≡ 
   abbrev One : (ℕ → ℕ) → List ℕ → Type 0
   One f g = (x y : ℕ) → mem x g ≡ true → mem y g ≡ true → f x ≡ f y
 
-  touched-one : (f : ℕ → ℕ) (t : ℕ) (ts : List ℕ) (gs : List (List ℕ)) → Each (Group joined ts) gs → Each (One f) gs → ((y : ℕ) → mem y ts ≡ true → joined t y ≡ true → f t ≡ f y)
+  touched-one : (f : ℕ → ℕ) (t : ℕ) (ts : List ℕ) (gs : List (List ℕ)) → Each (Group joined ts) gs → Each (One f) gs
+      → ((y : ℕ) → mem y ts ≡ true → joined t y ≡ true → f t ≡ f y)
       → (x : ℕ) → mem x (touched (joined t) gs) ≡ true → f t ≡ f x
   unfolding touched any
   touched-one f t ts [] e o h x m = absurd (false≢true m)
   touched-one f t ts (g ∷ gs) e o h x m = go (any (joined t) g) refl m (touched-one f t ts gs (e .1) (o .1) h x)
     where
-      go : (b : Bool) → any (joined t) g ≡ b → mem x (cond b (g ++ touched (joined t) gs) (touched (joined t) gs)) ≡ true → (mem x (touched (joined t) gs) ≡ true → f t ≡ f x) → f t ≡ f x
+      go : (b : Bool) → any (joined t) g ≡ b → mem x (cond b (g ++ touched (joined t) gs) (touched (joined t) gs)) ≡ true
+          → (mem x (touched (joined t) gs) ≡ true → f t ≡ f x) → f t ≡ f x
       go true n m ih =
           let w = witness (joined t) g n in
-          or-cases (mem x g) (mem x (touched (joined t) gs)) (sym (mem-append x g _) ∙ m) (λ q. h (w .0) (part-mem g ts (e .0 .part) (w .0) (w .1)) (w .2) ∙ o .0 (w .0) x (w .1) q) ih
+          or-cases (mem x g) (mem x (touched (joined t) gs)) (sym (mem-append x g _) ∙ m)
+          (λ q. h (w .0) (part-mem g ts (e .0 .part) (w .0) (w .1)) (w .2) ∙ o .0 (w .0) x (w .1) q) ih
       go false n m ih = ih m
 
-  one-next : (f : ℕ → ℕ) (t : ℕ) (ts : List ℕ) → Follows (t ∷ ts) f → Each (One f) (groups joined ts) → Each (One f) (groups joined (t ∷ ts))
+  one-next : (f : ℕ → ℕ) (t : ℕ) (ts : List ℕ) → Follows (t ∷ ts) f → Each (One f) (groups joined ts)
+      → Each (One f) (groups joined (t ∷ ts))
   unfolding groups any
   one-next f t ts h o = (first, each-apart (joined t) (groups joined ts) (λ g k n. k) o)
     where
       one : (x : ℕ) → mem x (t ∷ touched (joined t) (groups joined ts)) ≡ true → f t ≡ f x
       one x m = or-cases (eqb x t) (mem x (touched (joined t) (groups joined ts))) m (λ e. ap f (sym (eqb-true x t e)))
-          (λ e. touched-one f t ts (groups joined ts) (are-groups ts) o (λ y my j. h t y (or-left (eqb t t) _ (eq-eqb t t refl)) (or-right (eqb y t) _ my) j) x e)
+          (λ e. touched-one f t ts (groups joined ts) (are-groups ts) o
+          (λ y my j. h t y (or-left (eqb t t) _ (eq-eqb t t refl)) (or-right (eqb y t) _ my) j) x e)
 
       first : One f (t ∷ touched (joined t) (groups joined ts))
       first x y mx my = sym (one x mx) ∙ one y my
@@ -242,7 +262,8 @@ module _ (joined : ℕ → ℕ → Bool) (both : (x y : ℕ) → joined x y ≡ 
     in-group g k =
         let x = k .0 .some .0 in
         let mx = k .0 .some .1 in
-        let label : Follows ts (λ z. bit (mem z g)) = λ y z my mz j. bit-same (mem y g) (mem z g) (k .0 .shut y z mz j) (k .0 .shut z y my (both y z j)) in
+        let label : Follows ts (λ z. bit (mem z g)) =
+        λ y z my mz j. bit-same (mem y g) (mem z g) (k .0 .shut y z mz j) (k .0 .shut z y my (both y z j)) in
         let same : bit (mem (f x) g) ≡ bit (mem x g) = inner (λ z. bit (mem z g)) label x (part-mem g ts (k .0 .part) x mx) in
         let full : bit (mem x g) ≡ 1 = ap bit mx in
         let root : mem (f x) g ≡ true = bit-true (mem (f x) g) (omega arith) in
@@ -253,4 +274,5 @@ module _ (joined : ℕ → ℕ → Bool) (both : (x y : ℕ) → joined x y ≡ 
     pub counted : sumBy (λ x. bit (eqb (f x) x)) ts ≡ length (groups joined ts)
     counted =
         sym (total (λ x. bit (eqb (f x) x)) joined ts)
-        ∙ each-one _ (groups joined ts) (each-map (groups joined ts) in-group (each-both (Group joined ts) (One f) (groups joined ts) (are-groups ts) (groups-one f ts follows)))
+        ∙ each-one _ (groups joined ts) (each-map (groups joined ts) in-group
+        (each-both (Group joined ts) (One f) (groups joined ts) (are-groups ts) (groups-one f ts follows)))

@@ -1,4 +1,5 @@
--- The keys of a list of uses are those that are used: a sum over them is 0 where it is 0 for every key used, and above 0 only where it is for one. Assumes nothing.
+-- The keys of a list of uses are those that are used: a sum over them is 0 where it is 0 for every key used, and above 0 only where it is
+-- for one. Assumes nothing.
 use mathlib.Core.Path.{_≡_, refl, sym, ap, _∙_}
 use mathlib.Core.Bool.{Bool, true, false}
 use mathlib.Core.List.{List, [], _∷_}
@@ -22,7 +23,8 @@ module _ {K : Type 0} (same : K → K → Bool) (same-eq : (a b : K) → same a 
   keys-new e es l = rw (le-ltb 0 (uses same (e .key) es) l)
 
   -- a key of e ∷ es is e's or one of es
-  used-cases : {P : Type 0} (k : K) (e : Use K) (es : List (Use K)) → 0 < uses same k (e ∷ es) → (k ≡ e .key → P) → (0 < uses same k es → P) → P
+  used-cases : {P : Type 0} (k : K) (e : Use K) (es : List (Use K)) → 0 < uses same k (e ∷ es) → (k ≡ e .key → P)
+      → (0 < uses same k es → P) → P
   unfolding uses bit
   used-cases {P} k e es l f g = go (same k (e .key)) refl
     where
@@ -69,7 +71,8 @@ module _ {K : Type 0} (same : K → K → Bool) (same-eq : (a b : K) → same a 
     max-each [] k l = absurd (omega arith)
     max-each (e ∷ es) k l = go (decLt 0 (uses same (e .key) es)) (max-each es)
       where
-        go : Dec (0 < uses same (e .key) es) → ((j : K) → 0 < uses same j es → Q j ≤ maxBy Q (keys same es)) → Q k ≤ maxBy Q (keys same (e ∷ es))
+        go : Dec (0 < uses same (e .key) es) → ((j : K) → 0 < uses same j es → Q j ≤ maxBy Q (keys same es))
+            → Q k ≤ maxBy Q (keys same (e ∷ es))
         go (yes old) ih = rw (keys-old e es old) (used-cases k e es l (λ q. omega (arith, ap Q q, ih (e .key) old)) (ih k))
         go (no new) ih = rw (keys-new e es (omega arith)) (used-cases k e es l (λ q. omega (arith, ap Q q)) (λ m. omega (arith, ih k m)))
 
@@ -78,7 +81,8 @@ module _ {K : Type 0} (same : K → K → Bool) (same-eq : (a b : K) → same a 
     max-reached [] l = absurd (omega arith)
     max-reached (e ∷ es) l = go (decLt 0 (uses same (e .key) es)) (max-reached es)
       where
-        go : Dec (0 < uses same (e .key) es) → (0 < maxBy Q (keys same es) → (k : K) × (0 < uses same k es) × (Q k ≡ maxBy Q (keys same es)))
+        go : Dec (0 < uses same (e .key) es) → (0 < maxBy Q (keys same es)
+            → (k : K) × (0 < uses same k es) × (Q k ≡ maxBy Q (keys same es)))
             → (k : K) × (0 < uses same k (e ∷ es)) × (Q k ≡ maxBy Q (keys same (e ∷ es)))
         go (yes old) ih =
             let m : 0 < maxBy Q (keys same es) = rw (keys-old e es old) at l in
@@ -88,7 +92,8 @@ module _ {K : Type 0} (same : K → K → Bool) (same-eq : (a b : K) → same a 
             let m : 0 < max (Q (e .key)) (maxBy Q (keys same es)) = rw (keys-new e es (omega arith)) at l in
             elim (decLe (maxBy Q (keys same es)) (Q (e .key))) [
               | yes b ↦ (e .key, used-first e es, rw (keys-new e es (omega arith)) (omega arith))
-              | no b ↦ (let w = ih (omega arith) in (w .0, used-behind (w .0) e es (w .1), rw (keys-new e es (omega arith)) (omega (arith, w .2))))
+              | no b ↦ (let w = ih (omega arith) in
+                  (w .0, used-behind (w .0) e es (w .1), rw (keys-new e es (omega arith)) (omega (arith, w .2))))
             ]
 
     -- a sum over the keys that is above 0 is so at some key used
@@ -97,7 +102,8 @@ module _ {K : Type 0} (same : K → K → Bool) (same-eq : (a b : K) → same a 
     some-key [] l = absurd (omega arith)
     some-key (e ∷ es) l = go (decLt 0 (uses same (e .key) es)) (some-key es)
       where
-        go : Dec (0 < uses same (e .key) es) → (0 < sumBy Q (keys same es) → (k : K) × (0 < uses same k es) × (0 < Q k)) → (k : K) × (0 < uses same k (e ∷ es)) × (0 < Q k)
+        go : Dec (0 < uses same (e .key) es) → (0 < sumBy Q (keys same es) → (k : K) × (0 < uses same k es) × (0 < Q k))
+            → (k : K) × (0 < uses same k (e ∷ es)) × (0 < Q k)
         go (yes old) ih = let w = ih (rw (keys-old e es old) at l) in (w .0, used-behind (w .0) e es (w .1), w .2)
         go (no new) ih =
             let m : 0 < Q (e .key) + sumBy Q (keys same es) = rw (keys-new e es (omega arith)) at l in
@@ -122,13 +128,16 @@ module _ {K : Type 0} (same : K → K → Bool) (same-eq : (a b : K) → same a 
   keys-once k [] = refl
   keys-once k (e ∷ es) = go (decLt 0 (uses same (e .key) es)) (same k (e .key)) refl (keys-once k es)
     where
-      go : Dec (0 < uses same (e .key) es) → (t : Bool) → same k (e .key) ≡ t → sumBy (λ j. bit (same k j)) (keys same es) ≡ bit (ltb 0 (uses same k es))
+      go : Dec (0 < uses same (e .key) es) → (t : Bool) → same k (e .key) ≡ t
+          → sumBy (λ j. bit (same k j)) (keys same es) ≡ bit (ltb 0 (uses same k es))
           → sumBy (λ j. bit (same k j)) (keys same (e ∷ es)) ≡ bit (ltb 0 (bit (same k (e .key)) + uses same k es))
       go (yes old) true h ih =
           let used : 0 < uses same k es = rw (same-eq k (e .key) h) old in
-          rw (keys-old e es old) (ih ∙ ap bit (lt-ltb 0 (uses same k es) used ∙ sym (lt-ltb 0 (bit (same k (e .key)) + uses same k es) (omega arith))))
+          rw (keys-old e es old) (ih ∙ ap bit (lt-ltb 0 (uses same k es) used
+          ∙ sym (lt-ltb 0 (bit (same k (e .key)) + uses same k es) (omega arith))))
       go (yes old) false h ih = rw (keys-old e es old, h, zero-add) ih
       go (no new) true h ih =
           let unused : uses same k es ≤ 0 = rw (same-eq k (e .key) h) (omega arith) in
-          rw (keys-new e es (omega arith), h) (ap (λ (x : ℕ). 1 + x) (ih ∙ ap bit (le-ltb 0 (uses same k es) unused)) ∙ sym (ap bit (lt-ltb 0 (1 + uses same k es) (omega arith))))
+          rw (keys-new e es (omega arith), h) (ap (λ (x : ℕ). 1 + x) (ih ∙ ap bit (le-ltb 0 (uses same k es) unused))
+          ∙ sym (ap bit (lt-ltb 0 (1 + uses same k es) (omega arith))))
       go (no new) false h ih = rw (keys-new e es (omega arith), h, zero-add, zero-add) ih

@@ -21,14 +21,16 @@ refusal-none k i needed lent e z =
     elim (decLt 98304 i) [
       | yes many ↦ (let one : k ≡ 1 = rw (lt-ltb 98304 i many) at e in absurd (omega (arith, one)))
       | no few ↦ elim (decLt lent needed) [
-        | yes short ↦ (let three : k ≡ 3 = rw (le-ltb 98304 i (omega arith), lt-ltb lent needed short) at e in absurd (omega (arith, three)))
+        | yes short ↦ (let three : k ≡ 3 = rw (le-ltb 98304 i (omega arith), lt-ltb lent needed short) at e in
+            absurd (omega (arith, three)))
         | no room ↦ (omega arith, omega arith)
       ]
     ]
 
 module _ {A : Type 0} (needed : ℕ) (refused : ℕ → A) (answer : A) (ids area : List ℕ) where
   -- a routine that refuses, with the refusal's number, and has changed nothing
-  pub gives-refusal : (k : ℕ) → k ≡ refusal (length ids) needed (length area) → 0 < k → Gives needed refused answer ids area (refused k) area
+  pub gives-refusal : (k : ℕ) → k ≡ refusal (length ids) needed (length area) → 0 < k
+      → Gives needed refused answer ids area (refused k) area
   unfolding unlessRefused areaAfter
   gives-refusal k e some = record {
     answers = ap refused e ∙ by-cases (refusal (length ids) needed (length area)) (omega (arith, e));
@@ -44,9 +46,11 @@ module _ {A : Type 0} (needed : ℕ) (refused : ℕ → A) (answer : A) (ids are
       kept (suc n) some = refl
 
   -- a routine that answers, and has cleared the words that it needs
-  pub gives-answer : (k : ℕ) → k ≡ refusal (length ids) needed (length area) → k ≤ 0 → Gives needed refused answer ids area answer (cleared needed area)
+  pub gives-answer : (k : ℕ) → k ≡ refusal (length ids) needed (length area) → k ≤ 0
+      → Gives needed refused answer ids area answer (cleared needed area)
   unfolding unlessRefused areaAfter
-  gives-answer k e z = let none : refusal (length ids) needed (length area) ≡ 0 = omega (arith, e) in record { answers = rw none; leaves = rw none }
+  gives-answer k e z =
+      let none : refusal (length ids) needed (length area) ≡ 0 = omega (arith, e) in record { answers = rw none; leaves = rw none }
 
 -- an area that is cleared whole
 pub cleared-all : (n : ℕ) (t : List ℕ) → length t ≡ n → cleared n t ≡ replicate n 0
@@ -54,7 +58,8 @@ unfolding cleared
 cleared-all n t e = let none : drop n t ≡ [] = drop-of-length-le t {i = n} (omega arith) in rw (none, append-none)
 
 -- an answer by its number, or by anything else that it is turned into
-as-turned : {A B : Type 0} (f : A → B) (n : ℕ) (refused : ℕ → A) (answer : A) → f (unlessRefused n refused answer) ≡ unlessRefused n (λ k. f (refused k)) (f answer)
+as-turned : {A B : Type 0} (f : A → B) (n : ℕ) (refused : ℕ → A) (answer : A)
+    → f (unlessRefused n refused answer) ≡ unlessRefused n (λ k. f (refused k)) (f answer)
 unfolding unlessRefused
 as-turned f zero refused answer = refl
 as-turned f (suc n) refused answer = refl

@@ -9,7 +9,8 @@ use borrow.Author.Tests.{lt-ltb, le-ltb, eq-eqb, eqb-true}
 use lib.Dec.{ltb, eqb}
 use lib.IntN.{ℤ, pos, negsuc, natAbs}
 use Rattle.ids.specs.Uses.{Use, bit, uses, signedSum, keys, keysThat, largestSum}
-use Rattle.ids.specs.EdgeChain.{Edge, sameEdge, chain, present, unbalanced, crowded, unpaired, properEdges, boundaryFree, overIncident, closedManifold}
+use Rattle.ids.specs.EdgeChain.{Edge, sameEdge, chain, present, unbalanced, crowded, unpaired, properEdges, boundaryFree}
+use Rattle.ids.specs.EdgeChain.{overIncident, closedManifold}
 use Rattle.ids.specs.FaceNet.{sameFace, faces, maxAbs, allCancel}
 use Rattle.ids.specs.Meaning.{Tells, BoundaryFree, OverIncident, ClosedManifold, AllCancel, LargestFaceSum}
 use Rattle.ids.proofs.Same.{both, edge-eq, edge-refl, face-eq, face-refl}
@@ -65,7 +66,8 @@ module _ {K : Type 0} (same : K → K → Bool) (same-eq : (a b : K) → same a 
 
   some-passes : ltb 0 (keysThat same test es) ≡ true → (k : K) × (0 < uses same k es) × (passes k ≡ true)
   unfolding keysThat
-  some-passes z = let w = some-key same same-eq same-refl (λ j. bit (passes j)) es (above _ z) in (w .0, w .1, bit-some (passes (w .0)) (w .2))
+  some-passes z =
+      let w = some-key same same-eq same-refl (λ j. bit (passes j)) es (above _ z) in (w .0, w .1, bit-some (passes (w .0)) (w .2))
 
   passes-some : (k : K) → 0 < uses same k es → passes k ≡ true → ltb 0 (keysThat same test es) ≡ true
   passes-some k l p =
@@ -75,7 +77,8 @@ module _ {K : Type 0} (same : K → K → Bool) (same-eq : (a b : K) → same a 
       ]
 
 -- every sum is 0 exactly where no key used is unbalanced
-module _ {K : Type 0} (same : K → K → Bool) (same-eq : (a b : K) → same a b ≡ true → a ≡ b) (same-refl : (a : K) → same a a ≡ true) (es : List (Use K)) where
+module _ {K : Type 0} (same : K → K → Bool) (same-eq : (a b : K) → same a b ≡ true → a ≡ b) (same-refl : (a : K) → same a a ≡ true)
+    (es : List (Use K)) where
   pub balanced : eqb (keysThat same unbalanced es) 0 ≡ true → (k : K) → signedSum same k es ≡ pos 0
   unfolding unbalanced
   balanced z k =
@@ -130,19 +133,23 @@ module _ (ids : List ℕ) where
           ];
         };
     complete = λ h. and-true _ _ (h .long-enough)
-        (passes-none sameEdge edge-eq edge-refl unpaired (properEdges ids) (λ e l. not-true _ (and-true _ _ (eq-eqb _ _ (h .twice e l)) (eq-eqb _ _ (ap natAbs (h .each-way e))))));
+        (passes-none sameEdge edge-eq edge-refl unpaired (properEdges ids)
+        (λ e l. not-true _ (and-true _ _ (eq-eqb _ _ (h .twice e l)) (eq-eqb _ _ (ap natAbs (h .each-way e))))));
   }
 
   pub all-cancel-tells : Tells (allCancel ids) (AllCancel ids)
   unfolding allCancel
-  all-cancel-tells = record { sound = balanced sameFace face-eq face-refl (faces ids); complete = unbalanced-none sameFace face-eq face-refl (faces ids) }
+  all-cancel-tells =
+      record { sound = balanced sameFace face-eq face-refl (faces ids); complete = unbalanced-none sameFace face-eq face-refl (faces ids) }
 
   pub max-abs-is-largest : LargestFaceSum ids (maxAbs ids)
   unfolding maxAbs largestSum
   max-abs-is-largest = record {
     above = λ f. elim (decLt 0 (uses sameFace f (faces ids))) [
       | yes l ↦ max-each sameFace face-eq face-refl (λ g. natAbs (signedSum sameFace g (faces ids))) (faces ids) f l
-      | no l ↦ (let z : natAbs (signedSum sameFace f (faces ids)) ≡ 0 = ap natAbs (unused-zero sameFace face-eq face-refl f (faces ids) (omega arith)) in omega arith)
+      | no l ↦ (let z : natAbs (signedSum sameFace f (faces ids)) ≡ 0 =
+          ap natAbs (unused-zero sameFace face-eq face-refl f (faces ids) (omega arith)) in omega arith)
     ];
-    reached = λ l. let w = max-reached sameFace face-eq face-refl (λ g. natAbs (signedSum sameFace g (faces ids))) (faces ids) l in (w .0, w .2);
+    reached =
+        λ l. let w = max-reached sameFace face-eq face-refl (λ g. natAbs (signedSum sameFace g (faces ids))) (faces ids) l in (w .0, w .2);
   }

@@ -11,7 +11,8 @@ module _ {A : Type 0} where
   first-number : (g : ℕ → List A) (n : ℕ) → overNumbers g (suc n) ≡ g 0 ++ overNumbers (λ t. g (suc t)) n
   unfolding overNumbers
   first-number g zero = sym (append-none (g 0))
-  first-number g (suc n) = ap (λ (l : List A). l ++ g (suc n)) (first-number g n) ∙ append-assoc (g 0) (overNumbers (λ t. g (suc t)) n) (g (suc n))
+  first-number g (suc n) =
+      ap (λ (l : List A). l ++ g (suc n)) (first-number g n) ∙ append-assoc (g 0) (overNumbers (λ t. g (suc t)) n) (g (suc n))
 
   same-numbers : (g h : ℕ → List A) (n : ℕ) → ((t : ℕ) → g t ≡ h t) → overNumbers g n ≡ overNumbers h n
   unfolding overNumbers
@@ -27,7 +28,8 @@ triangle-behind a b c ids t =
     let g : 3 * suc t + 2 ≡ suc (suc (suc (3 * t + 2))) = omega arith in
     rw (f, g, e)
 
-pub by-number : {A : Type 0} (f : Triangle → List A) (ids : List ℕ) → overTriangles f ids ≡ overNumbers (λ t. f (triangle ids t)) (triangleCount ids)
+pub by-number : {A : Type 0} (f : Triangle → List A) (ids : List ℕ)
+    → overTriangles f ids ≡ overNumbers (λ t. f (triangle ids t)) (triangleCount ids)
 unfolding overTriangles overNumbers triangle
 by-number f [] = refl
 by-number f (a ∷ []) = refl
@@ -35,5 +37,9 @@ by-number f (a ∷ b ∷ []) = refl
 by-number f (a ∷ b ∷ c ∷ ids) =
     let l : List ℕ = a ∷ b ∷ c ∷ ids in
     let n : triangleCount l ≡ suc (triangleCount ids) = omega arith in
-    rw (n, first-number (λ t. f (triangle l t)) (triangleCount ids), same-numbers (λ t. f (triangle l (suc t))) (λ t. f (triangle ids t)) (triangleCount ids) (λ t. ap f (triangle-behind a b c ids t)))
+    rw (
+      n,
+      first-number (λ t. f (triangle l t)) (triangleCount ids),
+      same-numbers (λ t. f (triangle l (suc t))) (λ t. f (triangle ids t)) (triangleCount ids) (λ t. ap f (triangle-behind a b c ids t)),
+    )
     (ap (λ (r : List _). f (triangle l 0) ++ r) (by-number f ids))

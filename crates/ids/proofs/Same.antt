@@ -15,7 +15,8 @@ both false b e = absurd (false≢true e)
 
 -- three things each by a test that is equality
 module _ {A : Type 0} (test : A → A → Bool) where
-  pub three-eq : ((x y : A) → test x y ≡ true → x ≡ y) → (a b c d e f : A) → test a d && (test b e && test c f) ≡ true → (a ≡ d) × (b ≡ e) × (c ≡ f)
+  pub three-eq : ((x y : A) → test x y ≡ true → x ≡ y) → (a b c d e f : A) → test a d && (test b e && test c f) ≡ true
+      → (a ≡ d) × (b ≡ e) × (c ≡ f)
   three-eq eq a b c d e f h =
       let w = both (test a d) (test b e && test c f) h in
       let v = both (test b e) (test c f) (w .1) in

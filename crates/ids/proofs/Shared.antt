@@ -1,4 +1,5 @@
--- Two triangles share an id where a corner of the one has the id of a corner of the other; so sharing goes both ways, and turning both over leaves it. Assumes nothing.
+-- Two triangles share an id where a corner of the one has the id of a corner of the other; so sharing goes both ways, and turning both over
+-- leaves it. Assumes nothing.
 use mathlib.Core.Path.{_≡_, refl, sym, _∙_}
 use mathlib.Core.Bool.{Bool, true, false}
 use Prim.Native.Nat.{ℕ, zero, suc, _<_}
@@ -37,7 +38,8 @@ pub corner-share : (s t : Triangle) → shareId s t ≡ true → (j k : ℕ) × 
 unfolding shareId corner
 corner-share s t h =
     or-cases (has t (s .a)) _ h (λ q. let r = corner-has t (s .a) q in (0, r .0, omega arith, r .1, r .2))
-    (λ p. or-cases (has t (s .b)) _ p (λ q. let r = corner-has t (s .b) q in (1, r .0, omega arith, r .1, r .2)) (λ q. let r = corner-has t (s .c) q in (2, r .0, omega arith, r .1, r .2)))
+    (λ p. or-cases (has t (s .b)) _ p (λ q. let r = corner-has t (s .b) q in (1, r .0, omega arith, r .1, r .2))
+    (λ q. let r = corner-has t (s .c) q in (2, r .0, omega arith, r .1, r .2)))
 
 pub share-both : (s t : Triangle) → shareId s t ≡ true → shareId t s ≡ true
 share-both s t h = let r = corner-share s t h in share-corner t s (r .1) (r .0) (sym (r .4))

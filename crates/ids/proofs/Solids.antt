@@ -17,7 +17,8 @@ module _ (p : ℕ → Bool) where
   those-mem zero x h = absurd (false≢true h)
   those-mem (suc n) x h = go (p n) refl h (those-mem n x)
     where
-      go : (b : Bool) → p n ≡ b → mem x (cond b (n ∷ those p n) (those p n)) ≡ true → (mem x (those p n) ≡ true → (x < n) × (p x ≡ true)) → (x < suc n) × (p x ≡ true)
+      go : (b : Bool) → p n ≡ b → mem x (cond b (n ∷ those p n) (those p n)) ≡ true
+          → (mem x (those p n) ≡ true → (x < n) × (p x ≡ true)) → (x < suc n) × (p x ≡ true)
       go false e h ih = let r = ih h in (omega (arith, r .0), r .1)
       go true e h ih = first (eqb x n) refl h
         where

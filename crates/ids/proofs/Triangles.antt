@@ -1,4 +1,5 @@
--- A loop over the triangles of a list of ids, in resume form: what the triangles so far gave and what is left gives are the whole. Assumes nothing.
+-- A loop over the triangles of a list of ids, in resume form: what the triangles so far gave and what is left gives are the whole. Assumes
+-- nothing.
 use mathlib.Core.Path.{_≡_, refl, ap, _∙_}
 use mathlib.Core.Bool.{true, false}
 use mathlib.Core.List.{List, [], _∷_, _++_, append-assoc}
@@ -13,7 +14,8 @@ drop-more : (ids : List ℕ) (i j : ℕ) → j ≡ suc i → i < length ids → 
 drop-more ids i j e l = rw e (drop-cons ids i 0 l)
 
 -- what is left from i on is a triple and what is left from i + 3 on
-pub drop-three : (ids : List ℕ) (i : ℕ) → i + 2 < length ids → drop i ids ≡ getD ids i 0 ∷ getD ids (i + 1) 0 ∷ getD ids (i + 2) 0 ∷ drop (i + 3) ids
+pub drop-three : (ids : List ℕ) (i : ℕ) → i + 2 < length ids
+    → drop i ids ≡ getD ids i 0 ∷ getD ids (i + 1) 0 ∷ getD ids (i + 2) 0 ∷ drop (i + 3) ids
 drop-three ids i l =
     drop-more ids i (i + 1) (omega arith) (omega arith)
     ∙ ap (λ (l : List ℕ). getD ids i 0 ∷ l) (drop-more ids (i + 1) (i + 2) (omega arith) (omega arith))

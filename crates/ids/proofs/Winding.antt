@@ -35,7 +35,8 @@ incoherent-told n s once paired = rw (ne-eqb n 1 once) (go (eqb n 2) refl)
 
 -- two lists of just the edges of which P holds, each once, are equally long
 same-listed : (P : Edge → Type 0) (es fs : List Edge) → EachOnce P es → EachOnce P fs → length es ≡ length fs
-same-listed P es fs h g = same-length sameEdge edge-eq edge-refl es fs (λ e. go e (decLt 0 (times sameEdge e es)) (decLt 0 (times sameEdge e fs)))
+same-listed P es fs h g =
+    same-length sameEdge edge-eq edge-refl es fs (λ e. go e (decLt 0 (times sameEdge e es)) (decLt 0 (times sameEdge e fs)))
   where
     go : (e : Edge) → Dec (0 < times sameEdge e es) → Dec (0 < times sameEdge e fs) → times sameEdge e es ≡ times sameEdge e fs
     go e (yes l) m = h .once e (h .only e l) ∙ sym (g .once e (h .only e l))

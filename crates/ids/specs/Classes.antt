@@ -1,4 +1,5 @@
--- What the groups are: the classes of the relation that the joins generate. This is what `pieces` counts, in the usual words; `groups-are-classes` proves it.
+-- What the groups are: the classes of the relation that the joins generate. This is what `pieces` counts, in the usual words;
+-- `groups-are-classes` proves it.
 use mathlib.Core.Path.{_≡_}
 use mathlib.Core.Bool.{Bool, true}
 use mathlib.Core.List.{List, [], _∷_}
@@ -25,7 +26,8 @@ Each P (g ∷ gs) = P g × Each P gs
 abbrev pub times : ℕ → List ℕ → ℕ
 times x l = sumBy (λ y. bit (eqb x y)) l
 
--- The groups of ts are the classes of the relation that the joins generate: none is empty, each element is in the groups as often as in ts, a chain leads
+-- The groups of ts are the classes of the relation that the joins generate: none is empty, each element is in the groups as often as in ts,
+-- a chain leads
 -- between any two of a group, and no chain leads out of one.
 pub record AreClasses (joined : ℕ → ℕ → Bool) (ts : List ℕ) (gs : List (List ℕ)) : Type 0 where
   pub some : Each (λ g. (x : ℕ) × (mem x g ≡ true)) gs

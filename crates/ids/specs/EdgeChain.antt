@@ -80,4 +80,5 @@ closedManifold ids = enough (length ids) && eqb (edgesThat unpaired (properEdges
 unfoldable pub windingCoherent : List ℕ → Bool
 windingCoherent ids =
     enough (length ids)
-    && (ltb 0 (edgesThat present (properEdges ids)) && leb (50 * edgesThat incoherent (properEdges ids)) (edgesThat present (properEdges ids)))
+    && (ltb 0 (edgesThat present (properEdges ids))
+    && leb (50 * edgesThat incoherent (properEdges ids)) (edgesThat present (properEdges ids)))

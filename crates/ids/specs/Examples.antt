@@ -1,5 +1,7 @@
--- The starred examples of document 01 on lists of ids, in one table with one statement. The tetrahedron is 012 023 031 132; the second of two that share
--- one id has 3, 4, 5 and 6 in the places of 0, 1, 2 and 3. The last row is no starred one: two tetrahedra apart, a triangle that repeats an id, an id left over.
+-- The starred examples of document 01 on lists of ids, in one table with one statement. The tetrahedron is 012 023 031 132; the second of
+-- two that share
+-- one id has 3, 4, 5 and 6 in the places of 0, 1, 2 and 3. The last row is no starred one: two tetrahedra apart, a triangle that repeats an
+-- id, an id left over.
 use mathlib.Core.Path.{_≡_}
 use mathlib.Core.Bool.{Bool, true, false}
 use mathlib.Core.List.{List, [], _∷_, _++_}
@@ -41,12 +43,85 @@ stranger = 7 ∷ 4 ∷ 5 ∷ 7 ∷ 5 ∷ 6 ∷ 7 ∷ 6 ∷ 4 ∷ 4 ∷ 6 ∷ 5 �
 
 unfoldable pub examples : List Example
 examples =
-    (record { ids = tetrahedron; boundary-free = true; over-incident = false; max-abs = 1; all-cancel = false; manifold = true; coherent = true; piece-count = 1 })
-    ∷ (record { ids = 0 ∷ 1 ∷ 2 ∷ 2 ∷ 1 ∷ 0 ∷ 3 ∷ 3 ∷ 3 ∷ []; boundary-free = true; over-incident = false; max-abs = 0; all-cancel = true; manifold = true; coherent = true; piece-count = 1 })
-    ∷ (record { ids = 0 ∷ 1 ∷ 2 ∷ 2 ∷ 1 ∷ 0 ∷ []; boundary-free = false; over-incident = false; max-abs = 0; all-cancel = true; manifold = false; coherent = false; piece-count = 1 })
-    ∷ (record { ids = 0 ∷ 0 ∷ 0 ∷ 0 ∷ 0 ∷ 0 ∷ 0 ∷ 0 ∷ 0 ∷ []; boundary-free = false; over-incident = false; max-abs = 0; all-cancel = true; manifold = true; coherent = false; piece-count = 0 })
-    ∷ (record { ids = tetrahedron ++ tetrahedron; boundary-free = true; over-incident = true; max-abs = 2; all-cancel = false; manifold = false; coherent = false; piece-count = 1 })
-    ∷ (record { ids = 0 ∷ 1 ∷ 2 ∷ 0 ∷ 2 ∷ 3 ∷ 0 ∷ 3 ∷ 1 ∷ 1 ∷ []; boundary-free = false; over-incident = false; max-abs = 1; all-cancel = false; manifold = false; coherent = false; piece-count = 1 })
-    ∷ (record { ids = tetrahedron ++ neighbour; boundary-free = true; over-incident = false; max-abs = 1; all-cancel = false; manifold = true; coherent = true; piece-count = 1 })
-    ∷ (record { ids = tetrahedron ++ (3 ∷ 3 ∷ 7 ∷ stranger) ++ (3 ∷ []); boundary-free = false; over-incident = false; max-abs = 1; all-cancel = false; manifold = false; coherent = false; piece-count = 2 })
+    (record {
+      ids = tetrahedron;
+      boundary-free = true;
+      over-incident = false;
+      max-abs = 1;
+      all-cancel = false;
+      manifold = true;
+      coherent = true;
+      piece-count = 1;
+    })
+    ∷ (record {
+      ids = 0 ∷ 1 ∷ 2 ∷ 2 ∷ 1 ∷ 0 ∷ 3 ∷ 3 ∷ 3 ∷ [];
+      boundary-free = true;
+      over-incident = false;
+      max-abs = 0;
+      all-cancel =
+          true;
+      manifold = true;
+      coherent = true;
+      piece-count = 1;
+    })
+    ∷ (record {
+      ids = 0 ∷ 1 ∷ 2 ∷ 2 ∷ 1 ∷ 0 ∷ [];
+      boundary-free = false;
+      over-incident = false;
+      max-abs = 0;
+      all-cancel = true;
+      manifold = false;
+      coherent = false;
+      piece-count = 1;
+    })
+    ∷ (record {
+      ids = 0 ∷ 0 ∷ 0 ∷ 0 ∷ 0 ∷ 0 ∷ 0 ∷ 0 ∷ 0 ∷ [];
+      boundary-free = false;
+      over-incident = false;
+      max-abs = 0;
+      all-cancel = true;
+      manifold = true;
+      coherent = false;
+      piece-count = 0;
+    })
+    ∷ (record {
+      ids = tetrahedron ++ tetrahedron;
+      boundary-free = true;
+      over-incident = true;
+      max-abs = 2;
+      all-cancel = false;
+      manifold = false;
+      coherent = false;
+      piece-count = 1;
+    })
+    ∷ (record {
+      ids = 0 ∷ 1 ∷ 2 ∷ 0 ∷ 2 ∷ 3 ∷ 0 ∷ 3 ∷ 1 ∷ 1 ∷ [];
+      boundary-free = false;
+      over-incident = false;
+      max-abs = 1;
+      all-cancel = false;
+      manifold = false;
+      coherent = false;
+      piece-count = 1;
+    })
+    ∷ (record {
+      ids = tetrahedron ++ neighbour;
+      boundary-free = true;
+      over-incident = false;
+      max-abs = 1;
+      all-cancel = false;
+      manifold = true;
+      coherent = true;
+      piece-count = 1;
+    })
+    ∷ (record {
+      ids = tetrahedron ++ (3 ∷ 3 ∷ 7 ∷ stranger) ++ (3 ∷ []);
+      boundary-free = false;
+      over-incident = false;
+      max-abs = 1;
+      all-cancel = false;
+      manifold = false;
+      coherent = false;
+      piece-count = 2;
+    })
     ∷ []

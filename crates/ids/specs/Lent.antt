@@ -1,4 +1,5 @@
--- Refusals of an id routine, and what it leaves in the area that it is lent: refusals 1 and 3 of document 01's table, the first by the number of ids alone.
+-- Refusals of an id routine, and what it leaves in the area that it is lent: refusals 1 and 3 of document 01's table, the first by the
+-- number of ids alone.
 use Prim.Native.Nat.{ℕ, zero, suc}
 use mathlib.Core.Path.{_≡_}
 use mathlib.Core.Bool.{cond}
@@ -28,7 +29,8 @@ unfoldable pub areaAfter : ℕ → ℕ → List ℕ → List ℕ
 areaAfter zero needed area = cleared needed area
 areaAfter (suc n) needed area = area
 
--- The complete contract of an id routine that needs so many words: what it answers, and what it leaves in the area. `refused` and `answer` are of the
+-- The complete contract of an id routine that needs so many words: what it answers, and what it leaves in the area. `refused` and `answer`
+-- are of the
 -- routine's own enum; `r` and `after` are what it gave.
 pub record Gives {A : Type 0} (needed : ℕ) (refused : ℕ → A) (answer : A) (ids area : List ℕ) (r : A) (after : List ℕ) : Type 0 where
   pub answers : r ≡ unlessRefused (refusal (length ids) needed (length area)) refused answer

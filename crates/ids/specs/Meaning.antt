@@ -1,4 +1,5 @@
--- What the answers say of every edge and every face, in the words of document 01, and the one statement that each answer is yes exactly where this holds.
+-- What the answers say of every edge and every face, in the words of document 01, and the one statement that each answer is yes exactly
+-- where this holds.
 use mathlib.Core.Path.{_≡_}
 use mathlib.Core.Bool.{Bool, true}
 use mathlib.Core.List.{List}
@@ -6,7 +7,8 @@ use Prim.Native.Nat.{ℕ, _*_, _≤_, _<_}
 use lib.IntN.{pos, natAbs}
 use lib.ListN.{length}
 use Rattle.ids.specs.Uses.{times, uses, signedSum}
-use Rattle.ids.specs.EdgeChain.{Edge, sameEdge, chain, enough, properEdges, boundaryFree, overIncident, closedManifold, windingCoherent}
+use Rattle.ids.specs.EdgeChain.{Edge, sameEdge, chain, enough, properEdges, boundaryFree, overIncident, closedManifold}
+use Rattle.ids.specs.EdgeChain.{windingCoherent}
 use Rattle.ids.specs.FaceNet.{Face, sameFace, faces, maxAbs, allCancel}
 
 -- yes exactly where P holds

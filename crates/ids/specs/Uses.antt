@@ -1,4 +1,5 @@
--- Signed uses of keys. A use is of a key, in one of two directions; a key is an undirected edge or a face. What a list of uses says of a key, and which keys it has.
+-- Signed uses of keys. A use is of a key, in one of two directions; a key is an undirected edge or a face. What a list of uses says of a
+-- key, and which keys it has.
 use Prim.Native.Nat.{ℕ, _+_, max}
 use mathlib.Core.Bool.{Bool, true, false, cond}
 use mathlib.Core.List.{List, [], _∷_}

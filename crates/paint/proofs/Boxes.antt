@@ -1,4 +1,5 @@
--- Loops over the columns of a row and over the rows of a box: what is painted so far, from the first on and below the next. Assumes nothing.
+-- Loops over the columns of a row and over the rows of a box: what is painted so far, from the first on and below the next. Assumes
+-- nothing.
 use mathlib.Core.Path.{_≡_, refl, sym, ap, _∙_}
 use mathlib.Core.Bool.{Bool, true, false, _&&_, _||_, and-false, or-false}
 use mathlib.Core.List.{List}
@@ -99,11 +100,13 @@ module _ (g : Grid) (t : Flat) (j lo : ℕ) where
   unfolding rowSofar
   row-first s = adds-none s (rowSofar g t j lo lo) (λ k. rw (sofar-none lo (k % g .nx), and-false (eqb (k / g .nx) j)))
 
-  hit : (k i : ℕ) (px py : Float) → i < g .nx → px ≡ centreOf (g .x) (g .w) i → py ≡ centreOf (g .y) (g .h) j → k ≡ j * g .nx + i → pointIn px py t ≡ hits g t (k % g .nx) (k / g .nx)
+  hit : (k i : ℕ) (px py : Float) → i < g .nx → px ≡ centreOf (g .x) (g .w) i → py ≡ centreOf (g .y) (g .h) j → k ≡ j * g .nx + i
+      → pointIn px py t ≡ hits g t (k % g .nx) (k / g .nx)
   unfolding hits
   hit k i px py l ex ey e = rw (e, row-of (g .nx) i j l, column-of (g .nx) i j l, ex, ey)
 
-  pub row-next : {s u v : List ℕ} (i : ℕ) (px py : Float) → i < g .nx → lo ≤ i → px ≡ centreOf (g .x) (g .w) i → py ≡ centreOf (g .y) (g .h) j
+  pub row-next : {s u v : List ℕ} (i : ℕ) (px py : Float) → i < g .nx → lo ≤ i → px ≡ centreOf (g .x) (g .w) i
+      → py ≡ centreOf (g .y) (g .h) j
       → Adds s u (rowSofar g t j lo i) → Adds u v (λ k. eqb k (j * g .nx + i) && pointIn px py t) → Adds s v (rowSofar g t j lo (i + 1))
   unfolding rowSofar
   row-next i px py l m ex ey a b = adds-same (rowSofar g t j lo (i + 1)) (adds-both a b) more
@@ -132,9 +135,12 @@ module _ (g : Grid) (t : Flat) (lo hi first : ℕ) where
   box-first s = adds-none s (boxSofar g t lo hi first first) (λ k. rw (sofar-none first (k / g .nx)))
 
   pub box-next : {s u v : List ℕ} (j : ℕ) → first ≤ j → Adds s u (boxSofar g t lo hi first j)
-      → Adds u v (λ k. eqb (k / g .nx) j && (between lo hi (k % g .nx) && hits g t (k % g .nx) (k / g .nx))) → Adds s v (boxSofar g t lo hi first (j + 1))
+      → Adds u v (λ k. eqb (k / g .nx) j && (between lo hi (k % g .nx) && hits g t (k % g .nx) (k / g .nx)))
+      → Adds s v (boxSofar g t lo hi first (j + 1))
   unfolding boxSofar
-  box-next j m a b = adds-same (boxSofar g t lo hi first (j + 1)) (adds-both a b) (λ k. sofar-next first j (k / g .nx) (between lo hi (k % g .nx) && hits g t (k % g .nx) (k / g .nx)) m)
+  box-next j m a b =
+      adds-same (boxSofar g t lo hi first (j + 1)) (adds-both a b)
+      (λ k. sofar-next first j (k / g .nx) (between lo hi (k % g .nx) && hits g t (k % g .nx) (k / g .nx)) m)
 
   pub box-last : {s u : List ℕ} (last j : ℕ) → last < j → j ≤ max first (last + 1) → Adds s u (boxSofar g t lo hi first j)
       → Adds s u (λ k. between first last (k / g .nx) && (between lo hi (k % g .nx) && hits g t (k % g .nx) (k / g .nx)))

@@ -1,4 +1,5 @@
--- What one triangle adds to the raster, by whether it counts and by whether its ids are in range; and what all triangles so far have added. Assumes nothing.
+-- What one triangle adds to the raster, by whether it counts and by whether its ids are in range; and what all triangles so far have added.
+-- Assumes nothing.
 use mathlib.Core.Path.{_≡_, refl}
 use mathlib.Core.Bool.{Bool, true, false, _&&_}
 use mathlib.Core.List.{List}
@@ -35,7 +36,8 @@ module _ (g : Grid) (t : Flat) where
 -- ---- a triangle of the mesh, and all of them
 
 module _ (vs : List Float) (u v : ℕ) (g : Grid) where
-  pub covers-in : {s w : List ℕ} (t : Triangle) → cornersInRange vs t ≡ true → Adds s w (λ k. fills g (flat vs u v t) (k % g .nx) (k / g .nx))
+  pub covers-in : {s w : List ℕ} (t : Triangle) → cornersInRange vs t ≡ true
+      → Adds s w (λ k. fills g (flat vs u v t) (k % g .nx) (k / g .nx))
       → Adds s w (λ k. covers vs u v g t (k % g .nx) (k / g .nx))
   unfolding covers
   covers-in t e a = adds-same _ a (λ k. rw e)
@@ -52,11 +54,13 @@ module _ (vs : List Float) (u v : ℕ) (g : Grid) where
   unfolding coveredSofar some
   covered-first ids s = adds-none s (coveredSofar ids 0) (λ k. refl)
 
-  pub covered-next : {s t w : List ℕ} (ids : List ℕ) (n : ℕ) → Adds s t (coveredSofar ids n) → Adds t w (λ k. covers vs u v g (triangle ids n) (k % g .nx) (k / g .nx))
+  pub covered-next : {s t w : List ℕ} (ids : List ℕ) (n : ℕ) → Adds s t (coveredSofar ids n)
+      → Adds t w (λ k. covers vs u v g (triangle ids n) (k % g .nx) (k / g .nx))
       → Adds s w (coveredSofar ids (n + 1))
   unfolding coveredSofar some
   covered-next ids n a b = adds-same (coveredSofar ids (n + 1)) (adds-both a b) (λ k. rw (add-one n))
 
-  pub covered-last : {s t : List ℕ} (ids : List ℕ) (n : ℕ) → n ≡ triangleCount ids → Adds s t (coveredSofar ids n) → Adds s t (λ k. covered vs u v g ids (k % g .nx) (k / g .nx))
+  pub covered-last : {s t : List ℕ} (ids : List ℕ) (n : ℕ) → n ≡ triangleCount ids → Adds s t (coveredSofar ids n)
+      → Adds s t (λ k. covered vs u v g ids (k % g .nx) (k / g .nx))
   unfolding coveredSofar covered
   covered-last ids n e a = adds-same _ a (λ k. rw e)

@@ -32,7 +32,9 @@ module _ (f : ℕ → Bool) where
 module _ (vs : List Float) (u v : ℕ) (g : Grid) (ids : List ℕ) (i j : ℕ) where
   pub covered-tells : covered vs u v g ids i j ≡ true → Covered vs u v g ids i j
   unfolding covered
-  covered-tells e = let w = some-has (λ t. covers vs u v g (triangle ids t) i j) (triangleCount ids) e in record { number = w .0; within = w .1; by = w .2 }
+  covered-tells e =
+      let w = some-has (λ t. covers vs u v g (triangle ids t) i j) (triangleCount ids) e in
+      record { number = w .0; within = w .1; by = w .2 }
 
   pub covered-told : Covered vs u v g ids i j → covered vs u v g ids i j ≡ true
   unfolding covered

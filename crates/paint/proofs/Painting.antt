@@ -1,4 +1,5 @@
--- What is painted adds up: nothing more, the same in other words, one after the other, and what one byte says after a store. Assumes nothing.
+-- What is painted adds up: nothing more, the same in other words, one after the other, and what one byte says after a store. Assumes
+-- nothing.
 use mathlib.Core.Path.{_≡_, refl, ap, _∙_}
 use mathlib.Core.Logic.{_≢_}
 use mathlib.Core.Bool.{Bool, true, false, _&&_, _||_, and-false, or-true, or-false, or-assoc}
@@ -23,7 +24,8 @@ adds-same h′ a e = record { says = λ f s k l. a .says f s k l ∙ ap (λ (z :
 
 -- one after the other
 pub adds-both : {s t u : List ℕ} {h h′ : ℕ → Bool} → Adds s t h → Adds t u h′ → Adds s u (λ k. h k || h′ k)
-adds-both {s} {t} {u} {h} {h′} a b = record { says = λ f w k l. b .says (λ k. f k || h k) (a .says f w) k l ∙ ap bit (or-assoc (f k) (h k) (h′ k)) }
+adds-both {s} {t} {u} {h} {h′} a b =
+    record { says = λ f w k l. b .says (λ k. f k || h k) (a .says f w) k l ∙ ap bit (or-assoc (f k) (h k) (h′ k)) }
 
 bit-one : (a : Bool) → bit a ≢ 0 → a ≡ true
 unfolding bit

@@ -31,7 +31,8 @@ between lo hi i = leb lo i && leb i hi
 
 -- is column i, is row j in the triangle's box of cells, clamped into the grid?
 unfoldable pub inColumns : Grid → Flat → ℕ → Bool
-inColumns g t i = between (firstCell (g .x) (g .w) (g .nx) (t .ax) (t .bx) (t .cx)) (lastCell (g .x) (g .w) (g .nx) (t .ax) (t .bx) (t .cx)) i
+inColumns g t i =
+    between (firstCell (g .x) (g .w) (g .nx) (t .ax) (t .bx) (t .cx)) (lastCell (g .x) (g .w) (g .nx) (t .ax) (t .bx) (t .cx)) i
 
 unfoldable pub inRows : Grid → Flat → ℕ → Bool
 inRows g t j = between (firstCell (g .y) (g .h) (g .ny) (t .ay) (t .by) (t .cy)) (lastCell (g .y) (g .h) (g .ny) (t .ay) (t .by) (t .cy)) j

@@ -20,12 +20,15 @@ use Rattle.place.proofs.Vertices.{along, coordinate-shifted}
 
 -- e n is what `pick` takes of the first n numbers c; e′ and c′ are the same of the moved ones
 picked-shifted : (pick : Float → Float → Float) (d : ℤ) (e e′ c c′ : ℕ → Float) (n : ℕ)
-    → ((x y x′ y′ : Float) → Shifted d x x′ → Shifted d y y′ → Shifted d (pick x y) (pick x′ y′)) → ((k : ℕ) → k ≤ n → Shifted d (c k) (c′ k))
-    → e 1 ≡ c 0 → e′ 1 ≡ c′ 0 → ((k : ℕ) → e (suc k) ≡ pick (e k) (c k)) → ((k : ℕ) → e′ (suc k) ≡ pick (e′ k) (c′ k)) → Shifted d (e (suc n)) (e′ (suc n))
+    → ((x y x′ y′ : Float) → Shifted d x x′ → Shifted d y y′ → Shifted d (pick x y) (pick x′ y′))
+    → ((k : ℕ) → k ≤ n → Shifted d (c k) (c′ k))
+    → e 1 ≡ c 0 → e′ 1 ≡ c′ 0 → ((k : ℕ) → e (suc k) ≡ pick (e k) (c k)) → ((k : ℕ) → e′ (suc k) ≡ pick (e′ k) (c′ k))
+    → Shifted d (e (suc n)) (e′ (suc n))
 picked-shifted pick d e e′ c c′ zero keeps each one one′ next next′ = rw (one, one′) (each 0 (omega arith))
 picked-shifted pick d e e′ c c′ (suc n) keeps each one one′ next next′ =
     rw (next (suc n), next′ (suc n))
-    (keeps (e (suc n)) (c (suc n)) (e′ (suc n)) (c′ (suc n)) (picked-shifted pick d e e′ c c′ n keeps (λ k h. each k (omega arith)) one one′ next next′) (each (suc n) (omega arith)))
+    (keeps (e (suc n)) (c (suc n)) (e′ (suc n)) (c′ (suc n))
+    (picked-shifted pick d e e′ c c′ n keeps (λ k h. each k (omega arith)) one one′ next next′) (each (suc n) (omega arith)))
 
 module _ (dx dy dz : ℤ) (vs vs′ : List Float) (m : Moved dx dy dz vs vs′) (axis : ℕ) (h : axis < 3) where
   abbrev d : ℤ
@@ -38,15 +41,19 @@ module _ (dx dy dz : ℤ) (vs vs′ : List Float) (m : Moved dx dy dz vs vs′) 
   unfolding lowest
   lowest-shifted n l =
       let s = at 0 (omega arith) in
-      picked-shifted least d (lowest vs axis) (lowest vs′ axis) (coordinate vs axis) (coordinate vs′ axis) n (λ x y x′ y′ p q. least-shifted d x y x′ y′ p q)
-      (λ k g. at k (omega arith)) (least-first (coordinate vs axis 0) (s .at) (s .first)) (least-first (coordinate vs′ axis 0) (s .at +ℤ d) (s .second)) (λ k. refl) (λ k. refl)
+      picked-shifted least d (lowest vs axis) (lowest vs′ axis) (coordinate vs axis) (coordinate vs′ axis) n
+      (λ x y x′ y′ p q. least-shifted d x y x′ y′ p q)
+      (λ k g. at k (omega arith)) (least-first (coordinate vs axis 0) (s .at) (s .first))
+      (least-first (coordinate vs′ axis 0) (s .at +ℤ d) (s .second)) (λ k. refl) (λ k. refl)
 
   highest-shifted : (n : ℕ) → 3 * suc n ≤ length vs → Shifted d (highest vs axis (suc n)) (highest vs′ axis (suc n))
   unfolding highest
   highest-shifted n l =
       let s = at 0 (omega arith) in
-      picked-shifted greatest d (highest vs axis) (highest vs′ axis) (coordinate vs axis) (coordinate vs′ axis) n (λ x y x′ y′ p q. greatest-shifted d x y x′ y′ p q)
-      (λ k g. at k (omega arith)) (greatest-first (coordinate vs axis 0) (s .at) (s .first)) (greatest-first (coordinate vs′ axis 0) (s .at +ℤ d) (s .second)) (λ k. refl) (λ k. refl)
+      picked-shifted greatest d (highest vs axis) (highest vs′ axis) (coordinate vs axis) (coordinate vs′ axis) n
+      (λ x y x′ y′ p q. greatest-shifted d x y x′ y′ p q)
+      (λ k g. at k (omega arith)) (greatest-first (coordinate vs axis 0) (s .at) (s .first))
+      (greatest-first (coordinate vs′ axis 0) (s .at +ℤ d) (s .second)) (λ k. refl) (λ k. refl)
 
 -- ---- the box
 

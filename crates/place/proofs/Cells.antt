@@ -1,4 +1,5 @@
--- Two whole numbers up to 2 ^ 24 share a weld cell just where they are one number: 1/ε is 2 at least, so two integers lie between their multiples by it, and rounding keeps each
+-- Two whole numbers up to 2 ^ 24 share a weld cell just where they are one number: 1/ε is 2 at least, so two integers lie between their
+-- multiples by it, and rounding keeps each
 -- multiple on its side of an integer. Assumes nothing.
 use mathlib.Core.Path.{_≡_, sym, ap}
 use mathlib.Core.Bool.{Bool, true, false, not, decide}
@@ -41,7 +42,8 @@ cell-rises : (s : Bool) (a c : ℕ) (t : Bool) (b d : ℕ) → 0 < c → 0 < d �
 cell-rises s a c t b d C D h =
     let x = round binary64 s a c in
     let y = round binary64 t b d in
-    leZ-yes (toSigned-mono 63 (halfAway binary64 x) (halfAway binary64 y) (integral-mono binary64 half half x y (rises binary64 s a c t b d C D h)))
+    leZ-yes (toSigned-mono 63 (halfAway binary64 x) (halfAway binary64 y)
+    (integral-mono binary64 half half x y (rises binary64 s a c t b d C D h)))
 
 cell-whole : (s : Bool) (k : ℕ) → k ≤ 2 ^ 53 → cell s k 1 ≡ signed s k
 cell-whole s k l =
@@ -95,14 +97,18 @@ module _ (i : Float) (w : Wide i) where
   unfolding AtMost
   sizes-apart false n m h l e =
       let g = gap n m h l in
-      cells-apart false (n * num i) false (g .k) false (suc (g .k)) false (m * num i) (den i) (den-pos i) (omega arith) (g .small) (g .under) (next (g .k)) (g .over) e
+      cells-apart false (n * num i) false (g .k) false (suc (g .k)) false (m * num i) (den i) (den-pos i) (omega arith) (g .small)
+      (g .under) (next (g .k)) (g .over) e
   sizes-apart true n m h l e =
       let g = gap n m h l in
-      cells-apart true (m * num i) true (suc (g .k)) true (g .k) true (n * num i) (den i) (den-pos i) (g .small) (omega arith) (g .over) (next-minus (g .k)) (g .under) (sym e)
+      cells-apart true (m * num i) true (suc (g .k)) true (g .k) true (n * num i) (den i) (den-pos i) (g .small) (omega arith)
+      (g .over) (next-minus (g .k)) (g .under) (sym e)
 
   signs-apart : (n m : ℕ) → cellBy true (suc n) ≡ cellBy false m → ⊥
   unfolding AtMost
-  signs-apart n m e = cells-apart true (suc n * num i) true 1 false 0 false (m * num i) (den i) (den-pos i) (lit≤ tt) zero-le (omega arith) (next-minus 0) (omega arith) e
+  signs-apart n m e =
+      cells-apart true (suc n * num i) true 1 false 0 false (m * num i) (den i) (den-pos i) (lit≤ tt) zero-le (omega arith)
+      (next-minus 0) (omega arith) e
 
   same-size : (s : Bool) (n m : ℕ) → n ≤ 2 ^ 24 → m ≤ 2 ^ 24 → cellBy s n ≡ cellBy s m → n ≡ m
   same-size s n m N M e =
@@ -130,7 +136,8 @@ module _ (i : Float) (w : Wide i) where
       same-test c false (λ t. h (same-number a b l r (integer-eq (cellFor a) (cellFor b) (is-true c t)))) (λ t. absurd t)
 
 -- ---- coordinates x and y that are a and b
-pub same-cell : (u x y : Float) (a b : ℤ) → T (unitEnough u) → T (unitFits u) → IsWhole x a → IsWhole y b → natAbs a ≤ 2 ^ 24 → natAbs b ≤ 2 ^ 24
+pub same-cell : (u x y : Float) (a b : ℤ) → T (unitEnough u) → T (unitFits u) → IsWhole x a → IsWhole y b → natAbs a ≤ 2 ^ 24
+    → natAbs b ≤ 2 ^ 24
     → sameInteger (cellOf (inverse (epsilonOf distance u)) x) (cellOf (inverse (epsilonOf distance u)) y) ≡ decide (ℤ-discrete a b)
 same-cell u x y a b lo fits h k l r =
     let i = inverse (epsilonOf distance u) in

@@ -1,4 +1,5 @@
--- 1/ε is from 2 to 2 ^ 29 for a unit from 0.001 to 16: a quotient falls as its divisor rises, so its values at the two ends, which antt computes, bound all between. Assumes nothing.
+-- 1/ε is from 2 to 2 ^ 29 for a unit from 0.001 to 16: a quotient falls as its divisor rises, so its values at the two ends, which antt
+-- computes, bound all between. Assumes nothing.
 use Prim.Native.Nat.{_*_, _^_, _≤_}
 use native.Mathlib.Omega.{arith}
 use lib.Dec.{T}
@@ -48,7 +49,9 @@ unfolding ofBits div le isNan greatest epsilonOf unitFits
 wide u lo fits =
     let hi = and-r (le leastUnit u) (le u mostUnit) fits in
     let e =
-    quotient-between binary32 distance (greatest millimetre tiny) (greatest u tiny) (greatest mostUnit tiny) tt tt tt (greatest-mono millimetre u tiny tiny lo tt)
+    quotient-between binary32 distance (greatest millimetre tiny) (greatest u tiny) (greatest mostUnit tiny) tt tt tt
+    (greatest-mono millimetre u tiny tiny lo tt)
     (greatest-mono u mostUnit tiny tiny hi tt) in
     let i = quotient-between binary64 (ofBits binary64 0x3ff0_0000_0000_0000) (ε mostUnit) (ε u) (ε millimetre) tt tt tt (e .0) (e .1) in
-    wide-between (inverse (ε u)) (le-trans two (inverse (ε millimetre)) (inverse (ε u)) tt (i .0)) (le-trans (inverse (ε u)) (inverse (ε mostUnit)) most (i .1) tt)
+    wide-between (inverse (ε u)) (le-trans two (inverse (ε millimetre)) (inverse (ε u)) tt (i .0))
+    (le-trans (inverse (ε u)) (inverse (ε mostUnit)) most (i .1) tt)

@@ -7,7 +7,8 @@ use native.Mathlib.Omega.{arith}
 use lib.Dec.{T, leb, leb→le, lit<, lit≤}
 use lib.IntN.{ℤ, pos, negsuc, natAbs, _+ℤ_}
 use lib.ListN.{length}
-use lib.Ieee.{Float, binary32, add, climb, div, eq, isNan, le, lt, mul, neg, odd, ofBits, ofFields, ofInt, round, size as numberSize, span, sub, sum, toSigned, units}
+use lib.Ieee.{Float, binary32, add, climb, div, eq, isNan, le, lt, mul, neg, odd, ofBits, ofFields, ofInt, round, size as numberSize, span}
+use lib.Ieee.{sub, sum, toSigned, units}
 use lib.Ieee.Fits.{and-i, and-l, and-r}
 use Rattle.ieee.specs.Integral.{integral}
 use Rattle.ieee.specs.Magnitude.{magnitude}
@@ -37,7 +38,8 @@ use Rattle.place.proofs.Vertices.{along}
 of-integer : (z : ℤ) → natAbs z ≤ 16777216 → wholeOf (ofInt binary32 z) ≡ z
 of-integer z l = toSigned-whole 63 (ofInt binary32 z) z (in-i64 (natAbs z) l) (ofInt-whole binary32 z l)
 
-moved-integer : (d z : ℤ) → natAbs z ≤ 16777216 → natAbs (z +ℤ d) ≤ 16777216 → wholeOf (ofInt binary32 (z +ℤ d)) ≡ wholeOf (ofInt binary32 z) +ℤ d
+moved-integer : (d z : ℤ) → natAbs z ≤ 16777216 → natAbs (z +ℤ d) ≤ 16777216
+    → wholeOf (ofInt binary32 (z +ℤ d)) ≡ wholeOf (ofInt binary32 z) +ℤ d
 moved-integer d z l l′ = of-integer (z +ℤ d) l′ ∙ sym (ap (λ (i : ℤ). i +ℤ d) (of-integer z l))
 
 -- ---- a list of integers in range
@@ -82,19 +84,23 @@ module _ (dx dy dz : ℤ) (left left′ : List ℤ) where
   unfolding integers shift floats
   further small [] h k axis a v l = absurd (omega (arith, same-number left))
   further small (p ∷ ps) h k zero a zero l = moved-integer dx (p .x) (first-within _ _ h) (first-within _ _ k)
-  further small (p ∷ ps) h k (suc zero) a zero l = moved-integer dy (p .y) (first-within _ _ (rest-within _ _ h)) (first-within _ _ (rest-within _ _ k))
+  further small (p ∷ ps) h k (suc zero) a zero l =
+      moved-integer dy (p .y) (first-within _ _ (rest-within _ _ h)) (first-within _ _ (rest-within _ _ k))
   further small (p ∷ ps) h k (suc (suc zero)) a zero l =
-      moved-integer dz (p .z) (first-within _ _ (rest-within _ _ (rest-within _ _ h))) (first-within _ _ (rest-within _ _ (rest-within _ _ k)))
+      moved-integer dz (p .z) (first-within _ _ (rest-within _ _ (rest-within _ _ h)))
+      (first-within _ _ (rest-within _ _ (rest-within _ _ k)))
   further small (p ∷ ps) h k (suc (suc (suc axis))) a zero l = absurd (omega arith)
   further small (p ∷ ps) h k axis a (suc v) l =
       let e : 3 * suc v + axis ≡ suc (suc (suc (3 * v + axis))) = omega arith in
       rw e
-      (further small ps (rest-within _ _ (rest-within _ _ (rest-within _ _ h))) (rest-within _ _ (rest-within _ _ (rest-within _ _ k))) axis a v (omega arith))
+      (further small ps (rest-within _ _ (rest-within _ _ (rest-within _ _ h)))
+      (rest-within _ _ (rest-within _ _ (rest-within _ _ k))) axis a v (omega arith))
 
 pub integers-meet : IntegersMeet
 integers-meet dx dy dz ps left left′ small same h k =
     record {
-      lengths = same-number (integers (shift dx dy dz ps) left′) ∙ as-many dx dy dz left left′ same ps ∙ sym (same-number (integers ps left));
+      lengths =
+          same-number (integers (shift dx dy dz ps) left′) ∙ as-many dx dy dz left left′ same ps ∙ sym (same-number (integers ps left));
       before = all-whole (integers ps left) h;
       after = all-whole (integers (shift dx dy dz ps) left′) k;
       x = further dx dy dz left left′ small ps h k 0 (lit< tt);
@@ -107,7 +113,12 @@ unfolding integersFit integers shift
 moved-there = integers-meet (pos 16777214) (negsuc 16777215) (negsuc 6) cornerPoints (pos 1 ∷ []) (negsuc 4 ∷ []) (lit≤ tt) refl tt tt
 
 closed-here : recordOf (floats here) tetrahedron millimetre .«mesh_quality» ≡ Quality.Closed
-unfolding integers floats tetrahedron recordOf recordBy recordFrom verdict measures measuresFrom volumeOf totals totalsTo withPart withFacet onSlope slopeOf part partOf cornersInRange inRange rebased normal size tetra facetOf triangle boxTo lowest highest boxVolume extent quality tooLarge nearZero byChain byFaces boundaryFree overIncident enough chain step around sameEdge present unbalanced crowded keysThat largestSum keys counting uses signedSum bit sumBy maxBy distinct overTriangles least greatest magnitude rounded rootRound closestRoot floorRoot digits root add sub mul div lt le eq neg sum round units odd numberSize climb span isNan ofBits ofFields ofInt
+unfolding integers floats tetrahedron recordOf recordBy recordFrom verdict measures measuresFrom volumeOf totals totalsTo withPart
+    withFacet onSlope slopeOf part partOf cornersInRange inRange rebased normal size tetra facetOf triangle boxTo lowest highest
+    boxVolume extent quality tooLarge nearZero byChain byFaces boundaryFree overIncident enough chain step around sameEdge present
+    unbalanced crowded keysThat largestSum keys counting uses signedSum bit sumBy maxBy distinct overTriangles least greatest
+    magnitude rounded rootRound closestRoot floorRoot digits root add sub mul div lt le eq neg sum round units odd numberSize climb
+    span isNan ofBits ofFields ofInt
 closed-here = refl
 
 -- the lowest x is 16,777,214 there and 0 here; it is that of vertex 0, whose cell has the numbers 167,772,150 and 0
@@ -115,8 +126,10 @@ corner-shows : box (floats there) .xmin ≢ box (floats here) .xmin
 unfolding integers floats shift boxTo lowest least lt isNan ofInt round units odd numberSize climb span toSigned
 corner-shows e = let n : _≡_ {A = ℕ} 16777214 0 = ap (λ (x : Float). natAbs (wholeOf x)) e in absurd (omega arith)
 
-cell-shows : cellAt (floats there) (inverse (epsilonOf distance millimetre)) 0 ≢ cellAt (floats here) (inverse (epsilonOf distance millimetre)) 0
-unfolding integers floats shift greatest lt isNan ofInt ofBits ofFields round units odd numberSize climb span toSigned cellAt cellOf epsilonOf div mul integral
+cell-shows : cellAt (floats there) (inverse (epsilonOf distance millimetre)) 0 ≢ cellAt (floats here)
+    (inverse (epsilonOf distance millimetre)) 0
+unfolding integers floats shift greatest lt isNan ofInt ofBits ofFields round units odd numberSize climb span toSigned cellAt cellOf
+    epsilonOf div mul integral
 cell-shows e = let n : _≡_ {A = ℕ} 167772150 0 = ap (λ (c : Cell). natAbs (c .x)) e in absurd (omega arith)
 
 pub real-move : RealMove

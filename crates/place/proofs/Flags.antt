@@ -10,7 +10,8 @@ use Rattle.place.specs.Agree.{AgreeBy, AgreeButBest, AgreeRecords}
 use Rattle.place.specs.Place.{FlagsKeep}
 
 -- what leaves the verdict alone and keeps agreement but for the four keeps agreement
-keeps : (mark : MeshQto → MeshQto) → ((q : MeshQto) → mark q .«mesh_quality» ≡ q .«mesh_quality») → ((q q′ : MeshQto) → AgreeButBest q q′ → AgreeButBest (mark q) (mark q′))
+keeps : (mark : MeshQto → MeshQto) → ((q : MeshQto) → mark q .«mesh_quality» ≡ q .«mesh_quality»)
+    → ((q q′ : MeshQto) → AgreeButBest q q′ → AgreeButBest (mark q) (mark q′))
     → (q q′ : MeshQto) → AgreeRecords q q′ → AgreeRecords (mark q) (mark q′)
 unfolding AgreeBy
 keeps mark same open-keeps q q′ r =
@@ -24,7 +25,8 @@ keeps mark same open-keeps q q′ r =
     by Quality.Degenerate e = ap mark e
     by Quality.OpenShell e = open-keeps q q′ e
 
-marked-open : (to to′ : Method) (p p′ : Profile) (q q′ : MeshQto) → p′ ≡ p → AgreeButBest q q′ → AgreeButBest (marked to p q) (marked to′ p′ q′)
+marked-open : (to to′ : Method) (p p′ : Profile) (q q′ : MeshQto) → p′ ≡ p → AgreeButBest q q′
+    → AgreeButBest (marked to p q) (marked to′ p′ q′)
 unfolding marked
 marked-open to to′ p p′ q q′ e r =
     record {
@@ -45,12 +47,14 @@ marked-open to to′ p p′ q q′ e r =
 clip-keeps : (clip : Bool) (q q′ : MeshQto) → AgreeRecords q q′ → AgreeRecords (ifClip clip q) (ifClip clip q′)
 unfolding ifClip marked
 clip-keeps false q q′ r = r
-clip-keeps true q q′ r = keeps clipUnapplied (λ x. refl) (λ x x′ e. marked-open _ _ (x .«profile_invalid») (x′ .«profile_invalid») x x′ (e .profile) e) q q′ r
+clip-keeps true q q′ r =
+    keeps clipUnapplied (λ x. refl) (λ x x′ e. marked-open _ _ (x .«profile_invalid») (x′ .«profile_invalid») x x′ (e .profile) e) q q′ r
 
 profile-keeps : (profile : Profile) (q q′ : MeshQto) → AgreeRecords q q′ → AgreeRecords (ifInvalid profile q) (ifInvalid profile q′)
 unfolding ifInvalid marked
 profile-keeps Profile.Valid q q′ r = r
-profile-keeps (Profile.Invalid d) q q′ r = keeps (λ x. profileInvalid x d) (λ x. refl) (λ x x′ e. marked-open _ _ (Profile.Invalid d) (Profile.Invalid d) x x′ refl e) q q′ r
+profile-keeps (Profile.Invalid d) q q′ r =
+    keeps (λ x. profileInvalid x d) (λ x. refl) (λ x x′ e. marked-open _ _ (Profile.Invalid d) (Profile.Invalid d) x x′ refl e) q q′ r
 
 pub flags-keep : FlagsKeep
 flags-keep clip profile q q′ r = profile-keeps profile (ifClip clip q) (ifClip clip q′) (clip-keeps clip q q′ r)

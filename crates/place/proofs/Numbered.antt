@@ -25,12 +25,28 @@ use Rattle.place.proofs.Flags.{flags-keep}
 
 -- ---- words of records that agree
 
-words-by : (v : Quality) (q q′ : MeshQto) → q .«mesh_quality» ≡ v → q′ .«mesh_quality» ≡ v → AgreeBy v q q′ → owed 0 (wordsOf q′) ≡ owed 0 (wordsOf q)
+words-by : (v : Quality) (q q′ : MeshQto) → q .«mesh_quality» ≡ v → q′ .«mesh_quality» ≡ v → AgreeBy v q q′
+    → owed 0 (wordsOf q′) ≡ owed 0 (wordsOf q)
 unfolding AgreeBy owed wordsOf unexcepted qualityNumber
 words-by Quality.Closed q q′ h h′ r = ap (λ (x : MeshQto). owed 0 (wordsOf x)) r
 words-by Quality.Degenerate q q′ h h′ r = ap (λ (x : MeshQto). owed 0 (wordsOf x)) r
 words-by Quality.OpenShell q q′ h h′ r =
-    rw (h, h′, r .volume, r .aabb, r .surface, r .top, r .bottom, r .side, r .inclined, r .largest, r .smallest, r .count, r .profile, r .bounded)
+    rw (
+      h,
+      h′,
+      r .volume,
+      r .aabb,
+      r .surface,
+      r .top,
+      r .bottom,
+      r .side,
+      r .inclined,
+      r .largest,
+      r .smallest,
+      r .count,
+      r .profile,
+      r .bounded,
+    )
 
 words-agree : (q q′ : MeshQto) → AgreeRecords q q′ → owed 0 (wordsOf q′) ≡ owed 0 (wordsOf q)
 words-agree q q′ r = words-by (q .«mesh_quality») q q′ refl (r .verdict) (r .rest)
@@ -40,11 +56,13 @@ words-at : (k : Check) (clip defect : ℕ) (q q′ : MeshQto) (words : List ℕ)
 unfolding numberAt wordsAt answerAt AgreeAnswers
 words-at (Check.Refuse n) clip defect q q′ words r = refl
 words-at Check.Zero clip defect q q′ words r = refl
-words-at Check.Full clip defect q q′ words r = words-agree (withFlags clip defect q) (withFlags clip defect q′) (flags-keep _ (profileAt defect) q q′ r)
+words-at Check.Full clip defect q q′ words r =
+    words-agree (withFlags clip defect q) (withFlags clip defect q′) (flags-keep _ (profileAt defect) q q′ r)
 
 -- ---- flag values that are none are refused in both
 
-module _ (dx dy dz : ℤ) (vs vs′ : List Float) (ids : List ℕ) (u : Float) (w r : List ℕ) (s : List Float) (m : Moved dx dy dz vs vs′) (enough : T (unitEnough u)) where
+module _ (dx dy dz : ℤ) (vs vs′ : List Float) (ids : List ℕ) (u : Float) (w r : List ℕ) (s : List Float) (m : Moved dx dy dz vs vs′)
+    (enough : T (unitEnough u)) where
   abbrev said : List Float → Check
   said xs = checkOf xs ids u (length w) (length r) (length s)
 
@@ -53,12 +71,14 @@ module _ (dx dy dz : ℤ) (vs vs′ : List Float) (ids : List ℕ) (u : Float) (
 
   -- of the outcomes that the contract of `compute` fixes
   agree : Agree (answerAt (said vs) (recordOf vs ids u)) (answerAt (said vs′) (recordOf vs′ ids u))
-      (areaAt (said vs) (cleared (workWords (length vs) (length ids)) w) w) (areaAt (said vs′) (cleared (workWords (length vs′) (length ids)) w) w)
+      (areaAt (said vs) (cleared (workWords (length vs) (length ids)) w) w)
+      (areaAt (said vs′) (cleared (workWords (length vs′) (length ids)) w) w)
       (areaAt (said vs) (cleared rasterBytes r) r) (areaAt (said vs′) (cleared rasterBytes r) r)
       (areaAt (said vs) (surfacesAfter vs ids u s) s) (areaAt (said vs′) (surfacesAfter vs′ ids u s) s)
   agree =
       place-does-not-show dx dy dz vs vs′ ids u w r s _ _ _ _ _ _ _ _ m enough
-      (record { answers = refl; work = refl; raster = refl; surfaces = refl }) (record { answers = refl; work = refl; raster = refl; surfaces = refl })
+      (record { answers = refl; work = refl; raster = refl; surfaces = refl })
+      (record { answers = refl; work = refl; raster = refl; surfaces = refl })
 
   -- whether the flags fit
   abbrev tried : Bool → Check → Check
@@ -85,7 +105,8 @@ numbered-does-not-show dx dy dz vs vs′ ids u clip defect w r s words n n′ w�
     let a = agree dx dy dz vs vs′ ids u w r s m enough in
     record {
       number = rw (c .number, c′ .number, same-check dx dy dz vs vs′ ids u w r s m enough);
-      record-words = rw (c .number, c′ .number, c .record-words, c′ .record-words) (words-stay dx dy dz vs vs′ ids u w r s m enough fit clip defect words);
+      record-words = rw (c .number, c′ .number, c .record-words, c′ .record-words)
+          (words-stay dx dy dz vs vs′ ids u w r s m enough fit clip defect words);
       work = rw (c .work, c′ .work) (area-stays dx dy dz vs vs′ ids u w r s m enough fit _ _ w (a .work));
       raster = rw (c .raster, c′ .raster) (area-stays dx dy dz vs vs′ ids u w r s m enough fit _ _ r (a .raster));
       surfaces = rw (c .surfaces, c′ .surfaces) (area-stays dx dy dz vs vs′ ids u w r s m enough fit _ _ s (a .surfaces));

@@ -24,7 +24,8 @@ module _ (dx dy dz : ℤ) (vs vs′ : List Float) (m : Moved dx dy dz vs vs′) 
   unfolding checkOf
   check-stays ids u w r s = rw (m .lengths, fine-stays dx dy dz vs vs′ m)
 
-  pub work-stays : (ids area : List ℕ) → cleared (workWords (length vs′) (length ids)) area ≡ cleared (workWords (length vs) (length ids)) area
+  pub work-stays : (ids area : List ℕ) → cleared (workWords (length vs′) (length ids)) area
+      ≡ cleared (workWords (length vs) (length ids)) area
   work-stays ids area = rw (m .lengths)
 
 -- a refusal and the zero record do not depend on the mesh's floats
@@ -34,7 +35,8 @@ agree-at (Check.Refuse n) q q′ h = refl
 agree-at Check.Zero q q′ h = record { verdict = refl; rest = refl }
 agree-at Check.Full q q′ h = h refl
 
-area-at : {A : Type 0} (k : Check) (after after′ area : List A) → (k ≡ Check.Full → after′ ≡ after) → areaAt k after′ area ≡ areaAt k after area
+area-at : {A : Type 0} (k : Check) (after after′ area : List A) → (k ≡ Check.Full → after′ ≡ after)
+    → areaAt k after′ area ≡ areaAt k after area
 unfolding areaAt
 area-at (Check.Refuse n) after after′ area h = refl
 area-at Check.Zero after after′ area h = refl
@@ -44,7 +46,8 @@ pub place-does-not-show : PlaceDoesNotShow
 place-does-not-show dx dy dz vs vs′ ids u w r s a a′ w₁ w₂ r₁ r₂ s₁ s₂ m enough c c′ =
     let k = checkOf vs ids u (length w) (length r) (length s) in
     let e : checkOf vs′ ids u (length w) (length r) (length s) ≡ k = check-stays dx dy dz vs vs′ m ids u (length w) (length r) (length s) in
-    let passes : k ≡ Check.Full → Admitted vs ids u (length w) (length r) (length s) = λ h. admitted vs ids u (length w) (length r) (length s) k h refl in
+    let passes : k ≡ Check.Full → Admitted vs ids u (length w) (length r) (length s) =
+    λ h. admitted vs ids u (length w) (length r) (length s) k h refl in
     record {
       answers =
           rw (c .answers, c′ .answers, e)

@@ -1,4 +1,5 @@
--- What the record is made of agrees, one part after the other; only the footprints of an open mesh depend on where it stands. Assumes nothing.
+-- What the record is made of agrees, one part after the other; only the footprints of an open mesh depend on where it stands. Assumes
+-- nothing.
 use mathlib.Core.Path.{_≡_, refl, sym, _∙_}
 use mathlib.Core.Bool.{Bool, true, false, cond}
 use mathlib.Core.List.{List}
@@ -31,12 +32,15 @@ open-bounded : (v s aabb p : Float) → prismNumber (openBest v s aabb p .prism)
 unfolding openBest prismNumber
 open-bounded v s aabb p = go (trusted p (upper p aabb) v s)
   where
-    go : (t : Bool) → prismNumber (cond t (record { volume = v; method = Method.MeshOpen; reliable = true; prism = PrismBound.Bound p }) (record { volume = p; method = Method.PrismFallback; reliable = false; prism = PrismBound.Bound p }) .prism) ≡ 1
+    go : (t : Bool) → prismNumber
+        (cond t (record { volume = v; method = Method.MeshOpen; reliable = true; prism = PrismBound.Bound p })
+        (record { volume = p; method = Method.PrismFallback; reliable = false; prism = PrismBound.Bound p }) .prism) ≡ 1
     go true = refl
     go false = refl
 
 -- of a closed or degenerate mesh nothing asks for the prism, p or p′
-agree-but-prism : (m : Measures) (q : Quality) (v s aabb p p′ : Float) → AgreeRecords (recordFrom m aabb q (bestOf q v s aabb p)) (recordFrom m aabb q (bestOf q v s aabb p′))
+agree-but-prism : (m : Measures) (q : Quality) (v s aabb p p′ : Float)
+    → AgreeRecords (recordFrom m aabb q (bestOf q v s aabb p)) (recordFrom m aabb q (bestOf q v s aabb p′))
 unfolding recordFrom bestOf AgreeBy
 agree-but-prism m Quality.Closed v s aabb p p′ = record { verdict = refl; rest = refl }
 agree-but-prism m Quality.Degenerate v s aabb p p′ = record { verdict = refl; rest = refl }
@@ -63,7 +67,8 @@ agree-but-prism m Quality.OpenShell v s aabb p p′ =
 module _ (dx dy dz : ℤ) (vs vs′ : List Float) (m : Moved dx dy dz vs vs′) (some : 9 ≤ length vs) (ids : List ℕ) where
   pub totals-stay : totals vs′ ids ≡ totals vs ids
   unfolding totals
-  totals-stay = same-totals dx dy dz vs vs′ m (box vs) (box vs′) (box-shifted dx dy dz vs vs′ m (omega arith)) thresholds ids (triangleCount ids)
+  totals-stay =
+      same-totals dx dy dz vs vs′ m (box vs) (box vs′) (box-shifted dx dy dz vs vs′ m (omega arith)) thresholds ids (triangleCount ids)
 
   buckets-stay : buckets vs′ ids ≡ buckets vs ids
   unfolding buckets
@@ -92,4 +97,5 @@ module _ (dx dy dz : ℤ) (vs vs′ : List Float) (m : Moved dx dy dz vs vs′) 
 
       pub records-agree : AgreeRecords (recordOf vs ids u) (recordOf vs′ ids u)
       unfolding recordOf recordBy best
-      records-agree = rw (verdict-stays, measures-stay, box-volume-stays) (agree-but-prism (measures vs ids u) (verdict vs ids u (measures vs ids u .volume)) _ _ (boxVolume (box vs) (cube u)) _ _)
+      records-agree = rw (verdict-stays, measures-stay, box-volume-stays)
+          (agree-but-prism (measures vs ids u) (verdict vs ids u (measures vs ids u .volume)) _ _ (boxVolume (box vs) (cube u)) _ _)

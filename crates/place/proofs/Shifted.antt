@@ -1,4 +1,5 @@
--- A float that is a whole number, and the same moved: the premise by values, and what differences and comparisons see of it. Assumes nothing.
+-- A float that is a whole number, and the same moved: the premise by values, and what differences and comparisons see of it. Assumes
+-- nothing.
 use mathlib.Core.Path.{_≡_, refl, sym, subst}
 use mathlib.Core.Bool.{Bool, true, false, cond}
 use Prim.Native.Nat.{ℕ, _^_, _≤_, _<_}
@@ -57,7 +58,8 @@ shifted-of d x y before after plus =
 pub whole-fine : (x : Float) (a : ℤ) → IsWhole x a → natAbs a ≤ 16777216 → T (fine x)
 unfolding ofBits
 whole-fine x a h l =
-    under-bound (magnitude x) (ofBits binary32 0x5000_0000) (pos (natAbs a)) 8589934592 (whole-equals (magnitude x) (pos (natAbs a)) (magnitude-whole x a h)) (omega arith)
+    under-bound (magnitude x) (ofBits binary32 0x5000_0000) (pos (natAbs a)) 8589934592
+    (whole-equals (magnitude x) (pos (natAbs a)) (magnitude-whole x a h)) (omega arith)
     (whole-equals (ofBits binary32 0x5000_0000) (pos 8589934592) (refl, refl))
 
 module _ (d : ℤ) (x y x′ y′ : Float) (p : Shifted d x x′) (q : Shifted d y y′) where
@@ -80,11 +82,13 @@ module _ (d : ℤ) (x y x′ y′ : Float) (p : Shifted d x x′) (q : Shifted d
 
   pub least-shifted : Shifted d (least x y) (least x′ y′)
   unfolding least
-  least-shifted = rw (whole-not-nan x (p .at) (p .first), whole-not-nan x′ (p .at +ℤ d) (p .second), same-lt d y x y′ x′ q p) (taken (lt y x))
+  least-shifted =
+      rw (whole-not-nan x (p .at) (p .first), whole-not-nan x′ (p .at +ℤ d) (p .second), same-lt d y x y′ x′ q p) (taken (lt y x))
 
   pub greatest-shifted : Shifted d (greatest x y) (greatest x′ y′)
   unfolding greatest
-  greatest-shifted = rw (whole-not-nan x (p .at) (p .first), whole-not-nan x′ (p .at +ℤ d) (p .second), same-lt d x y x′ y′ p q) (taken (lt x y))
+  greatest-shifted =
+      rw (whole-not-nan x (p .at) (p .first), whole-not-nan x′ (p .at +ℤ d) (p .second), same-lt d x y x′ y′ p q) (taken (lt x y))
 
 -- every whole number is below ∞ and above -∞
 pub least-first : (x : Float) (a : ℤ) → IsWhole x a → least (inf false) x ≡ x

@@ -1,4 +1,5 @@
--- Triangles are rebased by the box, so each adds the same where the mesh is moved; so do all of them, to the totals and to the surfaces. Assumes nothing.
+-- Triangles are rebased by the box, so each adds the same where the mesh is moved; so do all of them, to the totals and to the surfaces.
+-- Assumes nothing.
 use mathlib.Core.Path.{_≡_, refl}
 use mathlib.Core.Bool.{Bool, true, false, _&&_}
 use mathlib.Core.List.{List}
@@ -25,9 +26,12 @@ module _ (dx dy dz : ℤ) (vs vs′ : List Float) (m : Moved dx dy dz vs vs′) 
   unfolding rebased
   same-corner v l =
       rw (
-        same-sub dx (coordinate vs 0 v) (b .xmin) (coordinate vs′ 0 v) (b′ .xmin) (coordinate-shifted dx dy dz vs vs′ m v 0 (lit< tt) l) (k .xmin) binary64,
-        same-sub dy (coordinate vs 1 v) (b .ymin) (coordinate vs′ 1 v) (b′ .ymin) (coordinate-shifted dx dy dz vs vs′ m v 1 (lit< tt) l) (k .ymin) binary64,
-        same-sub dz (coordinate vs 2 v) (b .zmin) (coordinate vs′ 2 v) (b′ .zmin) (coordinate-shifted dx dy dz vs vs′ m v 2 (lit< tt) l) (k .zmin) binary64,
+        same-sub dx (coordinate vs 0 v) (b .xmin) (coordinate vs′ 0 v) (b′ .xmin)
+            (coordinate-shifted dx dy dz vs vs′ m v 0 (lit< tt) l) (k .xmin) binary64,
+        same-sub dy (coordinate vs 1 v) (b .ymin) (coordinate vs′ 1 v) (b′ .ymin)
+            (coordinate-shifted dx dy dz vs vs′ m v 1 (lit< tt) l) (k .ymin) binary64,
+        same-sub dz (coordinate vs 2 v) (b .zmin) (coordinate vs′ 2 v) (b′ .zmin)
+            (coordinate-shifted dx dy dz vs vs′ m v 2 (lit< tt) l) (k .zmin) binary64,
       )
 
   same-part : (t : Triangle) → part vs′ (origin b′) t ≡ part vs (origin b) t

@@ -1,4 +1,5 @@
--- Two vertices share a weld cell just where they did before the move, so every vertex keeps its name, and the welded ids are the same. Assumes nothing.
+-- Two vertices share a weld cell just where they did before the move, so every vertex keeps its name, and the welded ids are the same.
+-- Assumes nothing.
 use mathlib.Core.Path.{_≡_, refl, sym, _∙_}
 use mathlib.Core.Bool.{Bool, true, false, cond}
 use mathlib.Core.List.{List, [], _∷_}
@@ -31,7 +32,8 @@ module _ (u : Float) (enough : T (unitEnough u)) (fits : T (unitFits u)) where
   inv = inverse (epsilonOf distance u)
 
   -- both coordinates are moved, so they are one number just where they were
-  same-sharing : (d : ℤ) (x y x′ y′ : Float) → Shifted d x x′ → Shifted d y y′ → sameInteger (cellOf inv x′) (cellOf inv y′) ≡ sameInteger (cellOf inv x) (cellOf inv y)
+  same-sharing : (d : ℤ) (x y x′ y′ : Float) → Shifted d x x′ → Shifted d y y′
+      → sameInteger (cellOf inv x′) (cellOf inv y′) ≡ sameInteger (cellOf inv x) (cellOf inv y)
   same-sharing d x y x′ y′ p q =
       same-cell u x′ y′ (p .at +ℤ d) (q .at +ℤ d) enough fits (p .second) (q .second) (p .second-most) (q .second-most)
       ∙ sym (eq-whole x′ y′ (p .at +ℤ d) (q .at +ℤ d) (p .second) (q .second))
@@ -41,12 +43,14 @@ module _ (u : Float) (enough : T (unitEnough u)) (fits : T (unitFits u)) where
 
   module _ (dx dy dz : ℤ) (vs vs′ : List Float) (m : Moved dx dy dz vs vs′) where
     on-axis : (axis i j : ℕ) → axis < 3 → 3 * i + 2 < length vs → 3 * j + 2 < length vs
-        → sameInteger (cellOf inv (coordinate vs′ axis i)) (cellOf inv (coordinate vs′ axis j)) ≡ sameInteger (cellOf inv (coordinate vs axis i)) (cellOf inv (coordinate vs axis j))
+        → sameInteger (cellOf inv (coordinate vs′ axis i)) (cellOf inv (coordinate vs′ axis j))
+        ≡ sameInteger (cellOf inv (coordinate vs axis i)) (cellOf inv (coordinate vs axis j))
     on-axis axis i j h k l =
         same-sharing (along dx dy dz axis) (coordinate vs axis i) (coordinate vs axis j) (coordinate vs′ axis i) (coordinate vs′ axis j)
         (coordinate-shifted dx dy dz vs vs′ m i axis h k) (coordinate-shifted dx dy dz vs vs′ m j axis h l)
 
-    same-cells : (i j : ℕ) → 3 * i + 2 < length vs → 3 * j + 2 < length vs → sameCell (cellAt vs′ inv i) (cellAt vs′ inv j) ≡ sameCell (cellAt vs inv i) (cellAt vs inv j)
+    same-cells : (i j : ℕ) → 3 * i + 2 < length vs → 3 * j + 2 < length vs
+        → sameCell (cellAt vs′ inv i) (cellAt vs′ inv j) ≡ sameCell (cellAt vs inv i) (cellAt vs inv j)
     unfolding sameCell cellAt
     same-cells i j k l = rw (on-axis 0 i j (lit< tt) k l, on-axis 1 i j (lit< tt) k l, on-axis 2 i j (lit< tt) k l)
 

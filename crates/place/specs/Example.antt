@@ -52,7 +52,8 @@ IntegersMeet =
     → Moved dx dy dz (floats (integers ps left)) (floats (integers (shift dx dy dz ps) left′))
 
 abbrev pub cornerPoints : List Point
-cornerPoints = point (pos 0) (pos 0) (pos 0) ∷ point (pos 2) (pos 0) (pos 0) ∷ point (pos 0) (pos 2) (pos 0) ∷ point (pos 0) (pos 0) (pos 2) ∷ []
+cornerPoints =
+    point (pos 0) (pos 0) (pos 0) ∷ point (pos 2) (pos 0) (pos 0) ∷ point (pos 0) (pos 2) (pos 0) ∷ point (pos 0) (pos 0) (pos 2) ∷ []
 
 -- with a 1 left over
 abbrev pub here : List ℤ
@@ -69,4 +70,5 @@ pub record RealMove : Type 0 where
   pub closed : recordOf (floats here) tetrahedron millimetre .«mesh_quality» ≡ Quality.Closed
   -- what does show: a corner of the box, and the weld's cell of a vertex. So neither may come into the record or stay in an area
   pub corner-shows : box (floats there) .xmin ≢ box (floats here) .xmin
-  pub cell-shows : cellAt (floats there) (inverse (epsilonOf distance millimetre)) 0 ≢ cellAt (floats here) (inverse (epsilonOf distance millimetre)) 0
+  pub cell-shows : cellAt (floats there) (inverse (epsilonOf distance millimetre)) 0 ≢ cellAt (floats here)
+      (inverse (epsilonOf distance millimetre)) 0

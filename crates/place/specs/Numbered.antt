@@ -37,5 +37,6 @@ NumberedDoesNotShow =
     (dx dy dz : ℤ) (vs vs′ : List Float) (ids : List ℕ) (u : Float) (clip defect : ℕ) (w r : List ℕ) (s : List Float) (words : List ℕ)
     (n n′ : ℕ) (w₁ w₂ r₁ r₂ : List ℕ) (s₁ s₂ : List Float) (words₁ words₂ : List ℕ)
     → Moved dx dy dz vs vs′ → T (unitEnough u)
-    → ComputesNumbered vs ids u clip defect w r s words n w₁ r₁ s₁ words₁ → ComputesNumbered vs′ ids u clip defect w r s words n′ w₂ r₂ s₂ words₂
+    → ComputesNumbered vs ids u clip defect w r s words n w₁ r₁ s₁ words₁
+    → ComputesNumbered vs′ ids u clip defect w r s words n′ w₂ r₂ s₂ words₂
     → AgreeNumbered n n′ w₁ w₂ r₁ r₂ s₁ s₂ words₁ words₂

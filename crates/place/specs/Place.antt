@@ -1,4 +1,5 @@
--- Demand 3 (the place does not show), over what `compute` promises: of any two outcomes that its contract allows for a mesh and the same mesh moved.
+-- Demand 3 (the place does not show), over what `compute` promises: of any two outcomes that its contract allows for a mesh and the same
+-- mesh moved.
 use mathlib.Core.Bool.{Bool}
 use mathlib.Core.List.{List}
 use Prim.Native.Nat.{ℕ}
@@ -16,9 +17,12 @@ use Rattle.place.specs.Agree.{Agree, AgreeRecords}
 -- the same ids and unit, and lent areas alike before the call (`place-does-not-show`)
 abbrev pub PlaceDoesNotShow : Type 0
 PlaceDoesNotShow =
-    (dx dy dz : ℤ) (vs vs′ : List Float) (ids : List ℕ) (u : Float) (w r : List ℕ) (s : List Float) (a a′ : Answer) (w₁ w₂ r₁ r₂ : List ℕ) (s₁ s₂ : List Float)
-    → Moved dx dy dz vs vs′ → T (unitEnough u) → Computes vs ids u w r s a w₁ r₁ s₁ → Computes vs′ ids u w r s a′ w₂ r₂ s₂ → Agree a a′ w₁ w₂ r₁ r₂ s₁ s₂
+    (dx dy dz : ℤ) (vs vs′ : List Float) (ids : List ℕ) (u : Float) (w r : List ℕ) (s : List Float) (a a′ : Answer)
+    (w₁ w₂ r₁ r₂ : List ℕ) (s₁ s₂ : List Float)
+    → Moved dx dy dz vs vs′ → T (unitEnough u) → Computes vs ids u w r s a w₁ r₁ s₁ → Computes vs′ ids u w r s a′ w₂ r₂ s₂
+    → Agree a a′ w₁ w₂ r₁ r₂ s₁ s₂
 
 -- the same flags keep that (`flags-keep`)
 abbrev pub FlagsKeep : Type 0
-FlagsKeep = (clip : Bool) (profile : Profile) (q q′ : MeshQto) → AgreeRecords q q′ → AgreeRecords (flagged clip profile q) (flagged clip profile q′)
+FlagsKeep =
+    (clip : Bool) (profile : Profile) (q q′ : MeshQto) → AgreeRecords q q′ → AgreeRecords (flagged clip profile q) (flagged clip profile q′)

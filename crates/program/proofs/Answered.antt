@@ -1,4 +1,5 @@
--- What is printed for an answer of `compute` is the text of the mesh: its rows stand first in the surface area, as many as the record counts.
+-- What is printed for an answer of `compute` is the text of the mesh: its rows stand first in the surface area, as many as the record
+-- counts.
 use mathlib.Core.Path.{_≡_, refl, sym, ap, _∙_}
 use Prim.Native.Nat.{ℕ, _*_, _≤_}
 use mathlib.Core.Bool.{Bool}
@@ -34,7 +35,8 @@ rows-first rows l = rw (← length-flatten rows, take-append-seam (flatten rows)
 -- ---- by what the table says
 
 answerText : List ℕ → Bool → Profile → List Float → Answer → List ℕ
-answerText ids clip profile s (Answer.Record q) = listingOf (flagged clip profile q) (rowsOf (take (4 * q .«surface_count») s)) (pieces shareId ids)
+answerText ids clip profile s (Answer.Record q) =
+    listingOf (flagged clip profile q) (rowsOf (take (4 * q .«surface_count») s)) (pieces shareId ids)
 answerText ids clip profile s (Answer.Refused n) = refusedLine n
 
 answerRows : Answer → ℕ
@@ -42,7 +44,8 @@ answerRows (Answer.Record q) = q .«surface_count»
 answerRows (Answer.Refused n) = 0
 
 module _ (vs : List Float) (ids : List ℕ) (u : Float) (clip : Bool) (profile : Profile) (s : List Float) where
-  text-by : (c : Check) → answerText ids clip profile (areaAt c (surfacesAfter vs ids u s) s) (answerAt c (recordOf vs ids u)) ≡ textAt c vs ids u clip profile
+  text-by : (c : Check) → answerText ids clip profile (areaAt c (surfacesAfter vs ids u s) s) (answerAt c (recordOf vs ids u))
+      ≡ textAt c vs ids u clip profile
   unfolding answerText answerAt areaAt surfacesAfter textAt listed rowsOf
   text-by (Check.Refuse n) = refl
   text-by Check.Zero = refl
@@ -52,14 +55,21 @@ module _ (vs : List Float) (ids : List ℕ) (u : Float) (clip : Bool) (profile :
   unfolding answerRows answerAt areaAt surfacesAfter
   rows-by (Check.Refuse n) = omega arith
   rows-by Check.Zero = omega arith
-  rows-by Check.Full = rw (counts-rows vs ids u, length-append (flatten (surfaceRows vs ids u)) (drop (4 * length (surfaceRows vs ids u)) s), length-flatten (surfaceRows vs ids u)) (omega arith)
+  rows-by Check.Full =
+      rw (
+        counts-rows vs ids u,
+        length-append (flatten (surfaceRows vs ids u)) (drop (4 * length (surfaceRows vs ids u)) s),
+        length-flatten (surfaceRows vs ids u),
+      ) (omega arith)
 
   -- ---- by what `compute` gave, over areas as long as the program's
 
   module _ (w r : List ℕ) (a : Answer) (w′ r′ : List ℕ) (s′ : List Float) (made : Computes vs ids u w r s a w′ r′ s′) where
     pub rows-fit : (q : MeshQto) → a ≡ Answer.Record q → 4 * q .«surface_count» ≤ length s′
     unfolding answerRows
-    rows-fit q e = rw (made .surfaces, sym (ap answerRows e), ap answerRows (made .answers)) (rows-by (checkOf vs ids u (length w) (length r) (length s)))
+    rows-fit q e =
+        rw (made .surfaces, sym (ap answerRows e), ap answerRows (made .answers))
+        (rows-by (checkOf vs ids u (length w) (length r) (length s)))
 
     module _ (hw : length w ≡ 13824) (hr : length r ≡ 65536) (hs : length s ≡ 2048) where
       text-of : answerText ids clip profile s′ a ≡ meshText vs ids u clip profile
@@ -67,7 +77,8 @@ module _ (vs : List Float) (ids : List ℕ) (u : Float) (clip : Bool) (profile :
       text-of = rw (made .answers, made .surfaces, text-by (checkOf vs ids u (length w) (length r) (length s)), hw, hr, hs)
 
       pub record-text : (q : MeshQto) → a ≡ Answer.Record q
-          → listingOf (flagged clip profile q) (rowsOf (take (4 * q .«surface_count») s′)) (pieces shareId ids) ≡ meshText vs ids u clip profile
+          → listingOf (flagged clip profile q) (rowsOf (take (4 * q .«surface_count») s′)) (pieces shareId ids)
+          ≡ meshText vs ids u clip profile
       unfolding answerText
       record-text q e = sym (ap (answerText ids clip profile s′) e) ∙ text-of
 

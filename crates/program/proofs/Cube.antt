@@ -1,6 +1,7 @@
 -- The cube's text, by computing: its file, its record, its rows and its pieces, and then the listing of these. Assumes nothing.
 use mathlib.Core.Path.{_≡_, refl}
-use lib.Ieee.{binary32, add, climb, div, eq, isNan, le, lt, mul, neg, odd, ofBits, ofFields, ofInt, round, size as numberSize, span, sub, sum, toSigned, units}
+use lib.Ieee.{binary32, add, climb, div, eq, isNan, le, lt, mul, neg, odd, ofBits, ofFields, ofInt, round, size as numberSize, span, sub}
+use lib.Ieee.{sum, toSigned, units}
 use Rattle.ieee.specs.Integral.{integral}
 use Rattle.ieee.specs.Magnitude.{magnitude}
 use Rattle.ieee.specs.Order.{greatest, least}
@@ -27,7 +28,8 @@ use Rattle.record.specs.Numbers.{profileAt}
 use Rattle.refusals.specs.declared.Check.{Check}
 use Rattle.refusals.specs.Refusals.{checkOf, unitFits}
 use Rattle.vertices.specs.Areas.{workWords}
-use Rattle.qto.specs.Full.{best, buckets, measures, measuresFrom, recordBy, recordFrom, recordOf, surfaceOf, surfaceRows, totals, verdict, volumeOf}
+use Rattle.qto.specs.Full.{best, buckets, measures, measuresFrom, recordBy, recordFrom, recordOf, surfaceOf, surfaceRows, totals, verdict}
+use Rattle.qto.specs.Full.{volumeOf}
 use Rattle.meshfile.specs.Format.{File, ended, endingOf, fileOf, frontOf, half, idsIn, lengthFits, unitIn, verticesIn, word, words}
 use Rattle.meshfile.specs.Reading.{floatsOf}
 use Rattle.meshfile.specs.Written.{allBytes, bytesOf, plain, recordOf as recordBytes}
@@ -45,11 +47,20 @@ unfolding cubeFile floatsOf checkOf unitFits allFine magnitude le lt eq ofBits o
 cube-passes = refl
 
 cube-record : recordOf (floatsOf (cubeFile .vertices)) (cubeFile .ids) (ofBits binary32 (cubeFile .unit)) ≡ cubeRecord
-unfolding cubeFile floatsOf cubeRecord recordOf recordBy recordFrom verdict measures measuresFrom volumeOf surfaceOf totals totalsTo withPart withFacet onSlope slopeOf part partOf cornersInRange inRange rebased normal size tetra facetOf triangle boxTo lowest highest boxVolume extent quality tooLarge nearZero byChain byFaces boundaryFree overIncident enough chain step around sameEdge present unbalanced crowded keysThat keys counting uses signedSum bit sumBy maxBy distinct overTriangles best bestOf buckets surfaceRows bucketsTo withSurface tenths keyOf sameKey sameInteger put rows precedes inserted sorted scaled largest leastAbove smallest least greatest magnitude integral rounded rootRound closestRoot floorRoot digits root add sub mul div lt le eq neg sum round units odd numberSize climb span isNan ofBits ofFields ofInt toSigned
+unfolding cubeFile floatsOf cubeRecord recordOf recordBy recordFrom verdict measures measuresFrom volumeOf surfaceOf totals totalsTo
+    withPart withFacet onSlope slopeOf part partOf cornersInRange inRange rebased normal size tetra facetOf triangle boxTo lowest
+    highest boxVolume extent quality tooLarge nearZero byChain byFaces boundaryFree overIncident enough chain step around sameEdge
+    present unbalanced crowded keysThat keys counting uses signedSum bit sumBy maxBy distinct overTriangles best bestOf buckets
+    surfaceRows bucketsTo withSurface tenths keyOf sameKey sameInteger put rows precedes inserted sorted scaled largest leastAbove
+    smallest least greatest magnitude integral rounded rootRound closestRoot floorRoot digits root add sub mul div lt le eq neg sum
+    round units odd numberSize climb span isNan ofBits ofFields ofInt toSigned
 cube-record = refl
 
 cube-rows : surfaceRows (floatsOf (cubeFile .vertices)) (cubeFile .ids) (ofBits binary32 (cubeFile .unit)) ≡ cubeRows
-unfolding cubeFile floatsOf cubeRows surfaceRows buckets bucketsTo withSurface part partOf cornersInRange inRange rebased normal size tetra facetOf triangle boxTo lowest highest tenths keyOf sameKey sameInteger put rows precedes inserted sorted scaled least greatest integral rounded rootRound closestRoot floorRoot digits root add sub mul div lt le eq neg sum round units odd numberSize climb span isNan ofBits ofFields ofInt toSigned
+unfolding cubeFile floatsOf cubeRows surfaceRows buckets bucketsTo withSurface part partOf cornersInRange inRange rebased normal
+    size tetra facetOf triangle boxTo lowest highest tenths keyOf sameKey sameInteger put rows precedes inserted sorted scaled least
+    greatest integral rounded rootRound closestRoot floorRoot digits root add sub mul div lt le eq neg sum round units odd
+    numberSize climb span isNan ofBits ofFields ofInt toSigned
 cube-rows = refl
 
 cube-pieces : pieces shareId (cubeFile .ids) ≡ 1

@@ -27,7 +27,8 @@ unfoldable pub countIn : PieceCount → ℕ
 countIn (PieceCount.Answer n) = n
 countIn (PieceCount.Refused n) = 0
 
-pub pieces-counted : (ids area : List ℕ) (r : PieceCount) (after : List ℕ) → length ids ≤ 1536 → 512 ≤ length area → PiecesGiven ids area r after
+pub pieces-counted : (ids area : List ℕ) (r : PieceCount) (after : List ℕ) → length ids ≤ 1536 → 512 ≤ length area
+    → PiecesGiven ids area r after
     → countIn r ≡ pieces shareId ids
 unfolding countIn unlessRefused refusal
 pieces-counted ids area r after hi ha given =
@@ -39,13 +40,16 @@ unfoldable pub lengthIn : Listed → ℕ
 lengthIn (Listed.Length n) = n
 lengthIn (Listed.Refused n) = 0
 
-listed-prints : (b : Bool) (text area : List ℕ) (r : Listed) (area′ : List ℕ) → b ≡ false → r ≡ listedAs b text → area′ ≡ areaWith b text area → Prints text area (lengthIn r) area′
+listed-prints : (b : Bool) (text area : List ℕ) (r : Listed) (area′ : List ℕ) → b ≡ false → r ≡ listedAs b text
+    → area′ ≡ areaWith b text area → Prints text area (lengthIn r) area′
 unfolding lengthIn listedAs areaWith
 listed-prints b text area r area′ e hr ha = record { answers = rw (hr, e); later = rw (ha, e) }
 
-pub refusal-prints : (n : ℕ) (area : List ℕ) (r : Listed) (area′ : List ℕ) → 320 ≤ length area → ListsRefusal n area r area′ → Prints (refusedLine n) area (lengthIn r) area′
+pub refusal-prints : (n : ℕ) (area : List ℕ) (r : Listed) (area′ : List ℕ) → 320 ≤ length area → ListsRefusal n area r area′
+    → Prints (refusedLine n) area (lengthIn r) area′
 unfolding textBytes
-refusal-prints n area r area′ h given = listed-prints _ (refusedLine n) area r area′ (le-ltb (length area) 320 h) (given .answers) (given .text)
+refusal-prints n area r area′ h given =
+    listed-prints _ (refusedLine n) area r area′ (le-ltb (length area) 320 h) (given .answers) (given .text)
 
 -- the flags leave the number of rows alone
 keeps-count : (clip : Bool) (p : Profile) (q : MeshQto) → flagged clip p q .«surface_count» ≡ q .«surface_count»
@@ -56,7 +60,8 @@ keeps-count false Profile.Valid q = refl
 keeps-count false (Profile.Invalid d) q = refl
 
 module _ (clip : Bool) (p : Profile) (q : MeshQto) (s : List Float) (n : ℕ) (area : List ℕ) where
-  not-short : 4 * q .«surface_count» ≤ length s → 320 + 36 * q .«surface_count» ≤ length area → areasShort (flagged clip p q .«surface_count») (length s) (length area) ≡ false
+  not-short : 4 * q .«surface_count» ≤ length s → 320 + 36 * q .«surface_count» ≤ length area
+      → areasShort (flagged clip p q .«surface_count») (length s) (length area) ≡ false
   unfolding textBytes
   not-short hs ha =
       rw (keeps-count clip p q, le-ltb (length s) (4 * q .«surface_count») hs, le-ltb (length area) (320 + 36 * q .«surface_count») ha)
@@ -65,9 +70,12 @@ module _ (clip : Bool) (p : Profile) (q : MeshQto) (s : List Float) (n : ℕ) (a
   unfolding listingFor
   same-text = ap (λ (k : ℕ). listingOf (flagged clip p q) (rowsOf (take (4 * k) s)) n) (keeps-count clip p q)
 
-  pub record-prints : (f : MeshQto) (r : Listed) (area′ : List ℕ) → f ≡ flagged clip p q → 4 * q .«surface_count» ≤ length s → 320 + 36 * q .«surface_count» ≤ length area
-      → Lists f s n area r area′ → Prints (listingOf (flagged clip p q) (rowsOf (take (4 * q .«surface_count») s)) n) area (lengthIn r) area′
+  pub record-prints : (f : MeshQto) (r : Listed) (area′ : List ℕ) → f ≡ flagged clip p q → 4 * q .«surface_count» ≤ length s
+      → 320 + 36 * q .«surface_count» ≤ length area
+      → Lists f s n area r area′ → Prints (listingOf (flagged clip p q) (rowsOf (take (4 * q .«surface_count») s)) n) area
+      (lengthIn r) area′
   record-prints f r area′ e hs ha given =
       rw (← same-text)
-      (listed-prints (areasShort (flagged clip p q .«surface_count») (length s) (length area)) (listingFor (flagged clip p q) s n) area r area′ (not-short hs ha)
+      (listed-prints (areasShort (flagged clip p q .«surface_count») (length s) (length area))
+      (listingFor (flagged clip p q) s n) area r area′ (not-short hs ha)
       (rw e at (given .answers)) (rw e at (given .text)))

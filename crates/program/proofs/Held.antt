@@ -1,4 +1,5 @@
--- What is printed for a file that was read is the text of its bytes: its floats and ids stand first in the two areas, which are never too short.
+-- What is printed for a file that was read is the text of its bytes: its floats and ids stand first in the two areas, which are never too
+-- short.
 use mathlib.Core.Path.{_≡_, refl, sym, ap, _∙_}
 use Prim.Native.Nat.{ℕ, suc}
 use mathlib.Core.Bool.{false}
@@ -39,7 +40,8 @@ module _ (vs : List Float) (ids : List ℕ) where
         front (length (m .ids)) (m .ids) (drop (length (m .ids)) ids) refl,
       )
 
-  module _ (hv : length vs ≡ 1536) (hi : length ids ≡ 1536) (bytes : List ℕ) (r : Reading) (vs′ : List Float) (ids′ : List ℕ) (made : Reads bytes vs ids r vs′ ids′) where
+  module _ (hv : length vs ≡ 1536) (hi : length ids ≡ 1536) (bytes : List ℕ) (r : Reading) (vs′ : List Float) (ids′ : List ℕ)
+      (made : Reads bytes vs ids r vs′ ids′) where
     text-of : readText vs′ ids′ r ≡ textOf bytes
     unfolding textOf
     text-of = rw (made .answers, made .floats, made .ids-after) (text-by (fileOf bytes) (λ m h. rw (hv, hi) (never-short bytes m h)))
@@ -48,6 +50,7 @@ module _ (vs : List Float) (ids : List ℕ) where
     unfolding readText
     refusal-text n e = sym (ap (readText vs′ ids′) e) ∙ text-of
 
-    pub mesh-text : (m : MeshFile) → r ≡ Reading.File m → meshText (take (m .floats) vs′) (take (m .ids) ids′) (m .unit) (m .clip) (m .profile) ≡ textOf bytes
+    pub mesh-text : (m : MeshFile) → r ≡ Reading.File m
+        → meshText (take (m .floats) vs′) (take (m .ids) ids′) (m .unit) (m .clip) (m .profile) ≡ textOf bytes
     unfolding readText
     mesh-text m e = sym (ap (readText vs′ ids′) e) ∙ text-of

@@ -37,7 +37,8 @@ but-best v q q′ e is-open = rw is-open at e
 abbrev withFloats : Contents → List ℕ → Contents
 withFloats m vertices = record { unit = m .unit; vertices = vertices; ids = m .ids; clip = m .clip; defect = m .defect }
 
-but-for-floats : (m m′ : Contents) → m′ .unit ≡ m .unit → m′ .ids ≡ m .ids → m′ .clip ≡ m .clip → m′ .defect ≡ m .defect → withFloats m (m′ .vertices) ≡ m′
+but-for-floats : (m m′ : Contents) → m′ .unit ≡ m .unit → m′ .ids ≡ m .ids → m′ .clip ≡ m .clip → m′ .defect ≡ m .defect
+    → withFloats m (m′ .vertices) ≡ m′
 but-for-floats m m′ unit ids clip defect =
     λ i. record { unit = sym unit i; vertices = m′ .vertices; ids = sym ids i; clip = sym clip i; defect = sym defect i }
 
@@ -62,7 +63,8 @@ module _ (m : Contents) (vertices : List ℕ) where
 
       records : AgreeRecords (meshRecord m) (meshRecord m′)
       records =
-          flags-keep (eqb (m .clip) 1) (profileAt (m .defect)) (recordOf (meshFloats m) (m .ids) (meshUnit m)) (recordOf (meshFloats m′) (m .ids) (meshUnit m))
+          flags-keep (eqb (m .clip) 1) (profileAt (m .defect)) (recordOf (meshFloats m) (m .ids) (meshUnit m))
+          (recordOf (meshFloats m′) (m .ids) (meshUnit m))
           (records-agree dx dy dz (meshFloats m) (meshFloats m′) moved (mesh .floats-least) (m .ids) (meshUnit m) enough (mesh .unit))
 
     abbrev textBy : Check → Contents → List ℕ

@@ -1,4 +1,5 @@
--- The text that was printed lies within its area; there is one for every input; input that is longer than any file is refused, and its first bytes decide how.
+-- The text that was printed lies within its area; there is one for every input; input that is longer than any file is refused, and its
+-- first bytes decide how.
 use mathlib.Core.Path.{_≡_, refl, sym, ap, _∙_}
 use mathlib.Core.Logic.{_⊎_}
 use Prim.Native.Nat.{ℕ, _≤_, _<_}

@@ -42,7 +42,8 @@ pub record IsOpen (m : Contents) : Type 0 where
 
 -- ---- the text of a file with the mesh m, and that of one with m′, the same mesh moved
 
--- the listings of their records, with the same rows and pieces: they differ in four lines at most, which are reliable, method, best and prism
+-- the listings of their records, with the same rows and pieces: they differ in four lines at most, which are reliable, method, best and
+-- prism
 pub record OpenListings (m m′ : Contents) (text text′ : List ℕ) : Type 0 where
   pub lists : text ≡ listingOf (meshRecord m) (meshRows m) (pieces shareId (m .ids))
   pub lists′ : text′ ≡ listingOf (meshRecord m′) (meshRows m) (pieces shareId (m .ids))

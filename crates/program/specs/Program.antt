@@ -32,7 +32,8 @@ textAt (Check.Refuse n) vs ids u clip profile = refusedLine n
 textAt Check.Zero vs ids u clip profile = listed ids clip profile zeroRecord []
 textAt Check.Full vs ids u clip profile = listed ids clip profile (recordOf vs ids u) (surfaceRows vs ids u)
 
--- The program lends 13,824 work words, 65,536 raster bytes and 2,048 surface floats: enough for every file (`areas-suffice`), so it never prints 1 or 3.
+-- The program lends 13,824 work words, 65,536 raster bytes and 2,048 surface floats: enough for every file (`areas-suffice`), so it never
+-- prints 1 or 3.
 abbrev pub checkMesh : List Float → List ℕ → Float → Check
 checkMesh vs ids u = checkOf vs ids u 13824 65536 2048
 

@@ -1,4 +1,5 @@
--- What is proved of the program beside its contract: which refusals a file can meet, that no NaN gets past, and what becomes of input that is longer than any file.
+-- What is proved of the program beside its contract: which refusals a file can meet, that no NaN gets past, and what becomes of input that
+-- is longer than any file.
 use mathlib.Core.Path.{_≡_}
 use mathlib.Core.Logic.{_⊎_}
 use Prim.Native.Nat.{ℕ, _%_, _^_, _≤_, _<_}
@@ -40,7 +41,8 @@ KeptDecides = (bytes : List ℕ) → 12318 < length bytes → textOf (take kept 
 abbrev pub LongRefused : Type 0
 LongRefused = (bytes : List ℕ) → 12318 < length bytes → (n : ℕ) × ((n ≡ 5) ⊎ (n ≡ 6)) × (textOf bytes ≡ refusedLine n)
 
--- The complete contract of `run_front`, of an area of bytes and a number n: the text of the first n bytes is printed, and that is the text of every input that
+-- The complete contract of `run_front`, of an area of bytes and a number n: the text of the first n bytes is printed, and that is the text
+-- of every input that
 -- begins with them, whether they are all of it or as many as the area holds. So what a program need not keep does not matter.
 pub record PrintsFront (bytes : List ℕ) (n : ℕ) (area : List ℕ) (r : ℕ) (area′ : List ℕ) : Type 0 where
   pub prints : Prints (textOf (take n bytes)) area r area′

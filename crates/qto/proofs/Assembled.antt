@@ -16,7 +16,8 @@ use Rattle.record.specs.declared.MeshQto.{MeshQto}
 use Rattle.qto.specs.declared.Measures.{Measures}
 use Rattle.qto.specs.Full.{distance, verdict, best, measures, recordFrom, recordBy, recordOf}
 
-pub assembled : (vs : List Float) (ids : List ℕ) (u : Float) (b : Bounds) (m : Measures) (aabb ε size : Float) (q : Quality) (e : Best) → b ≡ box vs
+pub assembled : (vs : List Float) (ids : List ℕ) (u : Float) (b : Bounds) (m : Measures) (aabb ε size : Float) (q : Quality)
+    (e : Best) → b ≡ box vs
     → aabb ≡ boxVolume b (u ⊗ u ⊗ u) → ε ≡ epsilonOf distance u → q ≡ quality vs ids ε (m .volume) aabb → size ≡ magnitude (m .volume)
     → e ≡ bestOf q size (m .surface) aabb (prism vs ids b (u ⊗ u ⊗ u))
     → recordFrom m aabb q e ≡ recordBy vs ids u m (verdict vs ids u (m .volume))
@@ -24,6 +25,7 @@ unfolding recordBy verdict best
 assembled vs ids u b m aabb ε size q e hb ha hε hq hs he = rw (he, hs, hq, hε, ha, hb)
 
 -- the measures are those of the mesh
-pub of-mesh : (vs : List Float) (ids : List ℕ) (u : Float) (m : Measures) (r : MeshQto) → m ≡ measures vs ids u → r ≡ recordBy vs ids u m (verdict vs ids u (m .volume)) → r ≡ recordOf vs ids u
+pub of-mesh : (vs : List Float) (ids : List ℕ) (u : Float) (m : Measures) (r : MeshQto) → m ≡ measures vs ids u
+    → r ≡ recordBy vs ids u m (verdict vs ids u (m .volume)) → r ≡ recordOf vs ids u
 unfolding recordOf
 of-mesh vs ids u m r hm hr = hr ∙ ap (λ (n : Measures). recordBy vs ids u n (verdict vs ids u (n .volume))) hm

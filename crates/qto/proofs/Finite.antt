@@ -1,4 +1,5 @@
--- No number of a record of the domain overflows (01): the sums are within 2^87, the volume's sum within 2^118, and a unit's square and cube up to 2^8 and 2^12. A sixth of
+-- No number of a record of the domain overflows (01): the sums are within 2^87, the volume's sum within 2^118, and a unit's square and cube
+-- up to 2^8 and 2^12. A sixth of
 -- 2^118 is under 3 * 2^114, and 3 * 2^126 is a value of f32. Assumes nothing.
 use mathlib.Core.Path.{_≡_, refl, sym, _∙_}
 use mathlib.Core.Logic.{_⊎_, inl, inr}
@@ -41,21 +42,25 @@ use Rattle.refusals.proofs.Checks.{admitted}
 use Rattle.qto.specs.declared.Answer.{Answer}
 use Rattle.qto.specs.Compute.{Computes, answerAt}
 use Rattle.qto.specs.Domain.{FiniteBound, FiniteRecord, FiniteRows, ComputesFinite, RowsFinite}
-use Rattle.qto.specs.Full.{square, cube, totals, volumeOf, surfaceOf, buckets, surfaceRows, measuresFrom, measures, verdict, best, recordFrom, recordBy, recordOf}
+use Rattle.qto.specs.Full.{square, cube, totals, volumeOf, surfaceOf, buckets, surfaceRows, measuresFrom, measures, verdict, best}
+use Rattle.qto.specs.Full.{recordFrom, recordBy, recordOf}
 use Rattle.qto.proofs.FinitePrism.{prism-finite}
 use Rattle.qto.proofs.Measured.{unit-ends}
 
 -- ---- an area of n triangles with the unit's square
 area-finite : (n : ℕ) → n ≤ 32768 → (by : Float) → Within (2 ^ 8) by → (a : Float) → Times n a → T (finite (a ⊗ by))
-area-finite n N by S a v = within-mul binary32 87 8 a by (lit≤ tt) (within-most (n * 2 ^ 72) (2 ^ 87) a (mul-le-mul-right (2 ^ 72) N) v) S .finite-is
+area-finite n N by S a v =
+    within-mul binary32 87 8 a by (lit≤ tt) (within-most (n * 2 ^ 72) (2 ^ 87) a (mul-le-mul-right (2 ^ 72) N) v) S .finite-is
 
 -- ---- the two sums in f64 with the unit
-module _ (n : ℕ) (N : n ≤ 32768) (t : Totals) (w : TotalsWithin n n t) (u : Float) (S : Within (2 ^ 8) (square u)) (C : Within (2 ^ 12) (cube u)) where
+module _ (n : ℕ) (N : n ≤ 32768) (t : Totals) (w : TotalsWithin n n t) (u : Float) (S : Within (2 ^ 8) (square u))
+    (C : Within (2 ^ 12) (cube u)) where
   surface-finite : T (finite (surfaceOf t u))
   unfolding surfaceOf
   surface-finite =
       within-rounded binary32 (2 ^ 95) (power-value binary32 95 (lit≤ tt)) (t .surface ⊠ square u)
-      (within-mul binary64 87 8 (t .surface) (square u) (lit≤ tt) (within-most (n * 2 ^ 72) (2 ^ 87) (t .surface) (mul-le-mul-right (2 ^ 72) N) (w .surface)) S)
+      (within-mul binary64 87 8 (t .surface) (square u) (lit≤ tt)
+      (within-most (n * 2 ^ 72) (2 ^ 87) (t .surface) (mul-le-mul-right (2 ^ 72) N) (w .surface)) S)
       .finite-is
 
   six : HasValue (ofBits binary64 0x4018_0000_0000_0000) false 6 1
@@ -64,7 +69,8 @@ module _ (n : ℕ) (N : n ≤ 32768) (t : Totals) (w : TotalsWithin n n t) (u : 
 
   sixth-within : Within (3 * 2 ^ 114) (t .volume6 ⧄ ofBits binary64 0x4018_0000_0000_0000)
   sixth-within =
-      within-div binary64 (3 * 2 ^ 114) 6 (multiple-value binary64 3 114 (lit< tt) (lit< tt)) (lit< tt) (t .volume6) (ofBits binary64 0x4018_0000_0000_0000) six
+      within-div binary64 (3 * 2 ^ 114) 6 (multiple-value binary64 3 114 (lit< tt) (lit< tt)) (lit< tt) (t .volume6)
+      (ofBits binary64 0x4018_0000_0000_0000) six
       (within-most (n * 2 ^ 103) (3 * 2 ^ 114 * 6) (t .volume6) (le-trans (mul-le-mul-right (2 ^ 103) N) (lit≤ tt)) (w .volume6))
 
   volume-finite : T (finite (volumeOf t u))
@@ -76,7 +82,8 @@ module _ (n : ℕ) (N : n ≤ 32768) (t : Totals) (w : TotalsWithin n n t) (u : 
       .finite-is
 
 -- ---- the rows
-scaled-finite : (n : ℕ) → n ≤ 32768 → (by : Float) → Within (2 ^ 8) by → (bs : List Bucket) → AllAreas (Times n) bs → FiniteRows (scaled by (rows bs))
+scaled-finite : (n : ℕ) → n ≤ 32768 → (by : Float) → Within (2 ^ 8) by → (bs : List Bucket) → AllAreas (Times n) bs
+    → FiniteRows (scaled by (rows bs))
 unfolding FiniteRows scaled rows AllAreas
 scaled-finite n N by S [] w = tt
 scaled-finite n N by S (b ∷ bs) w = (area-finite n N by S (b .area) (w .0), scaled-finite n N by S bs (w .1))
@@ -167,7 +174,8 @@ module _ (vs : List Float) (ids : List ℕ) (u : Float) (p : Passes vs ids u) wh
   unfolding surfaceRows buckets
   rows-all-finite =
       sorted-finite (scaled (square u) (rows (buckets vs ids)))
-      (scaled-finite (triangleCount ids) few (square u) (square-within u (ends .0) (ends .1)) (buckets vs ids) (buckets-within vs ids (triangleCount ids) (p .fine) few))
+      (scaled-finite (triangleCount ids) few (square u) (square-within u (ends .0) (ends .1)) (buckets vs ids)
+      (buckets-within vs ids (triangleCount ids) (p .fine) few))
 
   pub record-finite : FiniteRecord (recordOf vs ids u)
   unfolding recordOf recordBy recordFrom measures measuresFrom totals best
@@ -181,7 +189,8 @@ module _ (vs : List Float) (ids : List ℕ) (u : Float) (p : Passes vs ids u) wh
       let v = volumeOf t u in
       let v-finite = volume-finite n few t w u S C in
       let most =
-      best-finite (verdict vs ids u v) (magnitude v) (surfaceOf t u) (boxVolume (box vs) (cube u)) (prism vs ids (box vs) (cube u)) (magnitude-finite v v-finite)
+      best-finite (verdict vs ids u v) (magnitude v) (surfaceOf t u) (boxVolume (box vs) (cube u)) (prism vs ids (box vs) (cube u))
+      (magnitude-finite v v-finite)
       (prism-finite vs ids (box vs) (cube u) b C) in
       record {
         volume = v-finite;
@@ -203,13 +212,27 @@ rows-finite vs ids u p = rows-all-finite vs ids u p
 
 zero-finite : FiniteRecord zeroRecord
 unfolding ofBits
-zero-finite = record { volume = tt; aabb = tt; surface = tt; top = tt; bottom = tt; side = tt; inclined = tt; largest = tt; smallest = tt; best = tt; prism = tt }
+zero-finite =
+    record {
+      volume = tt;
+      aabb = tt;
+      surface = tt;
+      top = tt;
+      bottom = tt;
+      side = tt;
+      inclined = tt;
+      largest = tt;
+      smallest = tt;
+      best = tt;
+      prism = tt;
+    }
 
 pub computes-finite : ComputesFinite
 unfolding answerAt
 computes-finite vs ids u w r s a w′ r′ s′ q c e = go (checkOf vs ids u (length w) (length r) (length s)) refl (sym (c .answers) ∙ e)
   where
-    go : (k : Check) → k ≡ checkOf vs ids u (length w) (length r) (length s) → answerAt k (recordOf vs ids u) ≡ Answer.Record q → FiniteRecord q
+    go : (k : Check) → k ≡ checkOf vs ids u (length w) (length r) (length s) → answerAt k (recordOf vs ids u) ≡ Answer.Record q
+        → FiniteRecord q
     go (Check.Refuse n) k h = let no : _≡_ {A = ℕ} 0 1 = cc in absurd (omega arith)
     go Check.Zero k h = let same : zeroRecord ≡ q = cc in rw (← same) zero-finite
     go Check.Full k h =

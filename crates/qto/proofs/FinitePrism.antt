@@ -1,4 +1,5 @@
--- The prism bound of a mesh of the domain is finite: of n cells a side, 2^j to 2^(j + 1), each is up to 2^(34 - j) long, so a footprint is within 2^70, a prism
+-- The prism bound of a mesh of the domain is finite: of n cells a side, 2^j to 2^(j + 1), each is up to 2^(34 - j) long, so a footprint is
+-- within 2^70, a prism
 -- within 2^104, and with the unit's cube within 2^116. Assumes nothing.
 use mathlib.Core.Path.{_≡_, refl, sym, subst}
 use mathlib.Core.Logic.{_⊎_, inl, inr}
@@ -63,7 +64,8 @@ number-value : (n : ℕ) → n ≤ 256 → HasValue (number n) false n 1
 unfolding ofInt
 number-value n most =
     let e : n * 2 ^ 0 ≡ n = omega arith in
-    subst (Value binary32) e (multiple-value binary32 n 0 (lt-of-le-of-lt most (lit< tt)) (subst (λ (k : ℕ). k < 2 ^ 128) (sym e) (lt-of-le-of-lt most (lit< tt))))
+    subst (Value binary32) e (multiple-value binary32 n 0 (lt-of-le-of-lt most (lit< tt))
+    (subst (λ (k : ℕ). k < 2 ^ 128) (sym e) (lt-of-le-of-lt most (lit< tt))))
 
 -- a length up to 2^34 over n
 cell-within : (l : Float) (n j : ℕ) → 0 < n → n ≤ 256 → Digits n j → Within (2 ^ 34) l → Within (2 ^ (34 - j)) (l ⊘ number n)
@@ -90,7 +92,8 @@ area-within c n m w h l N N′ M M′ W H =
     let g = digits m M M′ in
     let a : suc j + suc i + (34 - j) ≡ i + 36 = omega (arith, d .few) in
     let b : i + 36 + (34 - i) ≡ 70 = omega (arith, g .few) in
-    let across = within-mul binary32 (suc j + suc i) (34 - j) (number c) (w ⊘ number n) (omega (arith, d .few, g .few)) (cells-within c n m i j l d g) (cell-within w n j N N′ d W) in
+    let across = within-mul binary32 (suc j + suc i) (34 - j) (number c) (w ⊘ number n) (omega (arith, d .few, g .few))
+    (cells-within c n m i j l d g) (cell-within w n j N N′ d W) in
     let both = within-mul binary32 (i + 36) (34 - i) (number c ⊗ (w ⊘ number n)) (h ⊘ number m) (omega (arith, g .few))
     (subst (λ (k : ℕ). Within (2 ^ k) (number c ⊗ (w ⊘ number n))) a across) (cell-within h m i M M′ g H) in
     subst (λ (k : ℕ). Within (2 ^ k) (number c ⊗ (w ⊘ number n) ⊗ (h ⊘ number m))) b both
@@ -108,7 +111,8 @@ module _ (vs : List Float) (ids : List ℕ) (u v : ℕ) where
       let m = cellsIn h size in
       let N = cells-some w size in
       let M = cells-some h size in
-      area-within (coveredCells vs u v g ids) n m w h (count-le (λ k. covered vs u v g ids (k % n) (k / n)) (n * m)) (N .0) (N .1) (M .0) (M .1) W H
+      area-within (coveredCells vs u v g ids) n m w h (count-le (λ k. covered vs u v g ids (k % n) (k / n)) (n * m)) (N .0) (N .1)
+      (M .0) (M .1) W H
 
   over-within : (x y w h size : Float) → Within (2 ^ 34) w → Within (2 ^ 34) h → Within (2 ^ 70) (footprintOver vs u v ids x y w h size)
   unfolding footprintOver
@@ -127,7 +131,8 @@ module _ (vs : List Float) (ids : List ℕ) (u v : ℕ) where
       go : (b : Bool) → Within (2 ^ 104) (cond b (footprint vs ids u v umin umax vmin vmax ⊗ e) nought)
       go true =
           within-mul binary32 70 34 (footprint vs ids u v umin umax vmin vmax) e (lit≤ tt)
-          (over-within umin vmin (extent umin umax) (extent vmin vmax) (cellSize (extent umin umax) (extent vmin vmax)) (extent-within umin umax p q) (extent-within vmin vmax r s))
+          (over-within umin vmin (extent umin umax) (extent vmin vmax) (cellSize (extent umin umax) (extent vmin vmax))
+          (extent-within umin umax p q) (extent-within vmin vmax r s))
           w
       go false = none-within 104
 
@@ -152,15 +157,19 @@ none-finite m cube (inl h) w = go (lt m (inf false))
     go false = none-within 0 .finite-is
 none-finite m cube (inr e) w = rw e (unfold lt in none-within 0 .finite-is)
 
-pub prism-finite : (vs : List Float) (ids : List ℕ) (b : Bounds) (cube : Float) → FineBox b → Within (2 ^ 12) cube → T (finite (prism vs ids b cube))
+pub prism-finite : (vs : List Float) (ids : List ℕ) (b : Bounds) (cube : Float) → FineBox b → Within (2 ^ 12) cube
+    → T (finite (prism vs ids b cube))
 unfolding prism
 prism-finite vs ids b cube p w =
     let e = extent-within (b .xmin) (b .xmax) (p .xmin) (p .xmax) in
     let f = extent-within (b .ymin) (b .ymax) (p .ymin) (p .ymax) in
     let g = extent-within (b .zmin) (b .zmax) (p .zmin) (p .zmax) in
-    let x = on-within vs ids 1 2 (b .ymin) (b .ymax) (b .zmin) (b .zmax) (extent (b .xmin) (b .xmax)) (p .ymin) (p .ymax) (p .zmin) (p .zmax) e in
-    let y = on-within vs ids 0 2 (b .xmin) (b .xmax) (b .zmin) (b .zmax) (extent (b .ymin) (b .ymax)) (p .xmin) (p .xmax) (p .zmin) (p .zmax) f in
-    let z = on-within vs ids 0 1 (b .xmin) (b .xmax) (b .ymin) (b .ymax) (extent (b .zmin) (b .zmax)) (p .xmin) (p .xmax) (p .ymin) (p .ymax) g in
+    let x = on-within vs ids 1 2 (b .ymin) (b .ymax) (b .zmin) (b .zmax) (extent (b .xmin) (b .xmax)) (p .ymin) (p .ymax) (p .zmin)
+    (p .zmax) e in
+    let y = on-within vs ids 0 2 (b .xmin) (b .xmax) (b .zmin) (b .zmax) (extent (b .ymin) (b .ymax)) (p .xmin) (p .xmax) (p .zmin)
+    (p .zmax) f in
+    let z = on-within vs ids 0 1 (b .xmin) (b .xmax) (b .ymin) (b .ymax) (extent (b .zmin) (b .zmax)) (p .xmin) (p .xmax) (p .ymin)
+    (p .ymax) g in
     let one = orLess (inf false) (prismX vs ids b) in
     let two = orLess one (prismY vs ids b) in
     none-finite (orLess two (prismZ vs ids b)) cube

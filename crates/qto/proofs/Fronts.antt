@@ -21,9 +21,11 @@ front-exact n m t e h = ap (λ (k : ℕ). length (take k t)) (same m ∙ e) ∙ 
 
 pub front-kept : (n : ℕ) (t new : List ℕ) → length new ≡ length (take (n - 0) t) → length (new ++ postOf 0 (n - 0) t) ≡ length t
 front-kept n t new e =
-    ap (λ (l : List ℕ). length (new ++ l)) (post-is 0 n t (omega arith)) ∙ length-front t new n (e ∙ ap (λ (k : ℕ). length (take k t)) (same n))
+    ap (λ (l : List ℕ). length (new ++ l)) (post-is 0 n t (omega arith))
+    ∙ length-front t new n (e ∙ ap (λ (k : ℕ). length (take k t)) (same n))
 
 pub front-cleared : (n m : ℕ) (t new : List ℕ) → m ≡ n → new ≡ replicate n 0 → new ++ postOf 0 (m - 0) t ≡ cleared n t
 unfolding cleared
 front-cleared n m t new e h =
-    ap (λ (l : List ℕ). l ++ postOf 0 (m - 0) t) h ∙ ap (λ (l : List ℕ). replicate n 0 ++ l) (post-is 0 m t (omega arith) ∙ ap (λ (k : ℕ). drop k t) e)
+    ap (λ (l : List ℕ). l ++ postOf 0 (m - 0) t) h
+    ∙ ap (λ (l : List ℕ). replicate n 0 ++ l) (post-is 0 m t (omega arith) ∙ ap (λ (k : ℕ). drop k t) e)

@@ -44,7 +44,8 @@ pub unit-square : (u : Float) → T (unitFits u) → T (positive (square u))
 unit-square u h = let e = unit-ends u h in square-positive u (e .0) (e .1)
 
 -- the walk from the box minimum o by the pair p found the sums r and made the surface area w of s
-pub record Found (vs : List Float) (ids : List ℕ) (b : Bounds) (o : List Float) (p : Thresholds) (s : List Float) (r : Sums) (w : List Float) : Type 0 where
+pub record Found (vs : List Float) (ids : List ℕ) (b : Bounds) (o : List Float) (p : Thresholds) (s : List Float) (r : Sums)
+    (w : List Float) : Type 0 where
   pub is-box : b ≡ box vs
   pub is-origin : o ≡ origin b
   pub is-pair : p ≡ thresholds
@@ -89,7 +90,8 @@ module _
     unfolding surfaceRows
     count-rows =
         sym
-        (length-sorted (scaled (square u) (rows (buckets vs ids))) ∙ length-scaled (square u) (rows (buckets vs ids)) ∙ length-rows (buckets vs ids) ∙ sym counted)
+        (length-sorted (scaled (square u) (rows (buckets vs ids))) ∙ length-scaled (square u) (rows (buckets vs ids))
+        ∙ length-rows (buckets vs ids) ∙ sym counted)
 
     -- the first k floats, four a row, are the rows
     module _ (k : ℕ) (is-front : k ≡ 4 * r .rows) where
@@ -122,7 +124,8 @@ module _
 
       -- what the code makes of the sums and of the rows when these are in order: x before y, which stands behind the rows
       module _ (e : Extremes) (x : List Float) (arranged : Arranged (take k w) (square u) e x) where
-        pub measured : (volume surface c q : Float) → volume ≡ rounded binary32 (r .totals .volume6 ⧄ ofBits binary64 0x4018_0000_0000_0000 ⊠ c) → c ≡ cube u
+        pub measured : (volume surface c q : Float) → volume
+            ≡ rounded binary32 (r .totals .volume6 ⧄ ofBits binary64 0x4018_0000_0000_0000 ⊠ c) → c ≡ cube u
             → surface ≡ rounded binary32 (r .totals .surface ⊠ q) → q ≡ square u
             → _≡_ {A = Measures}
             (record {

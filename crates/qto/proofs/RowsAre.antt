@@ -13,7 +13,9 @@ pub rows-are : SurfaceRowsAre
 unfolding surfaceRows buckets
 rows-are vs ids u p =
     record {
-      in-order = sorted-in-order (scaled (square u) (rows (buckets vs ids))) (buckets-plain vs ids (square u) (triangleCount ids) (p .fine) (unit-square u (p .unit)));
+      in-order =
+          sorted-in-order (scaled (square u) (rows (buckets vs ids)))
+          (buckets-plain vs ids (square u) (triangleCount ids) (p .fine) (unit-square u (p .unit)));
       same = sorted-same (scaled (square u) (rows (buckets vs ids)));
       apart = buckets-apart vs (origin (box vs)) ids (triangleCount ids);
       keys = λ k. buckets-keys vs (origin (box vs)) ids k (triangleCount ids);

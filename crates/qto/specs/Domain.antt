@@ -40,7 +40,8 @@ FiniteRows (r ∷ rs) = T (finite (r .area)) × FiniteRows rs
 
 abbrev pub ComputesFinite : Type 0
 ComputesFinite =
-    (vs : List Float) (ids : List ℕ) (u : Float) (w r : List ℕ) (s : List Float) (a : Answer) (w′ r′ : List ℕ) (s′ : List Float) (q : MeshQto)
+    (vs : List Float) (ids : List ℕ) (u : Float) (w r : List ℕ) (s : List Float) (a : Answer) (w′ r′ : List ℕ) (s′ : List Float)
+    (q : MeshQto)
     → Computes vs ids u w r s a w′ r′ s′ → a ≡ Answer.Record q → FiniteRecord q
 
 abbrev pub RowsFinite : Type 0

@@ -61,7 +61,8 @@ abbrev pub checkAll : List Float → List ℕ → Float → ℕ → ℕ → List
 checkAll vs ids u clip defect w r s = checkFlags clip defect (checkOf vs ids u (length w) (length r) (length s))
 
 -- The contract of mf_compute: `words` are the record's before, words′ afterwards, and n is what comes back.
-pub record ComputesNumbered (vs : List Float) (ids : List ℕ) (u : Float) (clip defect : ℕ) (w r : List ℕ) (s : List Float) (words : List ℕ) (n : ℕ) (w′ r′ : List ℕ) (s′ : List Float) (words′ : List ℕ) : Type 0 where
+pub record ComputesNumbered (vs : List Float) (ids : List ℕ) (u : Float) (clip defect : ℕ) (w r : List ℕ) (s : List Float)
+    (words : List ℕ) (n : ℕ) (w′ r′ : List ℕ) (s′ : List Float) (words′ : List ℕ) : Type 0 where
   pub number : n ≡ numberAt (checkAll vs ids u clip defect w r s)
   pub record-words : words′ ≡ wordsAt (checkAll vs ids u clip defect w r s) clip defect (recordOf vs ids u) words
   pub work : w′ ≡ areaAt (checkAll vs ids u clip defect w r s) (cleared (workWords (length vs) (length ids)) w) w
@@ -73,5 +74,6 @@ abbrev pub ComputeNumberedOne : Type 0
 ComputeNumberedOne =
     (vs : List Float) (ids : List ℕ) (u : Float) (clip defect : ℕ) (w r : List ℕ) (s : List Float) (words : List ℕ)
     (n m : ℕ) (w₁ w₂ r₁ r₂ : List ℕ) (s₁ s₂ : List Float) (words₁ words₂ : List ℕ)
-    → ComputesNumbered vs ids u clip defect w r s words n w₁ r₁ s₁ words₁ → ComputesNumbered vs ids u clip defect w r s words m w₂ r₂ s₂ words₂
+    → ComputesNumbered vs ids u clip defect w r s words n w₁ r₁ s₁ words₁
+    → ComputesNumbered vs ids u clip defect w r s words m w₂ r₂ s₂ words₂
     → (n ≡ m) × (words₁ ≡ words₂) × (w₁ ≡ w₂) × (r₁ ≡ r₂) × (s₁ ≡ s₂)

@@ -43,7 +43,9 @@ pub record Starred : Type 0 where
   pub half-up : halfAway binary64 (fin false 5 (negsuc 0)) ≡ fin false 3 (pos 0)
   pub half-down : halfAway binary64 (fin true 1 (negsuc 0)) ≡ fin true 1 (pos 0)
   -- clip with defect on `mesh`: `mesh_unclipped`; defect alone: `mesh_profile_invalid`
-  pub clip-and-defect : (q : MeshQto) (d : ProfileDefect) → q .«volume_method» ≡ Method.Mesh → flagged true (Profile.Invalid d) q .«volume_method» ≡ Method.MeshUnclipped
-  pub defect-alone : (q : MeshQto) (d : ProfileDefect) → q .«volume_method» ≡ Method.Mesh → flagged false (Profile.Invalid d) q .«volume_method» ≡ Method.MeshProfileInvalid
+  pub clip-and-defect : (q : MeshQto) (d : ProfileDefect) → q .«volume_method» ≡ Method.Mesh
+      → flagged true (Profile.Invalid d) q .«volume_method» ≡ Method.MeshUnclipped
+  pub defect-alone : (q : MeshQto) (d : ProfileDefect) → q .«volume_method» ≡ Method.Mesh
+      → flagged false (Profile.Invalid d) q .«volume_method» ≡ Method.MeshProfileInvalid
   -- two tetrahedra sharing one id: one piece
   pub one-common-id : pieces shareId (tetrahedron ++ neighbour) ≡ 1

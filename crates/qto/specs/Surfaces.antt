@@ -1,4 +1,5 @@
--- What the surface rows are worth (01, Surfaces): they are in order, and they are exactly the keys' sums. (`rows-are`, for every mesh that gets a full record.)
+-- What the surface rows are worth (01, Surfaces): they are in order, and they are exactly the keys' sums. (`rows-are`, for every mesh that
+-- gets a full record.)
 use mathlib.Core.Path.{_≡_}
 use Prim.Native.Nat.{ℕ}
 use mathlib.Core.List.{List}

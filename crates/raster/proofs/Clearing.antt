@@ -15,9 +15,12 @@ zeroed n t z l e = e ∙ cleared-all (length t) t refl ∙ ap (λ (k : ℕ). rep
 
 -- what is the same from e on is the same from m on
 same-behind : (m e : ℕ) (s t : List ℕ) → e ≤ m → drop e s ≡ drop e t → drop m s ≡ drop m t
-same-behind m e s t l q = let w : e + (m - e) ≡ m = omega arith in rw (← w) (sym (drop-drop (m - e) e s) ∙ ap (λ (r : List ℕ). drop (m - e) r) q ∙ drop-drop (m - e) e t)
+same-behind m e s t l q =
+    let w : e + (m - e) ≡ m = omega arith in rw (← w)
+    (sym (drop-drop (m - e) e s) ∙ ap (λ (r : List ℕ). drop (m - e) r) q ∙ drop-drop (m - e) e t)
 
 -- a part of the front is back, with other bytes in it
-pub cleared-back : (m e : ℕ) (t new : List ℕ) → e ≤ m → e ≤ length t → length new ≡ length (midOf 0 (e - 0) t) → cleared m (putMid 0 (e - 0) t new) ≡ cleared m t
+pub cleared-back : (m e : ℕ) (t new : List ℕ) → e ≤ m → e ≤ length t → length new ≡ length (midOf 0 (e - 0) t)
+    → cleared m (putMid 0 (e - 0) t new) ≡ cleared m t
 unfolding cleared
 cleared-back m e t new l h k = rw (same-behind m e (putMid 0 (e - 0) t new) t l (drop-put 0 e t new (omega arith) h (k ∙ mid-len 0 e t h)))

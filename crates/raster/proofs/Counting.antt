@@ -36,7 +36,8 @@ shows-none n k l = getD-replicate n k 0 0 (omega (arith, length-replicate {A = �
 
 module _ (vs : List Float) (u v : ℕ) (ids : List ℕ) (g : Grid) where
   -- r counts what the raster t says, which was zero before the triangles were painted: it is the number of covered cells
-  pub counted : (s t : List ℕ) (r : ℕ) → s ≡ replicate (g .nx * g .ny) 0 → length t ≡ g .nx * g .ny → Adds s t (λ k. covered vs u v g ids (k % g .nx) (k / g .nx))
+  pub counted : (s t : List ℕ) (r : ℕ) → s ≡ replicate (g .nx * g .ny) 0 → length t ≡ g .nx * g .ny
+      → Adds s t (λ k. covered vs u v g ids (k % g .nx) (k / g .nx))
       → ((f : ℕ → Bool) → Shows t f → r ≡ count f (length t)) → r ≡ coveredCells vs u v g ids
   unfolding coveredCells
   counted s t r e l a c =
@@ -66,5 +67,6 @@ module _ (vs : List Float) (u v : ℕ) (ids : List ℕ) (xmin xmax ymin ymax w h
   pub foot-none : none ≡ true → nought ≡ footprint vs ids u v xmin xmax ymin ymax
   foot-none e = rw e at (sym by-size)
 
-  pub foot-some : (g : Grid) (r : Float) → none ≡ false → g ≡ gridOf xmin ymin w h size → r ≡ areaOn vs u v ids g → r ≡ footprint vs ids u v xmin xmax ymin ymax
+  pub foot-some : (g : Grid) (r : Float) → none ≡ false → g ≡ gridOf xmin ymin w h size → r ≡ areaOn vs u v ids g
+      → r ≡ footprint vs ids u v xmin xmax ymin ymax
   foot-some g r e q a = a ∙ rw q (rw e at (sym by-size))

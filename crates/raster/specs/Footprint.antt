@@ -1,4 +1,5 @@
--- Raster (01; 000, `footprint_raw`): how much ground a mesh covers, seen along the axis that is neither u nor v. f32, not rebased, each step rounded once.
+-- Raster (01; 000, `footprint_raw`): how much ground a mesh covers, seen along the axis that is neither u nor v. f32, not rebased, each
+-- step rounded once.
 use Prim.Native.Nat.{ℕ, zero, suc, _+_, _*_, _/_, _%_}
 use mathlib.Core.Bool.{Bool, _||_, cond}
 use mathlib.Core.List.{List}
@@ -36,7 +37,8 @@ areaOn vs u v ids g = number (coveredCells vs u v g ids) ⊗ g .w ⊗ g .h
 
 -- over a box that is w long and h long; 0 where it has no length or no cells
 unfoldable pub footprintOver : List Float → ℕ → ℕ → List ℕ → Float → Float → Float → Float → Float → Float
-footprintOver vs u v ids x y w h size = cond (le w nought || (le h nought || le size nought)) nought (areaOn vs u v ids (gridOf x y w h size))
+footprintOver vs u v ids x y w h size =
+    cond (le w nought || (le h nought || le size nought)) nought (areaOn vs u v ids (gridOf x y w h size))
 
 -- the longer side has 256 cells
 abbrev pub cellSize : Float → Float → Float

@@ -5,5 +5,6 @@ use Rattle.record.specs.declared.MeshQto.{MeshQto}
 use Rattle.record.specs.declared.Profile.{Profile}
 use Rattle.record.specs.Flags.{ifClip, ifInvalid, flagged}
 
-pub clip-first : (clip : Bool) (profile : Profile) (q r s : MeshQto) → r ≡ ifClip clip q → s ≡ ifInvalid profile r → s ≡ flagged clip profile q
+pub clip-first : (clip : Bool) (profile : Profile) (q r s : MeshQto) → r ≡ ifClip clip q → s ≡ ifInvalid profile r
+    → s ≡ flagged clip profile q
 clip-first clip profile q r s hr hs = hs ∙ ap (ifInvalid profile) hr

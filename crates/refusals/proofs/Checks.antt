@@ -70,7 +70,8 @@ isFull Check.Zero = false
 isFull Check.Full = true
 
 -- each of the five tests failed
-five-left : (p q r s t : Bool) → cond p (Check.Refuse 1) (cond q Check.Zero (cond (not r) (Check.Refuse 2) (cond s (Check.Refuse 3) (cond (not t) (Check.Refuse 4) Check.Full)))) ≡ Check.Full
+five-left : (p q r s t : Bool) → cond p (Check.Refuse 1)
+    (cond q Check.Zero (cond (not r) (Check.Refuse 2) (cond s (Check.Refuse 3) (cond (not t) (Check.Refuse 4) Check.Full)))) ≡ Check.Full
     → (p ≡ false) × (q ≡ false) × T r × (s ≡ false) × T t
 unfolding isFull
 five-left true q r s t e = absurd (false≢true (ap isFull e))

@@ -21,9 +21,11 @@ and-true : (a : Bool) → (a && true) ≡ a
 and-true true = refl
 and-true false = refl
 
-pub fine-next : (vs : List Float) (i : ℕ) (front found b : Bool) → i < length vs → found ≡ fine (getD vs i nan) → (front && allFine (drop i vs)) ≡ b
+pub fine-next : (vs : List Float) (i : ℕ) (front found b : Bool) → i < length vs → found ≡ fine (getD vs i nan)
+    → (front && allFine (drop i vs)) ≡ b
     → ((front && found) && allFine (drop (i + 1) vs)) ≡ b
-fine-next vs i front found b h e k = rw e (and-assoc front (fine (getD vs i nan)) (allFine (drop (i + 1) vs)) ∙ sym (ap (λ (a : Bool). front && a) (one-more vs i h)) ∙ k)
+fine-next vs i front found b h e k =
+    rw e (and-assoc front (fine (getD vs i nan)) (allFine (drop (i + 1) vs)) ∙ sym (ap (λ (a : Bool). front && a) (one-more vs i h)) ∙ k)
 
 pub fine-end : (vs : List Float) (i : ℕ) (front b : Bool) → length vs ≤ i → (front && allFine (drop i vs)) ≡ b → front ≡ b
 unfolding allFine

@@ -21,7 +21,8 @@ use Rattle.verdict.specs.Verdict.{tooLarge, nearZero, byFaces, byChain, 
 use Rattle.verdict.specs.Meaning.{lastUsed, facesAsked, ClosedSays, OpenSays, CancelsOut, DegenerateSays, Exactly, VerdictMeans}
 use Rattle.verdict.specs.declared.Quality.{Quality}
 use Rattle.verdict.specs.declared.Quality.the-variants.{Closed, OpenShell, Degenerate}
-use Rattle.verdict.proofs.Meaning.{no-box, too-large, within-box, unasked, one-sided, cancels, not-cancelled, as-given, as-welded, open-still}
+use Rattle.verdict.proofs.Meaning.{no-box, too-large, within-box, unasked, one-sided, cancels, not-cancelled, as-given, as-welded}
+use Rattle.verdict.proofs.Meaning.{open-still}
 
 -- where all sums are 0 none has a magnitude
 cancelled-small : (ids : List ℕ) → allCancel ids ≡ true → maxAbs ids < 2
@@ -73,11 +74,13 @@ module _ (vs : List Float) (ids : List ℕ) (ε volume box : Float) where
   -- ---- what each meaning makes the verdict
 
   closed-told : ClosedSays used volume box → verdict ≡ Closed
-  closed-told h = within-box vs ids ε volume box (h .has-box) (h .within-box) ∙ (by-used (h .boundary-free) ∙ go (facesAsked used near) refl)
+  closed-told h =
+      within-box vs ids ε volume box (h .has-box) (h .within-box) ∙ (by-used (h .boundary-free) ∙ go (facesAsked used near) refl)
     where
       go : (b : Bool) → facesAsked used near ≡ b → byFaces used near ≡ Closed
       go false k = unasked used near k
-      go true k = not-cancelled used near k (lt-leb 2 (maxAbs used) (h .one-sided-nowhere k)) (and-false near (allCancel used) (h .encloses))
+      go true k =
+          not-cancelled used near k (lt-leb 2 (maxAbs used) (h .one-sided-nowhere k)) (and-false near (allCancel used) (h .encloses))
 
   open-told : OpenSays used volume box → verdict ≡ OpenShell
   open-told h = by-volume (tooLarge volume box) refl
@@ -102,7 +105,8 @@ module _ (vs : List Float) (ids : List ℕ) (ε volume box : Float) where
       by-box h false k =
           within-box vs ids ε volume box k (h .within-box)
           ∙ (by-used (h .boundary-free)
-          ∙ cancels used near (or-right (overIncident used) near (h .near-zero)) (lt-leb 2 (maxAbs used) (cancelled-small used (h .cancels)))
+          ∙ cancels used near (or-right (overIncident used) near (h .near-zero))
+          (lt-leb 2 (maxAbs used) (cancelled-small used (h .cancels)))
           (and-true near (allCancel used) (h .near-zero) (h .cancels)))
 
   -- ---- every mesh has one of the three
@@ -114,11 +118,19 @@ module _ (vs : List Float) (ids : List ℕ) (ε volume box : Float) where
   by-faces some small free = by-sums (facesAsked used near) refl (decLe 2 (maxAbs used))
     where
       unless-cancelled : (facesAsked used near ≡ true → maxAbs used < 2) → (n : Bool) → near ≡ n → (c : Bool) → allCancel used ≡ c → Some
-      unless-cancelled few true hn true hc = inr (inr (inr (record { within-box = small; boundary-free = free; near-zero = hn; cancels = hc })))
+      unless-cancelled few true hn true hc =
+          inr (inr (inr (record { within-box = small; boundary-free = free; near-zero = hn; cancels = hc })))
       unless-cancelled few true hn false hc =
           inl (record { has-box = some; within-box = small; boundary-free = free; one-sided-nowhere = few; encloses = λ h. hc })
       unless-cancelled few false hn c hc =
-          inl (record { has-box = some; within-box = small; boundary-free = free; one-sided-nowhere = few; encloses = λ h. absurd (true≢false (sym h ∙ hn)) })
+          inl (record {
+            has-box = some;
+            within-box = small;
+            boundary-free = free;
+            one-sided-nowhere = few;
+            encloses =
+                λ h. absurd (true≢false (sym h ∙ hn));
+          })
 
       by-sums : (a : Bool) → facesAsked used near ≡ a → Dec (2 ≤ maxAbs used) → Some
       by-sums true asked (yes l) = inr (inl (record { has-box = some; why = inr (inr (asked, l)) }))

@@ -22,7 +22,8 @@ lastUsed vs ids ε = cond (boundaryFree ids) ids (welded vs ids ε)
 abbrev pub facesAsked : List ℕ → Bool → Bool
 facesAsked used near = overIncident used || near
 
--- the box has a volume and the mesh no more than 1.001 of it, the ids last used have edges and none is open, and the faces say nothing against it
+-- the box has a volume and the mesh no more than 1.001 of it, the ids last used have edges and none is open, and the faces say nothing
+-- against it
 pub record ClosedSays (used : List ℕ) (volume box : Float) : Type 0 where
   pub has-box : le box nought ≡ false
   pub within-box : tooLarge volume box ≡ false
@@ -33,7 +34,8 @@ pub record ClosedSays (used : List ℕ) (volume box : Float) : Type 0 where
 -- more than 1.001 of the volume that the box has, or an open edge or no edge at all, or, asked for, a face sum of magnitude 2 and more
 pub record OpenSays (used : List ℕ) (volume box : Float) : Type 0 where
   pub has-box : le box nought ≡ false
-  pub why : (tooLarge volume box ≡ true) ⊎ ((boundaryFree used ≡ false) ⊎ ((facesAsked used (nearZero volume box) ≡ true) × (2 ≤ maxAbs used)))
+  pub why : (tooLarge volume box ≡ true) ⊎ ((boundaryFree used ≡ false)
+      ⊎ ((facesAsked used (nearZero volume box) ≡ true) × (2 ≤ maxAbs used)))
 
 -- near zero, and all face sums are 0
 pub record CancelsOut (used : List ℕ) (volume box : Float) : Type 0 where

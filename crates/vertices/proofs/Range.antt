@@ -1,4 +1,5 @@
--- An id is in range when it is below the number of vertices: 3i + 2 < F and i < F/3 say the same. So the coordinates of a triangle's corners are there. Assumes nothing.
+-- An id is in range when it is below the number of vertices: 3i + 2 < F and i < F/3 say the same. So the coordinates of a triangle's
+-- corners are there. Assumes nothing.
 use mathlib.Core.Path.{_≡_, refl}
 use mathlib.Core.Bool.{Bool, true, false, _&&_}
 use Prim.Native.Nat.{ℕ, _+_, _*_, _/_, _<_}
@@ -21,7 +22,8 @@ in-range vs i =
     ]
 
 -- each corner of a triangle in range has its three coordinates
-pub corners-below : (vs : List Float) (t : Triangle) → cornersInRange vs t ≡ true → (3 * t .a + 2 < length vs) × (3 * t .b + 2 < length vs) × (3 * t .c + 2 < length vs)
+pub corners-below : (vs : List Float) (t : Triangle) → cornersInRange vs t ≡ true
+    → (3 * t .a + 2 < length vs) × (3 * t .b + 2 < length vs) × (3 * t .c + 2 < length vs)
 unfolding cornersInRange inRange
 corners-below vs t e = all (ltb (3 * t .a + 2) n) (ltb (3 * t .b + 2) n) (ltb (3 * t .c + 2) n) refl refl refl e
   where

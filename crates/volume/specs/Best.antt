@@ -17,7 +17,8 @@ use Rattle.volume.specs.declared.PrismBound.{PrismBound}
 
 -- a footprint on the axes u and v times the extent e on the third; 0 where the box is flat on one of them
 unfoldable pub prismOn : List Float → List ℕ → ℕ → ℕ → Float → Float → Float → Float → Float → Float
-prismOn vs ids u v umin umax vmin vmax e = cond (lt nought e && (lt umin umax && lt vmin vmax)) (footprint vs ids u v umin umax vmin vmax ⊗ e) nought
+prismOn vs ids u v umin umax vmin vmax e =
+    cond (lt nought e && (lt umin umax && lt vmin vmax)) (footprint vs ids u v umin umax vmin vmax ⊗ e) nought
 
 abbrev pub prismX : List Float → List ℕ → Bounds → Float
 prismX vs ids b = prismOn vs ids 1 2 (b .ymin) (b .ymax) (b .zmin) (b .zmax) (extent (b .xmin) (b .xmax))
@@ -55,7 +56,8 @@ thousandth = ofBits binary32 0x3a83_126f
 abbrev pub margin : Float
 margin = ofBits binary32 0x3f86_6666
 
--- collapsed: prism p at least 1e-3, the volume v under a thousandth of the upper bound, and the surface area s above half of p to the power 2/3
+-- collapsed: prism p at least 1e-3, the volume v under a thousandth of the upper bound, and the surface area s above half of p to the power
+-- 2/3
 unfoldable pub collapsed : Float → Float → Float → Float → Bool
 collapsed p most v s = le thousandth p && (cubeAbove s p && lt v (most ⊗ thousandth))
 
@@ -72,5 +74,6 @@ openBest v s box p =
 
 unfoldable pub bestOf : Quality → Float → Float → Float → Float → Best
 bestOf Quality.Closed v s box p = record { volume = v; method = Method.Mesh; reliable = true; prism = PrismBound.NotComputed }
-bestOf Quality.Degenerate v s box p = record { volume = nought; method = Method.PrismFallback; reliable = false; prism = PrismBound.Bound nought }
+bestOf Quality.Degenerate v s box p =
+    record { volume = nought; method = Method.PrismFallback; reliable = false; prism = PrismBound.Bound nought }
 bestOf Quality.OpenShell v s box p = openBest v s box p

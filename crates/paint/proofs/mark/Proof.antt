@@ -1,4 +1,5 @@
--- `paint::mark` meets its contract: the byte is set where the point is not outside, and kept where it is set already or the point is outside. Assumes nothing.
+-- `paint::mark` meets its contract: the byte is set where the point is not outside, and kept where it is set already or the point is
+-- outside. Assumes nothing.
 use mathlib.Core.Path.{sym, _∙_}
 use borrow.Author.Needs.{needs}
 use Rattle.grid.specs.Point.{pointIn}

@@ -10,7 +10,8 @@ use Rattle.paint.proofs.paint_box.Statement.{statement}
 use Rattle.paint.proofs.paint_box.Tie as tie
 
 abbrev Inv-loop : tie.InvT-loop
-Inv-loop part₀ g t lo hi first last j₀ part j = (first ≤ j) × (j ≤ max first (last + 1)) × (length part ≡ length part₀) × Adds part₀ part (boxSofar g t lo hi first j)
+Inv-loop part₀ g t lo hi first last j₀ part j =
+    (first ≤ j) × (j ≤ max first (last + 1)) × (length part ≡ length part₀) × Adds part₀ part (boxSofar g t lo hi first j)
 
 abbrev μ-loop : tie.MeasureT-loop
 μ-loop part₀ g t lo hi first last j₀ part j = last + 1 - j
@@ -20,12 +21,22 @@ loop-holds c =
     let a = c .before .args in
     (omega arith, omega arith, refl, box-first (a .g) (a .t) (a .lo) (a .hi) (a .first) (a .part .now))
 
+-- the ways back, from call to call
+abbrev before-part : tie.After-part Inv-loop μ-loop → tie.Start Inv-loop μ-loop
+before-part c = c .before .before .before .before .before .before
+
 loop-again : tie.Need-loop-again Inv-loop μ-loop
 loop-again c =
-    let a = c .before .before .before .before .before .before .before .args in
-    let l = c .before .before .before .before .before .loop in
-    let p = c .before .before .paint-row in
-    (omega arith, omega arith, omega (arith, p .kept, l .inv .2), box-next (a .g) (a .t) (a .lo) (a .hi) (a .first) (l .j) (omega arith) (l .inv .3) (p .ensures))
+    let after-part = c .before in
+    let start = before-part after-part in
+    let a = start .args in
+    let l = after-part .before .before .before .before .loop in
+    let p = c .before .before .paint-row in (
+      omega arith,
+      omega arith,
+      omega (arith, p .kept, l .inv .2),
+      box-next (a .g) (a .t) (a .lo) (a .hi) (a .first) (l .j) (omega arith) (l .inv .3) (p .ensures),
+    )
 
 returns : tie.Need-returns Inv-loop μ-loop
 returns c =

@@ -10,11 +10,18 @@ enum-told c = search needs
 
 returns : tie.Need-returns
 unfolding countIn
-returns c = sym (ap countIn (c .before .count .given .1)) ∙ pieces-counted _ _ _ _ (c .before .before .before .before .before .before .before .before .before .pre .0) (c .before .before .before .before .before .before .before .before .before .pre .1) (c .before .before .before .before .before .pieces .ensures)
+returns c =
+    sym (ap countIn (c .before .count .given .1))
+    ∙ pieces-counted _ _ _ _ (c .before .before .before .before .before .before .before .before .before .pre .0)
+    (c .before .before .before .before .before .before .before .before .before .pre .1)
+    (c .before .before .before .before .before .pieces .ensures)
 
 returns-2 : tie.Need-returns-2
 unfolding countIn
-returns-2 c = sym (ap countIn (c .enum-told .given .1)) ∙ pieces-counted _ _ _ _ (c .before .before .before .before .before .before .before .before .pre .0) (c .before .before .before .before .before .before .before .before .pre .1) (c .before .before .before .before .pieces .ensures)
+returns-2 c =
+    sym (ap countIn (c .enum-told .given .1)) ∙ pieces-counted _ _ _ _
+    (c .before .before .before .before .before .before .before .before .pre .0)
+    (c .before .before .before .before .before .before .before .before .pre .1) (c .before .before .before .before .pieces .ensures)
 
 pub pieces-of-spec : {M : Type 1} → statement M
 pieces-of-spec =

@@ -10,11 +10,20 @@ enum-told c = search needs
 
 returns : tie.Need-returns
 unfolding lengthIn
-returns c = rw (sym (ap lengthIn (c .before .said .given .1))) (record-prints _ _ _ _ _ _ _ _ _ (c .before .before .before .before .before .before .before .apply-product-flags .ensures) (c .before .before .before .before .before .before .before .before .before .before .pre .0) (c .before .before .before .before .before .before .before .before .before .before .pre .1) (c .before .before .before .before .before .list .ensures))
+returns c =
+    rw (sym (ap lengthIn (c .before .said .given .1)))
+    (record-prints _ _ _ _ _ _ _ _ _ (c .before .before .before .before .before .before .before .apply-product-flags .ensures)
+    (c .before .before .before .before .before .before .before .before .before .before .pre .0)
+    (c .before .before .before .before .before .before .before .before .before .before .pre .1)
+    (c .before .before .before .before .before .list .ensures))
 
 returns-2 : tie.Need-returns-2
 unfolding lengthIn
-returns-2 c = rw (sym (ap lengthIn (c .enum-told .given .1))) (record-prints _ _ _ _ _ _ _ _ _ (c .before .before .before .before .before .before .apply-product-flags .ensures) (c .before .before .before .before .before .before .before .before .before .pre .0) (c .before .before .before .before .before .before .before .before .before .pre .1) (c .before .before .before .before .list .ensures))
+returns-2 c =
+    rw (sym (ap lengthIn (c .enum-told .given .1)))
+    (record-prints _ _ _ _ _ _ _ _ _ (c .before .before .before .before .before .before .apply-product-flags .ensures)
+    (c .before .before .before .before .before .before .before .before .before .pre .0)
+    (c .before .before .before .before .before .before .before .before .before .pre .1) (c .before .before .before .before .list .ensures))
 
 pub print-record-spec : {M : Type 1} → statement M
 print-record-spec =

@@ -10,11 +10,17 @@ enum-told c = search needs
 
 returns : tie.Need-returns
 unfolding lengthIn
-returns c = rw (sym (ap lengthIn (c .before .said .given .1))) (refusal-prints _ _ _ _ (c .before .before .before .before .before .before .before .before .pre) (c .before .before .before .before .before .list-refusal .ensures))
+returns c =
+    rw (sym (ap lengthIn (c .before .said .given .1)))
+    (refusal-prints _ _ _ _ (c .before .before .before .before .before .before .before .before .pre)
+    (c .before .before .before .before .before .list-refusal .ensures))
 
 returns-2 : tie.Need-returns-2
 unfolding lengthIn
-returns-2 c = rw (sym (ap lengthIn (c .enum-told .given .1))) (refusal-prints _ _ _ _ (c .before .before .before .before .before .before .before .pre) (c .before .before .before .before .list-refusal .ensures))
+returns-2 c =
+    rw (sym (ap lengthIn (c .enum-told .given .1)))
+    (refusal-prints _ _ _ _ (c .before .before .before .before .before .before .before .pre)
+    (c .before .before .before .before .list-refusal .ensures))
 
 pub print-refusal-spec : {M : Type 1} → statement M
 print-refusal-spec =

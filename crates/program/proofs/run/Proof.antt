@@ -16,17 +16,20 @@ array-share-prefix-vertices c =
 
 slice-aggregate-print-mesh : tie.Need-slice-aggregate-print-mesh
 slice-aggregate-print-mesh c =
-    let most = reads-most _ _ _ _ _ _ (c .before .before .before .before .before .before .read .ensures) _ (c .before .before .found2 .given .1) in
+    let most = reads-most _ _ _ _ _ _ (c .before .before .before .before .before .before .read .ensures) _
+    (c .before .before .found2 .given .1) in
     sym (length-take-le _ _ (omega (arith, most .0)))
 
 array-share-prefix-ids : tie.Need-array-share-prefix-ids
 array-share-prefix-ids c =
-    let most = reads-most _ _ _ _ _ _ (c .before .before .before .before .before .before .read .ensures) _ (c .before .before .found2 .given .1) in
+    let most = reads-most _ _ _ _ _ _ (c .before .before .before .before .before .before .read .ensures) _
+    (c .before .before .found2 .given .1) in
     omega (arith, most .1)
 
 slice-aggregate-print-mesh-2 : tie.Need-slice-aggregate-print-mesh-2
 slice-aggregate-print-mesh-2 c =
-    let most = reads-most _ _ _ _ _ _ (c .before .before .before .before .before .before .before .read .ensures) _ (c .before .before .before .found2 .given .1) in
+    let most = reads-most _ _ _ _ _ _ (c .before .before .before .before .before .before .before .read .ensures) _
+    (c .before .before .before .found2 .given .1) in
     sym (length-take-le _ _ (omega (arith, most .1)))
 
 print-mesh-requires : tie.Need-print-mesh-requires
@@ -36,10 +39,16 @@ print-mesh-requires c κs =
     (omega (arith, length-take (m .floats) (areas .0)), omega (arith, length-take (m .ids) (areas .1 .0)), search needs)
 
 returns : tie.Need-returns
-returns c = rw (← refusal-text _ _ (omega arith) (omega arith) _ _ _ _ (c .before .before .before .before .before .before .before .read .ensures) _ (c .before .before .before .found .given .1)) (c .print-refusal .ensures)
+returns c =
+    rw (← refusal-text _ _ (omega arith) (omega arith) _ _ _ _
+    (c .before .before .before .before .before .before .before .read .ensures) _ (c .before .before .before .found .given .1))
+    (c .print-refusal .ensures)
 
 returns-2 : tie.Need-returns-2
-returns-2 c = rw (← mesh-text _ _ (omega arith) (omega arith) _ _ _ _ (c .before .before .before .before .before .before .before .before .before .read .ensures) _ (c .before .before .before .before .before .found2 .given .1)) (c .print-mesh .ensures)
+returns-2 c =
+    rw (← mesh-text _ _ (omega arith) (omega arith) _ _ _ _
+    (c .before .before .before .before .before .before .before .before .before .read .ensures) _
+    (c .before .before .before .before .before .found2 .given .1)) (c .print-mesh .ensures)
 
 pub run-spec : {M : Type 1} → statement M
 run-spec =

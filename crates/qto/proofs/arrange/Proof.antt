@@ -25,7 +25,9 @@ returns c =
     let scaled = at-scale sorted in
     let a = start scaled .args in
     let k = scaled .scale in
-    arranged (a .by) (a .rows .now) (k .last .0) (sorted .sort .last .0) (k .ensures) (record { largest = c .before .before .largest .result; smallest = c .smallest .result }) (sorted .sort .ensures) (c .before .before .largest .ensures) (c .smallest .ensures)
+    arranged (a .by) (a .rows .now) (k .last .0) (sorted .sort .last .0) (k .ensures)
+    (record { largest = c .before .before .largest .result; smallest = c .smallest .result }) (sorted .sort .ensures)
+    (c .before .before .largest .ensures) (c .smallest .ensures)
 
 pub arrange-spec : {M : Type 1} → statement M
 arrange-spec =

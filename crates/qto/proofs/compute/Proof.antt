@@ -17,7 +17,8 @@ full-requires c κs =
     let told = c .before .before .before in
     let checked = told .before .before in
     let a = start checked .args in
-    admitted (a .vertices .now) (a .indices .now) (a .unit-scale) (length (a .work .now)) (length (a .raster .now)) (length (a .surfaces .now)) _
+    admitted (a .vertices .now) (a .indices .now) (a .unit-scale) (length (a .work .now)) (length (a .raster .now))
+    (length (a .surfaces .now)) _
     (told .enum-told2 .given .1) (checked .checked .ensures)
 
 returns : tie.Need-returns

@@ -26,7 +26,8 @@ module _ (c : tie.After-walk) where
   abbrev area : List Float
   area = c .walk .last .1 .1 .1 .1 .1 .0
 
-  found : Found (s .args .vertices .now) (s .args .indices .now) (s .args .b) (from-origin .origin .result) (c .before .before .before .house-rule .result)
+  found : Found (s .args .vertices .now) (s .args .indices .now) (s .args .b) (from-origin .origin .result)
+      (c .before .before .before .house-rule .result)
       (s .args .surfaces .now) (c .walk .result) area
   found =
       record {
@@ -58,7 +59,8 @@ returns c =
     record {
       is =
           measured (u k) (found k) (front - 0) (omega arith) (e .result) _ (e .ensures) _ _ _ _ (after .before .before .narrow .ensures)
-          (from-origin k .before .f32-to-f64-with-nan .ensures) (c .before .before .before .before .narrow2 .ensures) (after .before .f32-to-f64-with-nan2 .ensures);
+          (from-origin k .before .f32-to-f64-with-nan .ensures) (c .before .before .before .before .narrow2 .ensures)
+          (after .before .f32-to-f64-with-nan2 .ensures);
       few = few (u k) (found k) (s k .pre .mesh .ids-most);
       later = rows-after (u k) (found k) (front - 0) (omega arith) (e .result) _ (e .ensures) _ (post-is 0 front (area k) (omega arith));
     }

@@ -24,8 +24,10 @@ returns c =
     let a = s .args in
     record {
       is =
-          assembled (a .vertices .now) (a .indices .now) (a .unit-scale) (a .b) (a .m) _ _ _ _ _ (s .pre .is-box) (at-box judged .box-volume .ensures)
-          (judged .before .before .epsilon .ensures) (judged .classify-mesh-quality .ensures .0) (best .before .before .magnitude32 .ensures)
+          assembled (a .vertices .now) (a .indices .now) (a .unit-scale) (a .b) (a .m) _ _ _ _ _ (s .pre .is-box)
+          (at-box judged .box-volume .ensures)
+          (judged .before .before .epsilon .ensures) (judged .classify-mesh-quality .ensures .0)
+          (best .before .before .magnitude32 .ensures)
           (best .best-volume .ensures .0);
       work = judged .classify-mesh-quality .ensures .1;
       raster = best .best-volume .ensures .1;

@@ -41,7 +41,9 @@ record-by-requires c κs =
       ids-most = s .pre .mesh .ids-most;
       is-box = boxed .box-of .ensures;
       few = measured .measure .ensures .few;
-      words = front-kept i (s .args .work .now) (measured .measure .last .1 .1 .1 .1 .0) (measured .measure .kept .1 .1 .1 .1 .0) ∙ s .pre .words;
+      words =
+          front-kept i (s .args .work .now) (measured .measure .last .1 .1 .1 .1 .0) (measured .measure .kept .1 .1 .1 .1 .0)
+          ∙ s .pre .words;
       bytes = s .pre .bytes;
     }
 

@@ -66,13 +66,15 @@ pub record Exact (vs : List Float) (ids : List ℕ) (u : Float) (w r : List ℕ)
   pub bytes : length r ≡ rasterBytes
   pub room : surfaceFloats (length ids) ≤ length s
 
-pub record RecordedIn (vs : List Float) (ids : List ℕ) (u : Float) (s : List Float) (q : MeshQto) (w′ r′ : List ℕ) (s′ : List Float) : Type 0 where
+pub record RecordedIn (vs : List Float) (ids : List ℕ) (u : Float) (s : List Float) (q : MeshQto) (w′ r′ : List ℕ)
+    (s′ : List Float) : Type 0 where
   pub is : q ≡ recordOf vs ids u
   pub work : w′ ≡ replicate (workWords (length vs) (length ids)) 0
   pub raster : r′ ≡ replicate rasterBytes 0
   pub surfaces : s′ ≡ surfacesAfter vs ids u s
 
-pub record Recorded (vs : List Float) (ids : List ℕ) (u : Float) (w r : List ℕ) (s : List Float) (q : MeshQto) (w′ r′ : List ℕ) (s′ : List Float) : Type 0 where
+pub record Recorded (vs : List Float) (ids : List ℕ) (u : Float) (w r : List ℕ) (s : List Float) (q : MeshQto) (w′ r′ : List ℕ)
+    (s′ : List Float) : Type 0 where
   pub is : q ≡ recordOf vs ids u
   pub work : w′ ≡ cleared (workWords (length vs) (length ids)) w
   pub raster : r′ ≡ cleared rasterBytes r

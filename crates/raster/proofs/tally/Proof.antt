@@ -29,8 +29,11 @@ add-sum c = omega (arith, c .shared-slice-known .given (c .before .before .loop 
 
 loop-again : tie.Need-loop-again Inv-loop μ-loop
 loop-again c =
-    let l = c .before .before .loop in
-    (omega arith, omega (arith, c .shared-slice-known .given (l .i)), λ f s. omega (arith, l .inv .2 f s, s (l .i) (omega arith), count-next f (l .i)))
+    let l = c .before .before .loop in (
+      omega arith,
+      omega (arith, c .shared-slice-known .given (l .i)),
+      λ f s. omega (arith, l .inv .2 f s, s (l .i) (omega arith), count-next f (l .i)),
+    )
 
 returns : tie.Need-returns Inv-loop μ-loop
 returns c =

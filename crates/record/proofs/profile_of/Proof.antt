@@ -22,7 +22,9 @@ unfolding profileAt
 returns-4 c = rw (c .match .keys4)
 
 returns-5 : tie.Need-returns-5
-returns-5 c = profile-from-four (c .before .args .defect) (omega (arith, c .match .rest .1, c .match .rest .0 .1, c .match .rest .0 .0 .1, c .match .rest .0 .0 .0 .1))
+returns-5 c =
+    profile-from-four (c .before .args .defect) (omega
+    (arith, c .match .rest .1, c .match .rest .0 .1, c .match .rest .0 .0 .1, c .match .rest .0 .0 .0 .1))
 
 pub profile-of-spec : {M : Type 1} → statement M
 profile-of-spec =

@@ -22,11 +22,16 @@ loop-holds c = (omega arith, refl)
 
 loop-again : tie.Need-loop-again Inv-loop μ-loop
 loop-again c =
-    let l = c .before .before .before .loop in
-    (omega arith, fine-next (c .before .before .before .before .before .args .vertices .now) (l .i) (l .fine) _ _ (omega arith) (ap (λ (y : Float). le y (ofBits binary32 0x5000_0000)) (c .magnitude32 .ensures)) (l .inv .1))
+    let l = c .before .before .before .loop in (
+      omega arith,
+      fine-next (c .before .before .before .before .before .args .vertices .now) (l .i) (l .fine) _ _ (omega arith)
+          (ap (λ (y : Float). le y (ofBits binary32 0x5000_0000)) (c .magnitude32 .ensures)) (l .inv .1),
+    )
 
 returns : tie.Need-returns Inv-loop μ-loop
-returns c = fine-end (c .before .before .before .args .vertices .now) (c .before .loop .i) (c .before .loop .fine) _ (omega arith) (c .before .loop .inv .1)
+returns c =
+    fine-end (c .before .before .before .args .vertices .now) (c .before .loop .i) (c .before .loop .fine) _ (omega arith)
+    (c .before .loop .inv .1)
 
 pub all-fine-spec : {M : Type 1} → statement M
 all-fine-spec =

@@ -32,20 +32,25 @@ module _ (c : tie.After-net-behind) where
 returns : tie.Need-returns
 returns c =
     let s = c .before .before in
-    sym (unasked (drop (s .args .at) (s .args .area .now)) (s .args .near) (ap (λ (b : Bool). b || s .args .near) (sym (s .pre .told)) ∙ not-true _ (c .if1 .taken)))
+    sym (unasked (drop (s .args .at) (s .args .area .now)) (s .args .near)
+    (ap (λ (b : Bool). b || s .args .near) (sym (s .pre .told)) ∙ not-true _ (c .if1 .taken)))
 
 returns-2 : tie.Need-returns-2
-returns-2 c = let k = c .before .before .before .before in sym (one-sided (ids k) (st k .args .near) (asked k) (largest k ∙ le-leb 2 (k .net-behind .result .«max_abs») (c .if2 .taken)))
+returns-2 c =
+    let k = c .before .before .before .before in sym
+    (one-sided (ids k) (st k .args .near) (asked k) (largest k ∙ le-leb 2 (k .net-behind .result .«max_abs») (c .if2 .taken)))
 
 returns-3 : tie.Need-returns-3
 returns-3 c =
     let k = c .before .before .before .before .before .before in
-    sym (cancels (ids k) (st k .args .near) (asked k) (largest k ∙ lt-leb 2 (k .net-behind .result .«max_abs») (c .before .before .if2 .left)) (cancel k ∙ c .if3 .taken))
+    sym (cancels (ids k) (st k .args .near) (asked k)
+    (largest k ∙ lt-leb 2 (k .net-behind .result .«max_abs») (c .before .before .if2 .left)) (cancel k ∙ c .if3 .taken))
 
 returns-4 : tie.Need-returns-4
 returns-4 c =
     let k = c .before .before .before .before .before .before in
-    sym (not-cancelled (ids k) (st k .args .near) (asked k) (largest k ∙ lt-leb 2 (k .net-behind .result .«max_abs») (c .before .before .if2 .left)) (cancel k ∙ c .if3 .left))
+    sym (not-cancelled (ids k) (st k .args .near) (asked k)
+    (largest k ∙ lt-leb 2 (k .net-behind .result .«max_abs») (c .before .before .if2 .left)) (cancel k ∙ c .if3 .left))
 
 pub by-faces-spec : {M : Type 1} → statement M
 by-faces-spec =

@@ -1,4 +1,5 @@
--- `verdict::by_ids` meets its contract: the ids that the face part is asked about are those of the chain, since the chain leaves them. Assumes nothing.
+-- `verdict::by_ids` meets its contract: the ids that the face part is asked about are those of the chain, since the chain leaves them.
+-- Assumes nothing.
 use mathlib.Core.Path.{_≡_, sym, ap, _∙_}
 use mathlib.Core.List.{List}
 use Prim.Native.Nat.{ℕ, _-_, _*_}
@@ -23,11 +24,14 @@ module _ (c : tie.After-chain-behind) where
   abbrev edge-part : ℕ
   edge-part = 4 * st .args .i
 
-  same : drop (st .args .at - edge-part) (take (length (c .chain-behind .last .0) - edge-part) (drop edge-part (c .chain-behind .last .0))) ≡ ids
+  same : drop (st .args .at - edge-part) (take (length (c .chain-behind .last .0) - edge-part)
+      (drop edge-part (c .chain-behind .last .0))) ≡ ids
   same = behind-part edge-part (st .args .at) (c .chain-behind .last .0) (omega (arith, st .pre .2)) ∙ c .chain-behind .ensures .2
 
 returns : tie.Need-returns
-returns c = let k = c .before .before .before .before in sym (bounded (ids k) (st k .args .near) (sym (k .chain-behind .ensures .0) ∙ not-true _ (c .if1 .taken)))
+returns c =
+    let k = c .before .before .before .before in sym
+    (bounded (ids k) (st k .args .near) (sym (k .chain-behind .ensures .0) ∙ not-true _ (c .if1 .taken)))
 
 by-faces-requires : tie.Need-by-faces-requires
 by-faces-requires c κs =
@@ -42,10 +46,17 @@ by-faces-requires c κs =
       told = rw (same k) (k .chain-behind .ensures .1);
     }
 
+-- the ways back, from call to call
+abbrev before-by-faces : tie.After-by-faces → tie.After-chain-behind
+before-by-faces c = c .before .before .before .before .before .before
+
 returns-2 : tie.Need-returns-2
 returns-2 c =
-    let k = c .before .before .before .before .before .before .before .before in
-    rw (free (ids k) (st k .args .near) (sym (k .chain-behind .ensures .0) ∙ not-false _ (c .before .before .before .before .if1 .left))) (ap Free (rw (same k) at (c .before .before .by-faces .ensures)))
+    let after-by-faces = c .before .before in
+    let after-chain-behind = before-by-faces after-by-faces in
+    let k = after-chain-behind in
+    rw (free (ids k) (st k .args .near) (sym (k .chain-behind .ensures .0)
+    ∙ not-false _ (after-by-faces .before .before .if1 .left))) (ap Free (rw (same k) at (c .before .before .by-faces .ensures)))
 
 pub by-ids-spec : {M : Type 1} → statement M
 by-ids-spec =

@@ -9,14 +9,26 @@ use Rattle.verdict.proofs.Parts.{asked-behind}
 use Rattle.verdict.proofs.by_welded.Statement.{statement}
 use Rattle.verdict.proofs.by_welded.Tie as tie
 
+-- the ways back, from call to call
+abbrev before-welded-indices : tie.After-welded-indices → tie.Start
+before-welded-indices c = c .before .before .before .before .before
+
+abbrev before-work2 : tie.After-work2 → tie.After-welded-indices
+before-work2 c = c .before .before .before .before .before
+
 returns : tie.Need-returns
 returns c =
-    let s = c .before .before .before .before .before .before .before .before .before .before .before .before in
+    let after-work2 = c .before .before in
+    let after-welded-indices = before-work2 after-work2 in
+    let start = before-welded-indices after-welded-indices in
+    let s = start in
     let a = s .args in
-    let k = c .before .before .before .before .before .before .before .welded-indices in
-    let asked = c .before .before .before .by-ids in
+    let k = after-welded-indices .welded-indices in
+    let asked = after-work2 .before .by-ids in
     c .open-unless-free .ensures
-    ∙ ap openUnlessFree (asked-behind (length (a .indices .now)) (vertexCount (a .vertices .now)) (a .work .now) (k .last .1 .1 .1 .0) (replicate (8 * vertexCount (a .vertices .now)) 0) _ (a .near) (asked .result) (s .pre .words) (length-replicate (8 * vertexCount (a .vertices .now)) 0) (k .ensures) (asked .ensures))
+    ∙ ap openUnlessFree (asked-behind (length (a .indices .now)) (vertexCount (a .vertices .now)) (a .work .now)
+    (k .last .1 .1 .1 .0) (replicate (8 * vertexCount (a .vertices .now)) 0) _ (a .near) (asked .result) (s .pre .words)
+    (length-replicate (8 * vertexCount (a .vertices .now)) 0) (k .ensures) (asked .ensures))
 
 pub by-welded-spec : {M : Type 1} → statement M
 by-welded-spec =

@@ -21,14 +21,22 @@ returns-2 : tie.Need-returns-2
 unfolding tooLarge
 returns-2 c =
     let a = c .before .before .before .before .before .before .args in
-    sym (too-large (a .vertices .now) (a .indices .now) (a .eps) (a .volume) (a .aabb-volume) (some (c .before .before)) (rw (c .before .magnitude32 .ensures) at (c .if2 .taken)))
+    sym (too-large (a .vertices .now) (a .indices .now) (a .eps) (a .volume) (a .aabb-volume) (some (c .before .before))
+    (rw (c .before .magnitude32 .ensures) at (c .if2 .taken)))
+
+-- the ways back, from call to call
+abbrev before-magnitude32 : tie.After-magnitude32 → tie.Start
+before-magnitude32 c = c .before .before .before .before .before
 
 returns-3 : tie.Need-returns-3
 unfolding tooLarge nearZero
 returns-3 c =
-    let a = c .before .before .before .before .before .before .before .before .before .before .args in
-    let is = c .before .before .before .before .before .magnitude32 .ensures in
-    rw (within-box (a .vertices .now) (a .indices .now) (a .eps) (a .volume) (a .aabb-volume) (some (c .before .before .before .before .before .before)) (rw is at (c .before .before .before .before .if2 .left))) (rw is at (c .before .before .by-chain .ensures))
+    let after-magnitude32 = c .before .before .before .before .before in
+    let start = before-magnitude32 after-magnitude32 in
+    let a = start .args in
+    let is = after-magnitude32 .magnitude32 .ensures in
+    rw (within-box (a .vertices .now) (a .indices .now) (a .eps) (a .volume) (a .aabb-volume) (some (after-magnitude32 .before))
+    (rw is at (c .before .before .before .before .if2 .left))) (rw is at (c .before .before .by-chain .ensures))
 
 pub judge-spec : {M : Type 1} → statement M
 judge-spec =

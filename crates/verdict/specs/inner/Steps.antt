@@ -1,4 +1,5 @@
--- What the classifier's own steps say: of one list of ids, given or welded, and of the area that it is lent. No definition of document 01 is here.
+-- What the classifier's own steps say: of one list of ids, given or welded, and of the area that it is lent. No definition of document 01
+-- is here.
 use mathlib.Core.Path.{_≡_}
 use Prim.Native.Nat.{ℕ, _+_, _*_, _≤_}
 use mathlib.Core.Bool.{Bool, true, false, cond}
@@ -36,7 +37,8 @@ pub record PartsFit (vs : List Float) (ids w : List ℕ) : Type 0 where
   pub ids-most : length ids ≤ mostEntries
   pub words : length w ≡ workWords (length vs) (length ids)
 
--- ids stand behind the first `at` words, there is room for their face part in front of them, and `over` says whether their chain is over-incident
+-- ids stand behind the first `at` words, there is room for their face part in front of them, and `over` says whether their chain is
+-- over-incident
 pub record FacesFit (area : List ℕ) (at : ℕ) (over : Bool) : Type 0 where
   pub within : at ≤ length area
   pub few : length area ≤ at + mostEntries

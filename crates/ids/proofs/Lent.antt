@@ -6,7 +6,7 @@ use native.Mathlib.Omega.{arith}
 use native.Mathlib.Decide.{decLt}
 use borrow.Author.Tests.{lt-ltb, le-ltb}
 use lib.ListN.{length, drop, replicate, drop-of-length-le}
-use Rattle.ids.specs.Lent.{refusal, unlessRefused, cleared, areaAfter, Gives}
+use Rattle.ids.specs.Lent.{refusal, unlessRefused, cleared, areaAfter, Gives, mostEntries}
 use Rattle.ids.proofs.Triangles.{append-none}
 
 -- any two answers that the contract allows are equal, and so are the areas
@@ -15,13 +15,13 @@ pub gives-one : {A : Type 0} (needed : ℕ) (refused : ℕ → A) (answer : A) (
 gives-one needed refused answer ids area r r′ after after′ g h = (g .answers ∙ sym (h .answers), g .leaves ∙ sym (h .leaves))
 
 -- k is the refusal's number, and it is none: there are not too many ids, and the area has the words needed
-pub refusal-none : (k i needed lent : ℕ) → k ≡ refusal i needed lent → k ≤ 0 → (i ≤ 98304) × (needed ≤ lent)
+pub refusal-none : (k i needed lent : ℕ) → k ≡ refusal i needed lent → k ≤ 0 → (i ≤ mostEntries) × (needed ≤ lent)
 unfolding refusal
 refusal-none k i needed lent e z =
-    elim (decLt 98304 i) [
-      | yes many ↦ (let one : k ≡ 1 = rw (lt-ltb 98304 i many) at e in absurd (omega (arith, one)))
+    elim (decLt mostEntries i) [
+      | yes many ↦ (let one : k ≡ 1 = rw (lt-ltb mostEntries i many) at e in absurd (omega (arith, one)))
       | no few ↦ elim (decLt lent needed) [
-        | yes short ↦ (let three : k ≡ 3 = rw (le-ltb 98304 i (omega arith), lt-ltb lent needed short) at e in
+        | yes short ↦ (let three : k ≡ 3 = rw (le-ltb mostEntries i (omega arith), lt-ltb lent needed short) at e in
             absurd (omega (arith, three)))
         | no room ↦ (omega arith, omega arith)
       ]

@@ -41,87 +41,28 @@ neighbour = 3 ∷ 4 ∷ 5 ∷ 3 ∷ 5 ∷ 6 ∷ 3 ∷ 6 ∷ 4 ∷ 4 ∷ 6 ∷ 5 
 unfoldable pub stranger : List ℕ
 stranger = 7 ∷ 4 ∷ 5 ∷ 7 ∷ 5 ∷ 6 ∷ 7 ∷ 6 ∷ 4 ∷ 4 ∷ 6 ∷ 5 ∷ []
 
+-- one row: ids, and what is said of them in the order of the columns above
+abbrev pub says : List ℕ → Bool → Bool → ℕ → Bool → Bool → Bool → ℕ → Example
+says ids free crowded largest cancel closed wound count =
+    record {
+      ids = ids;
+      boundary-free = free;
+      over-incident = crowded;
+      max-abs = largest;
+      all-cancel = cancel;
+      manifold = closed;
+      coherent = wound;
+      piece-count = count;
+    }
+
 unfoldable pub examples : List Example
 examples =
-    (record {
-      ids = tetrahedron;
-      boundary-free = true;
-      over-incident = false;
-      max-abs = 1;
-      all-cancel = false;
-      manifold = true;
-      coherent = true;
-      piece-count = 1;
-    })
-    ∷ (record {
-      ids = 0 ∷ 1 ∷ 2 ∷ 2 ∷ 1 ∷ 0 ∷ 3 ∷ 3 ∷ 3 ∷ [];
-      boundary-free = true;
-      over-incident = false;
-      max-abs = 0;
-      all-cancel =
-          true;
-      manifold = true;
-      coherent = true;
-      piece-count = 1;
-    })
-    ∷ (record {
-      ids = 0 ∷ 1 ∷ 2 ∷ 2 ∷ 1 ∷ 0 ∷ [];
-      boundary-free = false;
-      over-incident = false;
-      max-abs = 0;
-      all-cancel = true;
-      manifold = false;
-      coherent = false;
-      piece-count = 1;
-    })
-    ∷ (record {
-      ids = 0 ∷ 0 ∷ 0 ∷ 0 ∷ 0 ∷ 0 ∷ 0 ∷ 0 ∷ 0 ∷ [];
-      boundary-free = false;
-      over-incident = false;
-      max-abs = 0;
-      all-cancel = true;
-      manifold = true;
-      coherent = false;
-      piece-count = 0;
-    })
-    ∷ (record {
-      ids = tetrahedron ++ tetrahedron;
-      boundary-free = true;
-      over-incident = true;
-      max-abs = 2;
-      all-cancel = false;
-      manifold = false;
-      coherent = false;
-      piece-count = 1;
-    })
-    ∷ (record {
-      ids = 0 ∷ 1 ∷ 2 ∷ 0 ∷ 2 ∷ 3 ∷ 0 ∷ 3 ∷ 1 ∷ 1 ∷ [];
-      boundary-free = false;
-      over-incident = false;
-      max-abs = 1;
-      all-cancel = false;
-      manifold = false;
-      coherent = false;
-      piece-count = 1;
-    })
-    ∷ (record {
-      ids = tetrahedron ++ neighbour;
-      boundary-free = true;
-      over-incident = false;
-      max-abs = 1;
-      all-cancel = false;
-      manifold = true;
-      coherent = true;
-      piece-count = 1;
-    })
-    ∷ (record {
-      ids = tetrahedron ++ (3 ∷ 3 ∷ 7 ∷ stranger) ++ (3 ∷ []);
-      boundary-free = false;
-      over-incident = false;
-      max-abs = 1;
-      all-cancel = false;
-      manifold = false;
-      coherent = false;
-      piece-count = 2;
-    })
+    says tetrahedron true false 1 false true true 1
+    ∷ says (0 ∷ 1 ∷ 2 ∷ 2 ∷ 1 ∷ 0 ∷ 3 ∷ 3 ∷ 3 ∷ []) true false 0 true true true 1
+    ∷ says (0 ∷ 1 ∷ 2 ∷ 2 ∷ 1 ∷ 0 ∷ []) false false 0 true false false 1
+    ∷ says (0 ∷ 0 ∷ 0 ∷ 0 ∷ 0 ∷ 0 ∷ 0 ∷ 0 ∷ 0 ∷ []) false false 0 true true false 0
+    ∷ says (tetrahedron ++ tetrahedron) true true 2 false false false 1
+    ∷ says (0 ∷ 1 ∷ 2 ∷ 0 ∷ 2 ∷ 3 ∷ 0 ∷ 3 ∷ 1 ∷ 1 ∷ []) false false 1 false false false 1
+    ∷ says (tetrahedron ++ neighbour) true false 1 false true true 1
+    ∷ says (tetrahedron ++ (3 ∷ 3 ∷ 7 ∷ stranger) ++ (3 ∷ [])) false false 1 false false false 2
     ∷ []

@@ -79,7 +79,8 @@ fn coordinate(vertices: &[f32], axis: usize, id: u32) -> f32
 
 // Three vertices on the axes u and v.
 fn flat(vertices: &[f32], u: usize, v: usize, a: u32, b: u32, c: u32) -> Flat
-    requires { ⌜ (u ≤ 2) × (v ≤ 2) × (3 * a + 2 < length (now vertices)) × (3 * b + 2 < length (now vertices)) × (3 * c + 2 < length (now vertices)) ⌝ }
+    requires { ⌜ (u ≤ 2) × (v ≤ 2) × (3 * a + 2 < length (now vertices)) × (3 * b + 2 < length (now vertices))
+        × (3 * c + 2 < length (now vertices)) ⌝ }
     ensures { λ r. ⌜ r ≡ flatOf (now (vertices .entry)) u v (record { a = a; b = b; c = c }) ⌝ }
 {
     Flat {
@@ -119,7 +120,8 @@ fn paint_triangle(
 
 pub fn paint_all(vertices: &[f32], ids: &[u32], u: usize, v: usize, g: Grid, part: &mut [u8])
     requires { ⌜ (u ≤ 2) × (v ≤ 2) × GridSized g × (length (now part) ≡ g .nx * g .ny) ⌝ }
-    ensures { λ _. ⌜ Adds (now (part .entry)) (now (part .exit)) (λ k. covered (now (vertices .entry)) u v g (now (ids .entry)) (k % g .nx) (k / g .nx)) ⌝ }
+    ensures { λ _. ⌜ Adds (now (part .entry)) (now (part .exit))
+        (λ k. covered (now (vertices .entry)) u v g (now (ids .entry)) (k % g .nx) (k / g .nx)) ⌝ }
 {
     let n = ids.len() / 3;
     let mut t = 0;

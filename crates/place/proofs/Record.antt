@@ -16,6 +16,7 @@ use Rattle.verdict.specs.declared.Quality.{Quality}
 use Rattle.verdict.specs.Verdict.{byChain, quality}
 use Rattle.volume.specs.declared.Method.{Method}
 use Rattle.volume.specs.declared.PrismBound.{PrismBound}
+use Rattle.volume.specs.declared.Best.{Best}
 use Rattle.volume.specs.Best.{upper, trusted, openBest, bestOf}
 use Rattle.record.specs.Numbers.{prismNumber}
 use Rattle.refusals.specs.Refusals.{unitFits}
@@ -33,7 +34,7 @@ unfolding openBest prismNumber
 open-bounded v s aabb p = go (trusted p (upper p aabb) v s)
   where
     go : (t : Bool) → prismNumber
-        (cond t (record { volume = v; method = Method.MeshOpen; reliable = true; prism = PrismBound.Bound p })
+        (cond {A = Best} t (record { volume = v; method = Method.MeshOpen; reliable = true; prism = PrismBound.Bound p })
         (record { volume = p; method = Method.PrismFallback; reliable = false; prism = PrismBound.Bound p }) .prism) ≡ 1
     go true = refl
     go false = refl

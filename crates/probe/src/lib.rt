@@ -5,14 +5,16 @@ ghost use lib.ListN.{length, replicate};
 ghost use mathlib.Core.Bool.{_&&_, cond};
 ghost use mathlib.Core.List.{_++_};
 ghost use mathlib.Core.Path.{_≡_};
-ghost use Prim.Native.Nat.{_+_, _*_, min};
+ghost use Prim.Native.Nat.{_+_, _*_};
 ghost use Rattle.ieee.specs.Cube.{cubeAbove};
 ghost use Rattle.ieee.specs.Single.{nought};
 ghost use Rattle.ids.specs.Lent.{cleared};
 ghost use Rattle.vertices.specs.Vertices.{vertexCount};
 ghost use Rattle.weld.specs.Weld.{epsilonOf, welded};
 ghost use Rattle.grid.specs.Point.{pointIn};
-ghost use Rattle.raster.specs.Footprint.{axisNumber, footprint};
+ghost use Rattle.vertices.specs.Areas.{rasterBytes};
+ghost use Rattle.raster.specs.Footprint.{windowOf, footprint};
+ghost use Rattle.raster.specs.inner.Axes.{axisAt};
 use grid::Flat;
 use raster::Axis;
 
@@ -82,7 +84,7 @@ pub extern "C" fn probe_point_in_triangle(
 
 // 0 is x, 1 is y, and any other number z.
 fn axis(n: u32) -> Axis
-    ensures { λ r. ⌜ axisNumber r ≡ min n 2 ⌝ }
+    ensures { λ r. ⌜ r ≡ axisAt n ⌝ }
 {
     if n == 0 {
         Axis::X
@@ -106,21 +108,13 @@ pub extern "C" fn probe_footprint_raw(
     ymax: f32,
     area: &mut [u8],
 ) -> f32
-    ensures { λ r. ⌜ (r ≡ cond (ltb (length (now (area .entry))) 65536) nought (footprint (now (vertices .entry)) (now (ids .entry)) (min «u_axis» 2) (min «v_axis» 2) xmin xmax ymin ymax))
-        × (now (area .exit) ≡ cond (ltb (length (now (area .entry))) 65536) (now (area .entry)) (cleared 65536 (now (area .entry)))) ⌝ }
+    ensures { λ r. ⌜ (r ≡ cond (ltb (length (now (area .entry))) rasterBytes) nought
+        (footprint (now (vertices .entry)) (now (ids .entry)) (windowOf (axisAt «u_axis») (axisAt «v_axis») xmin xmax ymin ymax)))
+        × (now (area .exit) ≡ cond (ltb (length (now (area .entry))) rasterBytes) (now (area .entry)) (cleared rasterBytes (now (area .entry)))) ⌝ }
 {
     if area.len() < 65536 {
         return 0.0;
     }
-    raster::footprint_raw(
-        vertices,
-        ids,
-        axis(u_axis),
-        axis(v_axis),
-        xmin,
-        xmax,
-        ymin,
-        ymax,
-        area,
-    )
+    let s = raster::window_on(axis(u_axis), axis(v_axis), xmin, xmax, ymin, ymax);
+    raster::footprint_raw(vertices, ids, s, area)
 }

@@ -8,7 +8,7 @@ use borrow.Author.Tests.{le-ltb}
 use lib.ListN.{length, take}
 use lib.Ieee.{Float}
 use Rattle.ids.specs.Triangles.{triangleCount}
-use Rattle.ids.specs.Lent.{refusal, unlessRefused}
+use Rattle.ids.specs.Lent.{refusal, unlessRefused, mostEntries}
 use Rattle.ids.specs.Pieces.{shareId, pieces}
 use Rattle.rows.specs.Rows.{rowsOf}
 use Rattle.record.specs.declared.MeshQto.{MeshQto}
@@ -32,7 +32,7 @@ pub pieces-counted : (ids area : List ℕ) (r : PieceCount) (after : List ℕ) �
     → countIn r ≡ pieces shareId ids
 unfolding countIn unlessRefused refusal
 pieces-counted ids area r after hi ha given =
-    rw (given .answers, le-ltb 98304 (length ids) (omega arith), le-ltb (length area) (triangleCount ids) (omega arith))
+    rw (given .answers, le-ltb mostEntries (length ids) (omega arith), le-ltb (length area) (triangleCount ids) (omega arith))
 
 -- ---- texts
 

@@ -9,10 +9,11 @@ use lib.ListN.{length}
 use Rattle.refusals.specs.Refusals.{areasShort, checkOf}
 use Rattle.vertices.specs.Areas.{workWords}
 use Rattle.program.specs.Promises.{checkFile, AreasSuffice}
+use Rattle.ids.specs.Lent.{mostEntries}
 
 module _ (f i : ℕ) (hf : f ≤ 1536) (hi : i ≤ 1536) where
-  not-many : (ltb 98304 f || ltb 98304 i) ≡ false
-  not-many = rw (le-ltb 98304 f (omega arith), le-ltb 98304 i (omega arith))
+  not-many : (ltb mostEntries f || ltb mostEntries i) ≡ false
+  not-many = rw (le-ltb mostEntries f (omega arith), le-ltb mostEntries i (omega arith))
 
   not-short : areasShort f i 13824 65536 2048 ≡ false
   not-short = rw (le-ltb 13824 (5 * i + 4 * (i / 3) + 8 * (f / 3)) (omega arith), le-ltb 2048 (4 * (i / 3)) (omega arith))

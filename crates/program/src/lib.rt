@@ -45,7 +45,8 @@ fn print_refusal(n: u8, text: &mut [u8]) -> usize
 // The listing of a record with the file's flags.
 fn print_record(q: MeshQto, m: MeshFile, count: u32, surfaces: &[f32], text: &mut [u8]) -> usize
     requires { ⌜ (4 * q .«surface_count» ≤ length (now surfaces)) × (320 + 36 * q .«surface_count» ≤ length (now text)) ⌝ }
-    ensures { λ r. ⌜ Prints (listingOf (flagged (m .clip) (m .profile) q) (rowsOf (take (4 * q .«surface_count») (now (surfaces .entry)))) count)
+    ensures { λ r. ⌜ Prints
+        (listingOf (flagged (m .clip) (m .profile) q) (rowsOf (take (4 * q .«surface_count») (now (surfaces .entry)))) count)
         (now (text .entry)) r (now (text .exit)) ⌝ }
 {
     let profile = m.profile;
@@ -60,7 +61,8 @@ fn print_record(q: MeshQto, m: MeshFile, count: u32, surfaces: &[f32], text: &mu
 // The mesh of a file: its listing, or the refusal of document 01's table.
 fn print_mesh(m: MeshFile, vertices: &[f32], ids: &[u32], text: &mut [u8]) -> usize
     requires { ⌜ (length (now vertices) ≤ 1536) × (length (now ids) ≤ 1536) × (length (now text) ≡ 18752) ⌝ }
-    ensures { λ r. ⌜ Prints (meshText (now (vertices .entry)) (now (ids .entry)) (m .unit) (m .clip) (m .profile)) (now (text .entry)) r (now (text .exit)) ⌝ }
+    ensures { λ r. ⌜ Prints (meshText (now (vertices .entry)) (now (ids .entry)) (m .unit) (m .clip) (m .profile))
+        (now (text .entry)) r (now (text .exit)) ⌝ }
 {
     let mut work = [0u32; 13824];
     let mut raster = [0u8; 65536];

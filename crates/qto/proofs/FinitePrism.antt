@@ -21,7 +21,9 @@ use Rattle.ieee.proofs.Order.Extremes.{least-from}
 use Rattle.ids.specs.Uses.{bit}
 use Rattle.grid.specs.Grid.{cellsIn, gridOf}
 use Rattle.paint.specs.Covered.{covered}
-use Rattle.raster.specs.Footprint.{count, coveredCells, areaOn, footprintOver, cellSize, footprint}
+use Rattle.raster.specs.declared.Axis.{Axis}
+use Rattle.raster.specs.declared.Window.{Window}
+use Rattle.raster.specs.Footprint.{axisNumber, windowOf, count, coveredCells, areaOn, footprintOver, cellSize, footprint}
 use Rattle.sums.specs.declared.Bounds.{Bounds}
 use Rattle.sums.specs.Fine.{FineBox, fine}
 use Rattle.sums.proofs.FineBoxes.{extent-within}
@@ -122,19 +124,21 @@ module _ (vs : List Float) (ids : List ℕ) (u v : ℕ) where
       go true = none-within 70
       go false = grid-within x y w h size W H
 
-  -- ---- a prism: the footprint times the extent e on the third axis
-  on-within : (umin umax vmin vmax e : Float) → T (fine umin) → T (fine umax) → T (fine vmin) → T (fine vmax) → Within (2 ^ 34) e
-      → Within (2 ^ 104) (prismOn vs ids u v umin umax vmin vmax e)
-  unfolding prismOn footprint
-  on-within umin umax vmin vmax e p q r s w = go (lt nought e && (lt umin umax && lt vmin vmax))
-    where
-      go : (b : Bool) → Within (2 ^ 104) (cond b (footprint vs ids u v umin umax vmin vmax ⊗ e) nought)
-      go true =
-          within-mul binary32 70 34 (footprint vs ids u v umin umax vmin vmax) e (lit≤ tt)
-          (over-within umin vmin (extent umin umax) (extent vmin vmax) (cellSize (extent umin umax) (extent vmin vmax))
-          (extent-within umin umax p q) (extent-within vmin vmax r s))
-          w
-      go false = none-within 104
+-- ---- a prism: the footprint times the extent e on the third axis
+on-within : (vs : List Float) (ids : List ℕ) (s : Window) (e : Float) → T (fine (s .xmin)) → T (fine (s .xmax)) → T (fine (s .ymin))
+    → T (fine (s .ymax)) → Within (2 ^ 34) e → Within (2 ^ 104) (prismOn vs ids s e)
+unfolding prismOn footprint
+on-within vs ids s e p q r t w = go (lt nought e && (lt (s .xmin) (s .xmax) && lt (s .ymin) (s .ymax)))
+  where
+    go : (b : Bool) → Within (2 ^ 104) (cond b (footprint vs ids s ⊗ e) nought)
+    go true =
+        let l = extent (s .xmin) (s .xmax) in
+        let h = extent (s .ymin) (s .ymax) in
+        within-mul binary32 70 34 (footprint vs ids s) e (lit≤ tt)
+        (over-within vs ids (axisNumber (s .u)) (axisNumber (s .v)) (s .xmin) (s .ymin) l h (cellSize l h)
+        (extent-within (s .xmin) (s .xmax) p q) (extent-within (s .ymin) (s .ymax) r t))
+        w
+    go false = none-within 104
 
 -- ---- the least of the three
 abbrev Least : Float → Type 0
@@ -164,12 +168,12 @@ prism-finite vs ids b cube p w =
     let e = extent-within (b .xmin) (b .xmax) (p .xmin) (p .xmax) in
     let f = extent-within (b .ymin) (b .ymax) (p .ymin) (p .ymax) in
     let g = extent-within (b .zmin) (b .zmax) (p .zmin) (p .zmax) in
-    let x = on-within vs ids 1 2 (b .ymin) (b .ymax) (b .zmin) (b .zmax) (extent (b .xmin) (b .xmax)) (p .ymin) (p .ymax) (p .zmin)
-    (p .zmax) e in
-    let y = on-within vs ids 0 2 (b .xmin) (b .xmax) (b .zmin) (b .zmax) (extent (b .ymin) (b .ymax)) (p .xmin) (p .xmax) (p .zmin)
-    (p .zmax) f in
-    let z = on-within vs ids 0 1 (b .xmin) (b .xmax) (b .ymin) (b .ymax) (extent (b .zmin) (b .zmax)) (p .xmin) (p .xmax) (p .ymin)
-    (p .ymax) g in
+    let x = on-within vs ids (windowOf Axis.Y Axis.Z (b .ymin) (b .ymax) (b .zmin) (b .zmax)) (extent (b .xmin) (b .xmax)) (p .ymin) (p .ymax)
+    (p .zmin) (p .zmax) e in
+    let y = on-within vs ids (windowOf Axis.X Axis.Z (b .xmin) (b .xmax) (b .zmin) (b .zmax)) (extent (b .ymin) (b .ymax)) (p .xmin) (p .xmax)
+    (p .zmin) (p .zmax) f in
+    let z = on-within vs ids (windowOf Axis.X Axis.Y (b .xmin) (b .xmax) (b .ymin) (b .ymax)) (extent (b .zmin) (b .zmax)) (p .xmin) (p .xmax)
+    (p .ymin) (p .ymax) g in
     let one = orLess (inf false) (prismX vs ids b) in
     let two = orLess one (prismY vs ids b) in
     none-finite (orLess two (prismZ vs ids b)) cube

@@ -17,7 +17,9 @@ use Rattle.grid.specs.Grid.{gridOf}
 use Rattle.grid.specs.inner.Sized.{GridSized}
 use Rattle.paint.specs.Covered.{covered}
 use Rattle.paint.specs.inner.Painted.{Shows, Adds}
-use Rattle.raster.specs.Footprint.{count, coveredCells, areaOn, footprintOver, footprint}
+use Rattle.raster.specs.declared.Window.{Window}
+use Rattle.raster.specs.Footprint.{axisNumber, count, coveredCells, areaOn, footprintOver, footprint}
+use Rattle.raster.specs.inner.Counts.{Counts}
 
 pub count-next : (f : ℕ → Bool) (n : ℕ) → count f (n + 1) ≡ count f n + bit (f n)
 unfolding count
@@ -38,11 +40,11 @@ module _ (vs : List Float) (u v : ℕ) (ids : List ℕ) (g : Grid) where
   -- r counts what the raster t says, which was zero before the triangles were painted: it is the number of covered cells
   pub counted : (s t : List ℕ) (r : ℕ) → s ≡ replicate (g .nx * g .ny) 0 → length t ≡ g .nx * g .ny
       → Adds s t (λ k. covered vs u v g ids (k % g .nx) (k / g .nx))
-      → ((f : ℕ → Bool) → Shows t f → r ≡ count f (length t)) → r ≡ coveredCells vs u v g ids
+      → Counts t r → r ≡ coveredCells vs u v g ids
   unfolding coveredCells
   counted s t r e l a c =
       let z : Shows s (λ k. false) = rw e (shows-none (g .nx * g .ny)) in
-      rw (← l) (c (λ k. covered vs u v g ids (k % g .nx) (k / g .nx)) (a .says (λ k. false) z))
+      rw (← l) (c .shown (λ k. covered vs u v g ids (k % g .nx) (k / g .nx)) (a .says (λ k. false) z))
 
   -- the area of so many cells
   pub area-of : (r : ℕ) (n : Float) → r ≡ coveredCells vs u v g ids → n ≡ number r → n ⊗ g .w ⊗ g .h ≡ areaOn vs u v ids g
@@ -51,8 +53,8 @@ module _ (vs : List Float) (u v : ℕ) (ids : List ℕ) (g : Grid) where
 
 -- ---- over a box
 
-module _ (vs : List Float) (u v : ℕ) (ids : List ℕ) (xmin xmax ymin ymax w h m : Float)
-    (ew : w ≡ greatest (xmax ⊖ xmin) nought) (eh : h ≡ greatest (ymax ⊖ ymin) nought) (em : m ≡ greatest w h) where
+module _ (vs : List Float) (ids : List ℕ) (s : Window) (w h m : Float)
+    (ew : w ≡ greatest (s .xmax ⊖ s .xmin) nought) (eh : h ≡ greatest (s .ymax ⊖ s .ymin) nought) (em : m ≡ greatest w h) where
   abbrev size : Float
   size = m ⊘ ofBits binary32 0x4380_0000
 
@@ -60,13 +62,16 @@ module _ (vs : List Float) (u v : ℕ) (ids : List ℕ) (xmin xmax ymin ymax w h
   abbrev none : Bool
   none = le w nought || (le h nought || le size nought)
 
-  by-size : footprint vs ids u v xmin xmax ymin ymax ≡ cond none nought (areaOn vs u v ids (gridOf xmin ymin w h size))
+  abbrev on : ℕ → ℕ → Grid → Float
+  on u v g = areaOn vs u v ids g
+
+  by-size : footprint vs ids s ≡ cond none nought (on (axisNumber (s .u)) (axisNumber (s .v)) (gridOf (s .xmin) (s .ymin) w h size))
   unfolding footprint footprintOver extent
   by-size = rw (em, ew, eh)
 
-  pub foot-none : none ≡ true → nought ≡ footprint vs ids u v xmin xmax ymin ymax
+  pub foot-none : none ≡ true → nought ≡ footprint vs ids s
   foot-none e = rw e at (sym by-size)
 
-  pub foot-some : (g : Grid) (r : Float) → none ≡ false → g ≡ gridOf xmin ymin w h size → r ≡ areaOn vs u v ids g
-      → r ≡ footprint vs ids u v xmin xmax ymin ymax
-  foot-some g r e q a = a ∙ rw q (rw e at (sym by-size))
+  pub foot-some : (u v : ℕ) (g : Grid) (r : Float) → none ≡ false → u ≡ axisNumber (s .u) → v ≡ axisNumber (s .v)
+      → g ≡ gridOf (s .xmin) (s .ymin) w h size → r ≡ on u v g → r ≡ footprint vs ids s
+  foot-some u v g r e eu ev q a = a ∙ rw (q, eu, ev) (rw e at (sym by-size))

@@ -11,12 +11,16 @@ use Rattle.grid.specs.declared.Grid.{Grid}
 use Rattle.grid.specs.Grid.{gridOf}
 use Rattle.paint.specs.Covered.{covered}
 use Rattle.raster.specs.declared.Axis.{Axis}
+use Rattle.raster.specs.declared.Window.{Window}
 
 -- 0 for x, 1 for y, 2 for z
 unfoldable pub axisNumber : Axis → ℕ
 axisNumber Axis.X = 0
 axisNumber Axis.Y = 1
 axisNumber Axis.Z = 2
+
+abbrev pub windowOf : Axis → Axis → Float → Float → Float → Float → Window
+windowOf u v xmin xmax ymin ymax = record { u = u; v = v; xmin = xmin; xmax = xmax; ymin = ymin; ymax = ymax }
 
 -- ---- covered cells
 
@@ -44,6 +48,9 @@ footprintOver vs u v ids x y w h size =
 abbrev pub cellSize : Float → Float → Float
 cellSize w h = greatest w h ⊘ ofBits binary32 0x4380_0000
 
-unfoldable pub footprint : List Float → List ℕ → ℕ → ℕ → Float → Float → Float → Float → Float
-footprint vs ids u v xmin xmax ymin ymax =
-    footprintOver vs u v ids xmin ymin (extent xmin xmax) (extent ymin ymax) (cellSize (extent xmin xmax) (extent ymin ymax))
+-- in a window
+unfoldable pub footprint : List Float → List ℕ → Window → Float
+footprint vs ids s =
+    let w = extent (s .xmin) (s .xmax) in
+    let h = extent (s .ymin) (s .ymax) in
+    footprintOver vs (axisNumber (s .u)) (axisNumber (s .v)) ids (s .xmin) (s .ymin) w h (cellSize w h)

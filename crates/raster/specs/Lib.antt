@@ -1,2 +1,3 @@
 -- Raster (01): the definition of the footprint.
 pub mod Footprint
+pub mod inner

@@ -1,8 +1,10 @@
-// The record, `MeshQto`, and its flags: each takes a record and hands one back. The names are 000's. And numbers for the cases of its enums, and flags of numbers.
+// The record, `MeshQto`, and its flags: each takes a record and hands one back. The names are 000's. And numbers for the cases of its
+// enums, and flags of numbers.
 ghost use mathlib.Core.Path.{_≡_};
 ghost use Rattle.record.specs.Record.{zeroRecord};
 ghost use Rattle.record.specs.Numbers.{qualityNumber, methodNumber, defectNumber, profileNumber, flagsFit, profileAt};
-ghost use Rattle.record.specs.Flags.{relabelled as relabelledTo, marked as markedBy, clipUnapplied, profileInvalid, ifClip, ifInvalid, flagged};
+ghost use Rattle.record.specs.Flags.{relabelled as relabelledTo, marked as markedBy, clipUnapplied, profileInvalid};
+ghost use Rattle.record.specs.Flags.{ifClip, ifInvalid, flagged};
 use verdict::Quality;
 use volume::Method;
 use volume::PrismBound;

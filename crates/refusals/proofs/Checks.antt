@@ -13,6 +13,7 @@ use Rattle.refusals.specs.declared.Check.{Check}
 use Rattle.refusals.specs.Refusals.{areasShort, unitFits, checkOf, Passes}
 use Rattle.refusals.specs.inner.Admitted.{Admitted}
 use Rattle.vertices.specs.Areas.{workWords, surfaceFloats, rasterBytes}
+use Rattle.ids.specs.Lent.{mostEntries}
 
 neither : (p q : Bool) → (p || q) ≡ false → (p ≡ false) × (q ≡ false)
 neither false false e = (refl, refl)
@@ -22,14 +23,14 @@ neither true q e = absurd (false≢true (ap not e))
 pub not-more : (a b : ℕ) → ltb a b ≡ false → b ≤ a
 not-more a b e = let h = ltb-false a b e in omega arith
 
-pub both-small : (f i : ℕ) → (ltb 98304 f || ltb 98304 i) ≡ false → (f ≤ 98304) × (i ≤ 98304)
-both-small f i e = let h = neither (ltb 98304 f) (ltb 98304 i) e in (not-more 98304 f (h .0), not-more 98304 i (h .1))
+pub both-small : (f i : ℕ) → (ltb mostEntries f || ltb mostEntries i) ≡ false → (f ≤ mostEntries) × (i ≤ mostEntries)
+both-small f i e = let h = neither (ltb mostEntries f) (ltb mostEntries i) e in (not-more mostEntries f (h .0), not-more mostEntries i (h .1))
 
 -- ---- the first row that applies
 
 module _ (vs : List Float) (ids : List ℕ) (u : Float) (w r s : ℕ) where
   abbrev many : Bool
-  many = ltb 98304 (length vs) || ltb 98304 (length ids)
+  many = ltb mostEntries (length vs) || ltb mostEntries (length ids)
 
   abbrev few : Bool
   few = ltb (length ids) 3 || ltb (length vs) 9
@@ -86,7 +87,7 @@ pub admitted : (vs : List Float) (ids : List ℕ) (u : Float) (w r s : ℕ) (k :
     → Admitted vs ids u w r s
 unfolding checkOf
 admitted vs ids u w r s k h e =
-    let t = five-left (ltb 98304 (length vs) || ltb 98304 (length ids)) (ltb (length ids) 3 || ltb (length vs) 9) (unitFits u)
+    let t = five-left (ltb mostEntries (length vs) || ltb mostEntries (length ids)) (ltb (length ids) 3 || ltb (length vs) 9) (unitFits u)
     (areasShort (length vs) (length ids) w r s) (allFine vs) (sym e ∙ h) in
     let most = both-small (length vs) (length ids) (t .0) in
     let least = neither (ltb (length ids) 3) (ltb (length vs) 9) (t .1) in

@@ -1,6 +1,7 @@
 // The table of refusals: document 01, 'Order of checks and what comes back'. Internal: `qto` asks it.
 ghost use mathlib.Core.Path.{_≡_};
 ghost use Prim.Native.Nat.{_≤_};
+ghost use Rattle.ids.specs.Lent.{mostEntries};
 ghost use Rattle.sums.specs.Fine.{allFine};
 ghost use Rattle.refusals.specs.Refusals.{unitFits, areasShort, checkOf};
 ghost use Rattle.vertices.specs.Areas.{workWords, rasterBytes};
@@ -18,7 +19,8 @@ fn unit_fits(unit: f32) -> bool
     (unit >= 0.00000095367431640625) & (unit <= 16.0)
 }
 
-// Is every float finite, and at most 2^33 in magnitude? All are looked at whatever the first ones are: a processor then does several at a time.
+// Is every float finite, and at most 2^33 in magnitude? All are looked at whatever the first ones are: a processor then does several
+// at a time.
 fn all_fine(vertices: &[f32]) -> bool
     ensures { λ r. ⌜ r ≡ allFine (now (vertices .entry)) ⌝ }
 {
@@ -34,7 +36,7 @@ fn all_fine(vertices: &[f32]) -> bool
 
 // How many work words f floats and i ids need.
 pub fn work_words(f: usize, i: usize) -> usize
-    requires { ⌜ (f ≤ 98304) × (i ≤ 98304) ⌝ }
+    requires { ⌜ (f ≤ mostEntries) × (i ≤ mostEntries) ⌝ }
     ensures { λ n. ⌜ n ≡ workWords f i ⌝ }
 {
     5 * i + 4 * (i / 3) + 8 * (f / 3)
@@ -49,7 +51,7 @@ pub fn raster_bytes() -> usize
 
 // Is one of the lent areas too short for f floats and i ids?
 fn areas_short(f: usize, i: usize, work: usize, raster: usize, surfaces: usize) -> bool
-    requires { ⌜ (f ≤ 98304) × (i ≤ 98304) ⌝ }
+    requires { ⌜ (f ≤ mostEntries) × (i ≤ mostEntries) ⌝ }
     ensures { λ b. ⌜ b ≡ areasShort f i work raster surfaces ⌝ }
 {
     let words = work_words(f, i);

@@ -6,7 +6,9 @@ use lib.Ieee.{Float, inf, binary32, lt, le, ofBits}
 use Rattle.ieee.specs.Cube.{cubeAbove}
 use Rattle.ieee.specs.Order.{least}
 use Rattle.ieee.specs.Single.{_⊗_, nought, extent}
-use Rattle.raster.specs.Footprint.{footprint}
+use Rattle.raster.specs.declared.Axis.{Axis}
+use Rattle.raster.specs.declared.Window.{Window}
+use Rattle.raster.specs.Footprint.{windowOf, footprint}
 use Rattle.sums.specs.declared.Bounds.{Bounds}
 use Rattle.verdict.specs.declared.Quality.{Quality}
 use Rattle.volume.specs.declared.Best.{Best}
@@ -15,19 +17,18 @@ use Rattle.volume.specs.declared.PrismBound.{PrismBound}
 
 -- ---- the prism: the least positive of three products footprint × extent
 
--- a footprint on the axes u and v times the extent e on the third; 0 where the box is flat on one of them
-unfoldable pub prismOn : List Float → List ℕ → ℕ → ℕ → Float → Float → Float → Float → Float → Float
-prismOn vs ids u v umin umax vmin vmax e =
-    cond (lt nought e && (lt umin umax && lt vmin vmax)) (footprint vs ids u v umin umax vmin vmax ⊗ e) nought
+-- a footprint in a window times the extent e on the third axis; 0 where the box is flat on one of them
+unfoldable pub prismOn : List Float → List ℕ → Window → Float → Float
+prismOn vs ids s e = cond (lt nought e && (lt (s .xmin) (s .xmax) && lt (s .ymin) (s .ymax))) (footprint vs ids s ⊗ e) nought
 
 abbrev pub prismX : List Float → List ℕ → Bounds → Float
-prismX vs ids b = prismOn vs ids 1 2 (b .ymin) (b .ymax) (b .zmin) (b .zmax) (extent (b .xmin) (b .xmax))
+prismX vs ids b = prismOn vs ids (windowOf Axis.Y Axis.Z (b .ymin) (b .ymax) (b .zmin) (b .zmax)) (extent (b .xmin) (b .xmax))
 
 abbrev pub prismY : List Float → List ℕ → Bounds → Float
-prismY vs ids b = prismOn vs ids 0 2 (b .xmin) (b .xmax) (b .zmin) (b .zmax) (extent (b .ymin) (b .ymax))
+prismY vs ids b = prismOn vs ids (windowOf Axis.X Axis.Z (b .xmin) (b .xmax) (b .zmin) (b .zmax)) (extent (b .ymin) (b .ymax))
 
 abbrev pub prismZ : List Float → List ℕ → Bounds → Float
-prismZ vs ids b = prismOn vs ids 0 1 (b .xmin) (b .xmax) (b .ymin) (b .ymax) (extent (b .zmin) (b .zmax))
+prismZ vs ids b = prismOn vs ids (windowOf Axis.X Axis.Y (b .xmin) (b .xmax) (b .ymin) (b .ymax)) (extent (b .zmin) (b .zmax))
 
 -- the lesser of m and p, if p is positive
 unfoldable pub orLess : Float → Float → Float

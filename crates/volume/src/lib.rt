@@ -1,9 +1,12 @@
-// The best volume of a mesh, by its quality: the mesh's own where that is to be trusted, else the prism. Internal: `qto` asks it; the record has its enums.
+// The best volume of a mesh, by its quality: the mesh's own where that is to be trusted, else the prism. Internal: `qto` asks it; the
+// record has its enums.
 ghost use mathlib.Core.Path.{_≡_};
 ghost use lib.ListN.{length, replicate};
-ghost use Rattle.raster.specs.Footprint.{axisNumber};
-ghost use Rattle.volume.specs.Best.{prismOn, orLess, orNone, prism as prismOf, upper as upperOf, collapsed as collapsedOf, trusted as trustedOf, openBest, bestOf};
+ghost use Rattle.vertices.specs.Areas.{rasterBytes};
+ghost use Rattle.volume.specs.Best.{prismOn, orLess, orNone, prism as prismOf, openBest, bestOf};
+ghost use Rattle.volume.specs.Best.{upper as upperOf, collapsed as collapsedOf, trusted as trustedOf};
 use raster::Axis;
+use raster::Window;
 use sums::Bounds;
 use verdict::Quality;
 
@@ -30,36 +33,13 @@ pub struct Best {
 
 // ---- the prism
 
-// The footprint on two axes times the extent on the third. The raster is zero afterwards.
-fn prism_on(
-    vertices: &[f32],
-    indices: &[u32],
-    u_axis: Axis,
-    v_axis: Axis,
-    umin: f32,
-    umax: f32,
-    vmin: f32,
-    vmax: f32,
-    along: f32,
-    raster: &mut [u8],
-) -> f32
-    requires { ⌜ length (now raster) ≡ 65536 ⌝ }
-    ensures { λ r. ⌜ (r ≡ prismOn (now (vertices .entry)) (now (indices .entry)) (axisNumber «u_axis») (axisNumber «v_axis») umin umax vmin vmax along)
-        × (now (raster .exit) ≡ replicate 65536 0) ⌝ }
+// The footprint in a window times the extent on the third axis. The raster is zero afterwards.
+fn prism_on(vertices: &[f32], indices: &[u32], s: Window, along: f32, raster: &mut [u8]) -> f32
+    requires { ⌜ length (now raster) ≡ rasterBytes ⌝ }
+    ensures { λ r. ⌜ (r ≡ prismOn (now (vertices .entry)) (now (indices .entry)) s along) × (now (raster .exit) ≡ replicate rasterBytes 0) ⌝ }
 {
-    if (along > 0.0) & ((umax > umin) & (vmax > vmin)) {
-        return raster::footprint_raw(
-            vertices,
-            indices,
-            u_axis,
-            v_axis,
-            umin,
-            umax,
-            vmin,
-            vmax,
-            raster,
-        )
-            * along;
+    if (along > 0.0) & ((s.xmax > s.xmin) & (s.ymax > s.ymin)) {
+        return raster::footprint_raw(vertices, indices, s, raster) * along;
     }
     raster::clear(raster, 65536);
     0.0
@@ -83,42 +63,31 @@ fn or_none(p: f32, cube: f32) -> f32
 }
 
 fn prism(vertices: &[f32], indices: &[u32], b: Bounds, cube: f32, raster: &mut [u8]) -> f32
-    requires { ⌜ length (now raster) ≡ 65536 ⌝ }
-    ensures { λ r. ⌜ (r ≡ prismOf (now (vertices .entry)) (now (indices .entry)) b cube) × (now (raster .exit) ≡ replicate 65536 0) ⌝ }
+    requires { ⌜ length (now raster) ≡ rasterBytes ⌝ }
+    ensures { λ r. ⌜ (r ≡ prismOf (now (vertices .entry)) (now (indices .entry)) b cube)
+        × (now (raster .exit) ≡ replicate rasterBytes 0) ⌝ }
 {
+    let across_z = raster::window_on(Axis::X, Axis::Y, b.xmin, b.xmax, b.ymin, b.ymax);
     let z = prism_on(
         vertices,
         indices,
-        Axis::X,
-        Axis::Y,
-        b.xmin,
-        b.xmax,
-        b.ymin,
-        b.ymax,
+        across_z,
         sums::extent(b.zmin, b.zmax),
         raster,
     );
+    let across_y = raster::window_on(Axis::X, Axis::Z, b.xmin, b.xmax, b.zmin, b.zmax);
     let y = prism_on(
         vertices,
         indices,
-        Axis::X,
-        Axis::Z,
-        b.xmin,
-        b.xmax,
-        b.zmin,
-        b.zmax,
+        across_y,
         sums::extent(b.ymin, b.ymax),
         raster,
     );
+    let across_x = raster::window_on(Axis::Y, Axis::Z, b.ymin, b.ymax, b.zmin, b.zmax);
     let x = prism_on(
         vertices,
         indices,
-        Axis::Y,
-        Axis::Z,
-        b.ymin,
-        b.ymax,
-        b.zmin,
-        b.zmax,
+        across_x,
         sums::extent(b.xmin, b.xmax),
         raster,
     );
@@ -191,8 +160,9 @@ pub fn best_volume(
     cube: f32,
     raster: &mut [u8],
 ) -> Best
-    requires { ⌜ length (now raster) ≡ 65536 ⌝ }
-    ensures { λ r. ⌜ (r ≡ bestOf quality volume surface aabb (prismOf (now (vertices .entry)) (now (indices .entry)) b cube)) × (now (raster .exit) ≡ replicate 65536 0) ⌝ }
+    requires { ⌜ length (now raster) ≡ rasterBytes ⌝ }
+    ensures { λ r. ⌜ (r ≡ bestOf quality volume surface aabb (prismOf (now (vertices .entry)) (now (indices .entry)) b cube))
+        × (now (raster .exit) ≡ replicate rasterBytes 0) ⌝ }
 {
     match quality {
         Quality::Closed => {

@@ -11,10 +11,14 @@ returns : tie.Need-returns
 returns c = rw (lt-ltb (length (c .before .before .before .before .args .area .now)) 65536 (c .if1 .taken)) (refl, refl)
 
 returns-2 : tie.Need-returns-2
-returns-2 c = rw (le-ltb (length (c .before .before .before .before .before .before .before .before .before .before .args .area .now)) 65536 (c .before .before .before .before .before .before .if1 .left), ← c .before .before .before .before .before .axis .ensures, ← c .before .before .before .before .axis2 .ensures) (c .before .before .footprint-raw .ensures)
+returns-2 c =
+    let shown = c .before .before .before .before in
+    let long = shown .before .before .before in
+    rw (le-ltb (length (long .before .before .before .before .args .area .now)) 65536 (long .if1 .left), ← shown .before .before .axis .ensures, ← shown .before .axis2 .ensures, ← shown .window-on .ensures)
+    (c .before .before .footprint-raw .ensures)
 
 pub probe-footprint-raw-spec : {M : Type 1} → statement M
 probe-footprint-raw-spec =
     tie.close
-    (tie.spec returns (λ c κs. search needs) (λ c κs. search needs) (λ c κs. search needs) (λ c. search needs)
-    returns-2)
+    (tie.spec returns (λ c κs. search needs) (λ c κs. search needs) (λ c κs. search needs) (λ c κs. search needs)
+    (λ c. search needs) returns-2)

@@ -38,7 +38,7 @@ cast-nearest-u32-to-f32 c =
       start .pre .3,
       after-clear .clear .kept,
       after-paint-all .paint-all .kept,
-      c .tally .ensures .1,
+      c .tally .ensures .most,
     )
 
 returns : tie.Need-returns
@@ -54,7 +54,7 @@ returns c =
     let z = zeroed (a .g .nx * a .g .ny) (a .part .now) (after-clear .clear .last .0) (start .pre .3) (after-clear .clear .ensures) in
     let long : length (p .last .1 .1 .1 .1 .1 .0) ≡ a .g .nx * a .g .ny = omega (arith, p .kept, after-clear .clear .kept, start .pre .3) in
     let e = counted (a .vertices .now) (a .u) (a .v) (a .ids .now) (a .g) (after-clear .clear .last .0) (p .last .1 .1 .1 .1 .1 .0)
-    (n .result) z long (p .ensures) (n .ensures .0) in
+    (n .result) z long (p .ensures) (n .ensures) in
     area-of (a .vertices .now) (a .u) (a .v) (a .ids .now) (a .g) (n .result) (x .result) e (x .ensures)
 
 pub footprint-on-spec : {M : Type 1} → statement M

@@ -39,7 +39,7 @@ returns : tie.Need-returns Inv-loop μ-loop
 returns c =
     let l = c .before .loop in
     let e : l .i ≡ length (c .before .before .args .part .now) = omega arith in
-    (λ f s. rw (← e) (l .inv .2 f s), omega arith)
+    record { shown = λ f s. rw (← e) (l .inv .2 f s); most = omega arith }
 
 pub tally-spec : {M : Type 1} → statement M
 tally-spec =

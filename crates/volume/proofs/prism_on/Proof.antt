@@ -7,30 +7,23 @@ use borrow.Author.Needs.{needs}
 use Rattle.volume.proofs.prism_on.Statement.{statement}
 use Rattle.volume.proofs.prism_on.Tie as tie
 
--- the ways back, from call to call
-abbrev before-clear : tie.After-clear → tie.Start
-before-clear c = c .before .before .before .before .before .before
-
-abbrev before-footprint-raw : tie.After-footprint-raw → tie.Start
-before-footprint-raw c = c .before .before .before .before .before .before
+abbrev start : tie.After-struct-known2 → tie.Start
+start c = c .before .before .before .before .before
 
 returns : tie.Need-returns
 unfolding prismOn
 returns c =
-    let after-footprint-raw = c .before .before in
-    let start = before-footprint-raw after-footprint-raw in
-    let the-footprint-raw = c .before .before .footprint-raw in (
-      rw (after-footprint-raw .before .before .if1 .taken, ← the-footprint-raw .ensures .0),
-      the-footprint-raw .ensures .1
-          ∙ cleared-all _ _ (start .pre),
-    )
+    let found = c .before .before in
+    let k = found .before .before in
+    let p = found .footprint-raw in
+    (rw (k .if1 .taken, ← p .ensures .0), p .ensures .1 ∙ cleared-all _ _ (start (k .before) .pre))
 
 returns-2 : tie.Need-returns-2
 unfolding prismOn
 returns-2 c =
-    let after-clear = c .before .before in
-    let start = before-clear after-clear in
-    (rw (after-clear .before .before .if1 .left), c .before .before .clear .ensures ∙ cleared-all _ _ (start .pre))
+    let done = c .before .before in
+    let k = done .before .before in
+    (rw (k .if1 .left), done .clear .ensures ∙ cleared-all _ _ (start (k .before) .pre))
 
 pub prism-on-spec : {M : Type 1} → statement M
 prism-on-spec =

@@ -12,7 +12,8 @@ use Rattle.refusals.specs.Refusals.{checkOf}
 use Rattle.vertices.specs.Areas.{workWords}
 use Rattle.qto.specs.Full.{recordOf, surfacesAfter}
 use Rattle.qto.specs.Compute.{answerAt, areaAt}
-use Rattle.refusals.proofs.Checks.{Admitted, admitted}
+use Rattle.refusals.proofs.Checks.{admitted}
+use Rattle.refusals.specs.inner.Admitted.{Admitted}
 use Rattle.place.specs.Moved.{Moved}
 use Rattle.place.specs.Agree.{AgreeBy, AgreeRecords, AgreeAnswers}
 use Rattle.place.specs.Place.{PlaceDoesNotShow}

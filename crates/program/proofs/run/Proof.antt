@@ -26,29 +26,44 @@ array-share-prefix-ids c =
     (c .before .before .found2 .given .1) in
     omega (arith, most .1)
 
+-- the ways back, from call to call
+abbrev before-found : tie.After-found → tie.After-read
+before-found c = c .before .before .before .before
+
+abbrev before-vertices3 : tie.After-vertices3 → tie.After-read
+before-vertices3 c = c .before .before .before .before .before .before
+
 slice-aggregate-print-mesh-2 : tie.Need-slice-aggregate-print-mesh-2
 slice-aggregate-print-mesh-2 c =
-    let most = reads-most _ _ _ _ _ _ (c .before .before .before .before .before .before .before .read .ensures) _
-    (c .before .before .before .found2 .given .1) in
+    let after-vertices3 = c .before in
+    let after-read = before-vertices3 after-vertices3 in
+    let most = reads-most _ _ _ _ _ _ (after-read .read .ensures) _
+    (after-vertices3 .before .before .found2 .given .1) in
     sym (length-take-le _ _ (omega (arith, most .1)))
 
 print-mesh-requires : tie.Need-print-mesh-requires
 print-mesh-requires c κs =
-    let m = c .before .before .before .before .found2 .given .0 .0 in
-    let areas = c .before .before .before .before .before .before .before .before .read .last .1 in
+    let after-vertices3 = c .before .before in
+    let after-read = before-vertices3 after-vertices3 in
+    let m = after-vertices3 .before .before .found2 .given .0 .0 in
+    let areas = after-read .read .last .1 in
     (omega (arith, length-take (m .floats) (areas .0)), omega (arith, length-take (m .ids) (areas .1 .0)), search needs)
 
 returns : tie.Need-returns
 returns c =
+    let after-found = c .before .before .before in
+    let after-read = before-found after-found in
     rw (← refusal-text _ _ (omega arith) (omega arith) _ _ _ _
-    (c .before .before .before .before .before .before .before .read .ensures) _ (c .before .before .before .found .given .1))
+    (after-read .read .ensures) _ (after-found .found .given .1))
     (c .print-refusal .ensures)
 
 returns-2 : tie.Need-returns-2
 returns-2 c =
+    let after-vertices3 = c .before .before .before in
+    let after-read = before-vertices3 after-vertices3 in
     rw (← mesh-text _ _ (omega arith) (omega arith) _ _ _ _
-    (c .before .before .before .before .before .before .before .before .before .read .ensures) _
-    (c .before .before .before .before .before .found2 .given .1)) (c .print-mesh .ensures)
+    (after-read .read .ensures) _
+    (after-vertices3 .before .before .found2 .given .1)) (c .print-mesh .ensures)
 
 pub run-spec : {M : Type 1} → statement M
 run-spec =

@@ -95,8 +95,3 @@ module _ (vs : List Float) (ids : List ℕ) (u : Float) (clip defect : ℕ) (w r
 pub compute-numbered-one : ComputeNumberedOne
 compute-numbered-one vs ids u clip defect w r s words n m w₁ w₂ r₁ r₂ s₁ s₂ words₁ words₂ x y =
     (x .number ∙ sym (y .number), x .record-words ∙ sym (y .record-words), x .work ∙ sym (y .work), x .raster ∙ sym (y .raster), x .surfaces ∙ sym (y .surfaces))
-
--- a record has 17 words
-pub words-seventeen : (q : MeshQto) → length (wordsOf q) ≡ 17
-unfolding wordsOf
-words-seventeen q = refl

@@ -14,7 +14,7 @@ use Rattle.meshfile.specs.declared.Ending.{Ending}
 use Rattle.meshfile.specs.declared.MeshFile.{MeshFile}
 use Rattle.meshfile.specs.declared.Reading.{Reading}
 use Rattle.meshfile.specs.Format.{flagValues, byte, half, word, most, lengthFits, File, faultIf, frontOf, flagsIn, endingOf, ended, idsIn, verticesIn, unitIn, fileOf}
-use Rattle.meshfile.specs.Reading.{areasShort, meshFile, unlessShort, readingOf, floatsAfter, idsAfter, Reads, Refuses, RefusesBy356, RefusalsWriteNothing, ReadOne}
+use Rattle.meshfile.specs.Reading.{areasShort, meshFile, unlessShort, readingOf, floatsAfter, idsAfter, Refuses, RefusesBy356, RefusalsWriteNothing, ReadOne}
 
 pub read-one : ReadOne
 read-one bytes vs ids r r′ vs₁ vs₂ ids₁ ids₂ x y = (x .answers ∙ sym (y .answers), x .floats ∙ sym (y .floats), x .ids-after ∙ sym (y .ids-after))

@@ -1,17 +1,16 @@
 -- Rounding to a format or to a whole number keeps the order, whatever the signs. Assumes nothing.
 use mathlib.Core.Path.{_≡_, refl, sym, _∙_}
-use mathlib.Core.Bool.{Bool, true, false, not, cond, _||_}
+use mathlib.Core.Bool.{Bool, true, false, not, cond}
 use Prim.Native.Nat.{ℕ, zero, suc, _+_, _-_, _*_, _≤_, _<_, zero-le}
 use native.Mathlib.Nat.{mul-comm, mul-le-mul-right, mul-pos, zero-lt-suc, zero-mul}
 use native.Mathlib.Omega.{arith}
 use lib.Dec.{T, lit<}
 use lib.IntN.{ℤ, pos}
-use lib.Ieee.{Float, nan, inf, fin, Format, up, down, round, neg, below, level, le, isNan}
+use lib.Ieee.{Float, nan, inf, fin, Format, up, down, round, neg, le, isNan}
 use lib.Ieee.Fits.{down-pos}
 use lib.Ieee.Nearest.{div-mono}
 use lib.Ieee.Order.{round-mono}
 use Rattle.ieee.specs.Integral.{Way, cut, away, half, toWhole, integral}
-use Rattle.ieee.specs.Rounded.{rounded}
 use Rattle.ieee.proofs.Order.Comparison.{le-left, le-right, le-trans}
 use Rattle.ieee.proofs.Values.Negation.{le-neg}
 use Rattle.ieee.proofs.Order.Signed.{AtMost, at-most}
@@ -51,10 +50,6 @@ rises f true a c false b d C D h = across f a c b d C D
 rises f true a c true b d C D h =
     rw (← round-neg f false a c, ← round-neg f false b d, le-neg (round f false a c) (round f false b d)) (round-mono f b d a c D C h)
 
-pub round-mono-signed : (f : Format) (s : Bool) (a c : ℕ) (t : Bool) (b d : ℕ) → 0 < c → 0 < d
-    → T (below s (a * d) t (b * c) || level s (a * d) t (b * c)) → T (le (round f s a c) (round f t b d))
-round-mono-signed f s a c t b d C D h = rises f s a c t b d C D (at-most s (a * d) t (b * c) h)
-
 -- ---- what rounds each finite float, and leaves an infinity, which lies past all
 past : (z : Float) → T (not (isNan z)) → T (le (inf true) z) × T (le z (inf false))
 unfolding le isNan
@@ -93,11 +88,6 @@ module _ (f : Format) (g : Float → Float) (h : Bool → ℕ → ℕ → ℕ) (
 
   pub mono-round : (x y : Float) → T (le x y) → T (le (g x) (g y))
   mono-round = mono-finite g fixed number grows
-
--- ---- to a format
-pub rounded-mono : (f : Format) (x y : Float) → T (le x y) → T (le (rounded f x) (rounded f y))
-unfolding rounded
-rounded-mono f = mono-round f (rounded f) (λ s a c. a) (λ c. c) (λ c C. C) (λ s. refl) (λ s m e. refl) (λ s t a c b d C D l. l)
 
 -- ---- to a whole number
 -- over one denominator

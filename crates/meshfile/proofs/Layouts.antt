@@ -9,8 +9,8 @@ use Rattle.meshfile.specs.declared.Front.{Front}
 use Rattle.meshfile.specs.declared.Ending.{Ending}
 use Rattle.meshfile.specs.declared.Layout.{Layout}
 use Rattle.meshfile.specs.declared.Parts.{Parts}
-use Rattle.meshfile.specs.Format.{flagValues, word, words, frontOf, endingOf, ended, idsIn, verticesIn, unitIn, fileOf, Contents, File}
-use Rattle.meshfile.specs.Steps.{partsBy, idsFrom, verticesFrom, unitFrom, layoutOf, contentsAt, fileAt}
+use Rattle.meshfile.specs.Format.{flagValues, u32At, wordsIn, frontOf, endingOf, ended, idsIn, verticesIn, unitIn, fileOf, Contents, File}
+use Rattle.meshfile.specs.inner.Steps.{partsBy, idsFrom, verticesFrom, unitFrom, layoutOf, contentsAt, fileAt}
 use Rattle.meshfile.proofs.Fronts.{Record, record-of, four-bytes, whole-words}
 
 quarter : (i : ℕ) → 4 * i / 4 ≡ i
@@ -40,18 +40,18 @@ module _ (bytes : List ℕ) where
   Agrees x l = (x ≡ fileAt bytes l) × Stands l
 
   abbrev floatsAt : ℕ → List ℕ
-  floatsAt f = words (take (4 * f) (drop 16 bytes))
+  floatsAt f = wordsIn (take (4 * f) (drop 16 bytes))
 
   module _ (unit : Record 1 4 bytes) where
     module _ (f : ℕ) (floats : Record 2 (4 * f) (drop 10 bytes)) where
       ending : (i : ℕ) → Record 3 (4 * i) (drop (16 + 4 * f) bytes) → (e : Ending) → endingOf (drop (22 + 4 * f + 4 * i) bytes) ≡ e
-          → Agrees (ended (word bytes 6) (floatsAt f) (words (take (4 * i) (drop (22 + 4 * f) bytes))) e) (partsBy f i e)
+          → Agrees (ended (u32At bytes 6) (floatsAt f) (wordsIn (take (4 * i) (drop (22 + 4 * f) bytes))) e) (partsBy f i e)
       unfolding ended partsBy fileAt contentsAt Stands
       ending i ids (Ending.Fault n) h = (refl, tt)
       ending i ids (Ending.Flags flags) h = (refl, record { unit = unit; floats = floats; ids = ids; end = h })
 
       abbrev FromIds : Front → Type 0
-      FromIds k = Agrees (idsIn (word bytes 6) (floatsAt f) k (drop (16 + 4 * f) bytes)) (idsFrom f k (drop (16 + 4 * f) bytes))
+      FromIds k = Agrees (idsIn (u32At bytes 6) (floatsAt f) k (drop (16 + 4 * f) bytes)) (idsFrom f k (drop (16 + 4 * f) bytes))
 
       ids-payload : (i : ℕ) → Record 3 (4 * i) (drop (16 + 4 * f) bytes) → FromIds (Front.Payload (4 * i))
       unfolding idsIn idsFrom
@@ -68,7 +68,7 @@ module _ (bytes : List ℕ) where
           subst (λ (m : ℕ). FromIds (Front.Payload m)) (sym e) (ids-payload (n / 4) (rw e at r))
 
     abbrev FromVertices : Front → Type 0
-    FromVertices k = Agrees (verticesIn (word bytes 6) k (drop 10 bytes)) (verticesFrom k (drop 10 bytes))
+    FromVertices k = Agrees (verticesIn (u32At bytes 6) k (drop 10 bytes)) (verticesFrom k (drop 10 bytes))
 
     vertices-payload : (f : ℕ) → Record 2 (4 * f) (drop 10 bytes) → FromVertices (Front.Payload (4 * f))
     unfolding verticesIn verticesFrom

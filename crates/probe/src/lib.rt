@@ -1,4 +1,5 @@
-// For the differential runs alone, and in no header: what they ask of the port and C has no name for. Its static library is shipped to nobody.
+// For the differential runs alone, and in no header: what they ask of the port and C has no name for.
+// Its static library is shipped to nobody.
 ghost use lib.Dec.{eqb, leb, ltb};
 ghost use lib.Ieee.{binary32, ofBits};
 ghost use lib.ListN.{length, replicate};
@@ -8,7 +9,7 @@ ghost use mathlib.Core.Path.{_≡_};
 ghost use Prim.Native.Nat.{_+_, _*_, min};
 ghost use Rattle.ieee.specs.Cube.{cubeAbove};
 ghost use Rattle.ieee.specs.Single.{nought};
-ghost use Rattle.ids.specs.Lent.{cleared};
+ghost use Rattle.ids.specs.Lent.{cleared, mostEntries};
 ghost use Rattle.vertices.specs.Vertices.{vertexCount};
 ghost use Rattle.weld.specs.Weld.{epsilonOf, welded};
 ghost use Rattle.grid.specs.Point.{pointIn};
@@ -38,9 +39,11 @@ pub extern "C" fn probe_welded_indices(
     eps: f32,
     part: &mut [u32],
 ) -> bool
-    ensures { λ r. ⌜ (r ≡ (leb (length (now (vertices .entry))) 98304
+    ensures { λ r. ⌜ (r ≡ (leb (length (now (vertices .entry))) mostEntries
         && eqb (length (now (part .entry))) (8 * vertexCount (now (vertices .entry)) + length (now (ids .entry)))))
-        × (now (part .exit) ≡ cond r (replicate (8 * vertexCount (now (vertices .entry))) 0 ++ welded (now (vertices .entry)) (now (ids .entry)) eps) (now (part .entry))) ⌝ }
+        × (now (part .exit) ≡ cond r
+        (replicate (8 * vertexCount (now (vertices .entry))) 0 ++ welded (now (vertices .entry)) (now (ids .entry)) eps)
+        (now (part .entry))) ⌝ }
 {
     if 98304 < vertices.len() {
         return false;
@@ -106,7 +109,8 @@ pub extern "C" fn probe_footprint_raw(
     ymax: f32,
     area: &mut [u8],
 ) -> f32
-    ensures { λ r. ⌜ (r ≡ cond (ltb (length (now (area .entry))) 65536) nought (footprint (now (vertices .entry)) (now (ids .entry)) (min «u_axis» 2) (min «v_axis» 2) xmin xmax ymin ymax))
+    ensures { λ r. ⌜ (r ≡ cond (ltb (length (now (area .entry))) 65536) nought
+        (footprint (now (vertices .entry)) (now (ids .entry)) (min «u_axis» 2) (min «v_axis» 2) xmin xmax ymin ymax))
         × (now (area .exit) ≡ cond (ltb (length (now (area .entry))) 65536) (now (area .entry)) (cleared 65536 (now (area .entry)))) ⌝ }
 {
     if area.len() < 65536 {

@@ -27,16 +27,16 @@ use Rattle.record.specs.Numbers.{profileAt}
 use Rattle.refusals.specs.declared.Check.{Check}
 use Rattle.refusals.specs.Refusals.{checkOf, unitFits, workWords}
 use Rattle.qto.specs.Full.{best, buckets, measures, measuresFrom, recordBy, recordFrom, recordOf, surfaceOf, surfaceRows, totals, verdict, volumeOf}
-use Rattle.meshfile.specs.Format.{File, ended, endingOf, fileOf, frontOf, half, idsIn, lengthFits, unitIn, verticesIn, word, words}
+use Rattle.meshfile.specs.Format.{File, ended, endingOf, fileOf, frontOf, u16At, idsIn, lengthFits, unitIn, verticesIn, u32At, wordsIn}
 use Rattle.meshfile.specs.Reading.{floatsOf}
-use Rattle.meshfile.specs.Written.{allBytes, bytesOf, plain, recordOf as recordBytes}
+use Rattle.meshfile.specs.Written.{allBytes, bytesOf, plainFile, chunkOf}
 use Rattle.listing.specs.Cube.{cubeRecord, cubeRows, CubeLines}
 use Rattle.listing.proofs.Cube.{cube-lines}
 use Rattle.program.specs.Program.{listed, meshText, textAt, textFor, textOf}
 use Rattle.program.specs.Cube.{cube, CubePrinted}
 
-cube-file : fileOf (plain cube) ≡ File.Holds cube
-unfolding cube plain recordBytes allBytes bytesOf fileOf frontOf half word words lengthFits unitIn verticesIn idsIn ended endingOf
+cube-file : fileOf (plainFile cube) ≡ File.Holds cube
+unfolding cube plainFile chunkOf allBytes bytesOf fileOf frontOf u16At u32At wordsIn lengthFits unitIn verticesIn idsIn ended endingOf
 cube-file = refl
 
 cube-passes : checkOf (floatsOf (cube .vertices)) (cube .ids) (ofBits binary32 (cube .unit)) 13824 65536 2048 ≡ Check.Full

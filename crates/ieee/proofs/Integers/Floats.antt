@@ -12,7 +12,8 @@ use lib.Ieee.{Float, nan, inf, fin, Format, prec, up, down, ofInt, toSigned, who
 use lib.Ieee.Back.{round-whole}
 use lib.Ieee.Exact.{HasValue}
 use lib.Ieee.Fits.{and-l, and-r, down-pos, up-pos}
-use Rattle.ieee.specs.WholeNumber.{IsWhole, SmallWhole, signed}
+use Rattle.ieee.specs.WholeNumber.{IsWhole}
+use Rattle.ieee.specs.inner.Wholes.{SmallWhole, signed}
 use Rattle.ieee.specs.Magnitude.{magnitude}
 use Rattle.ieee.proofs.Values.ByValue.{magnitude-value}
 use Rattle.ieee.proofs.Integers.Sums.{signed-is}

@@ -9,7 +9,8 @@ use lib.Dec.{T, ltb, le→leb, leb·suc-suc, lit<}
 use lib.IntN.{ℤ, pos, negsuc, natAbs, ℤ-discrete, pos-ne-negsuc, _+ℤ_, _-ℤ_}
 use lib.Signed.{ltZ, leZ, nonNeg}
 use lib.Ieee.{Float, below, lt, le, eq, isNan}
-use Rattle.ieee.specs.WholeNumber.{IsWhole, EqualsWhole, signed}
+use Rattle.ieee.specs.WholeNumber.{IsWhole}
+use Rattle.ieee.specs.inner.Wholes.{EqualsWhole, signed}
 use Rattle.ieee.proofs.Values.ByValue.{lt-values, value-number}
 use Rattle.ieee.proofs.Order.Comparison.{leb-ltb, eqb-ltb, le-not-lt, eq-not-lt}
 use Rattle.ieee.proofs.Integers.Sums.{diff-moved, signed-is}

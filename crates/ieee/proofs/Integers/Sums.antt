@@ -9,7 +9,8 @@ use lib.IntN.{ℤ, pos, negsuc, negℤ, natAbs, _+ℤ_, _-ℤ_, +ℤ-assoc, +ℤ
 use lib.Signed.{nonNeg}
 use lib.Ieee.{Float, Format, unlike, round, sum, sub, mul, ofInt}
 use lib.Ieee.Exact.{HasValue}
-use Rattle.ieee.specs.WholeNumber.{IsWhole, signed}
+use Rattle.ieee.specs.WholeNumber.{IsWhole}
+use Rattle.ieee.specs.inner.Wholes.{signed}
 use Rattle.ieee.proofs.Values.Totals.{total-of}
 use Rattle.ieee.proofs.Values.ByValue.{sub-values, mul-values}
 

@@ -10,7 +10,7 @@ use lib.Signed.{leZ}
 use lib.Ieee.{Float, nan, inf, fin, up, down, le, toSigned, toUnsigned}
 use lib.Ieee.Fits.{down-pos}
 use lib.Ieee.Nearest.{div-mono}
-use Rattle.ieee.specs.WholeNumber.{signed}
+use Rattle.ieee.specs.inner.Wholes.{signed}
 use Rattle.ieee.proofs.Order.Monotone.{no-factor}
 use Rattle.ieee.proofs.Order.Signed.{AtMost, at-most}
 

@@ -15,7 +15,7 @@ use mir.Syntax.{Width}
 use mir.Val.{SFits, hbits, ofZ, toZ}
 use mir.ValLaws.{toZ-ofZ}
 use Rattle.ieee.specs.Integral.{cut}
-use Rattle.ieee.specs.WholeNumber.{signed}
+use Rattle.ieee.specs.inner.Wholes.{signed}
 use Rattle.ieee.proofs.Numbers.Wholes.{whole-same}
 use Rattle.ieee.proofs.Order.Comparison.{lt-not-le}
 use Rattle.ieee.proofs.Patterns.Nan.{is-nan, ne-self}

@@ -12,7 +12,7 @@ use lib.Pow.{pow-pos}
 use lib.Ieee.{binary32, ofBits}
 use lib.Ieee.Exact.{HasValue}
 use Rattle.ieee.specs.Cube.{cubeAbove}
-use Rattle.ieee.specs.Fields.{sized}
+use Rattle.ieee.specs.inner.Fields.{sized}
 use Rattle.ieee.proofs.Values.Cube.{cube-of-inf, cube-of-minus, cube-of-minus-inf, cube-of-nan, cube-sizes, cube-to-inf, cube-to-nan}
 use Rattle.ieee.proofs.Patterns.Fields.{read-inf, read-nan, read-value}
 

@@ -14,9 +14,9 @@ use lib.Ieee.{Float, binary64, isNan, ne, ofBits, toSigned}
 use mir.Syntax.{Width}
 use mir.Val.{hbits, toZ}
 use mir.ValLaws.{toZ-pos}
-use Rattle.ieee.specs.Fields.{sized}
+use Rattle.ieee.specs.inner.Fields.{sized}
 use Rattle.ieee.specs.Integral.{cut}
-use Rattle.ieee.specs.WholeNumber.{signed}
+use Rattle.ieee.specs.inner.Wholes.{signed}
 use Rattle.ieee.proofs.Order.Ranges.{Reaches, reaches-value, signed-cut, signed-end}
 use Rattle.ieee.proofs.Patterns.Fields.{read-inf, read-nan}
 use Rattle.ieee.proofs.Patterns.Integral.{at-least, at-most, field, size-of, value}

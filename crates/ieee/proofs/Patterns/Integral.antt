@@ -13,7 +13,7 @@ use lib.Pow.{pow-add, pow-mono, pow-pos, shl-lt}
 use lib.Ieee.{Float, nan, inf, fin, Format, binary32, binary64, prec, emax, low, up, down, hid, ones, top, round, neg, ofInt, inFloat, fits, ofBits}
 use lib.Ieee.Exact.{HasValue}
 use lib.Ieee.Fits.{down-pos, two}
-use Rattle.ieee.specs.Fields.{exp, sized}
+use Rattle.ieee.specs.inner.Fields.{exp, sized}
 use Rattle.ieee.specs.Integral.{Way, toWhole, integral}
 use Rattle.ieee.proofs.Patterns.Fields.{sig-lt, twice-hid, read-inf, read-nan, read-value}
 use Rattle.ieee.proofs.Patterns.Signs.{round-neg}

@@ -14,7 +14,7 @@ use lib.Ieee.Exact.{HasValue}
 use lib.Ieee.Fits.{down-pos, inf-fits, nan-fits, round-fits}
 use lib.Ieee.Nearest.{closest}
 use lib.Ieee.Scale.{round-same}
-use Rattle.ieee.specs.Fields.{exp, sig, sized}
+use Rattle.ieee.specs.inner.Fields.{exp, sig, sized}
 use Rattle.ieee.specs.Rounded.{rounded}
 use Rattle.ieee.proofs.Patterns.Fields.{exp-le, read-inf, read-nan, read-value, sig-lt}
 use Rattle.ieee.proofs.Numbers.Basic.{below-pow, cmp-lt, nearest-shift}

@@ -12,7 +12,7 @@ use lib.Dec.{leb, lit≤}
 use lib.Pow.{pow-add, pow-pos}
 use lib.Ieee.{nan, binary64, ofBits, toBits}
 use lib.Ieee.Exact.{HasValue}
-use Rattle.ieee.specs.Fields.{sized}
+use Rattle.ieee.specs.inner.Fields.{sized}
 use Rattle.ieee.specs.Root.{closestRoot, root, rootRound}
 use Rattle.ieee.proofs.Patterns.Back.{write-back}
 use Rattle.ieee.proofs.Patterns.Fields.{read-inf, read-nan, read-value}

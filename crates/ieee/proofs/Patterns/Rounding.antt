@@ -10,7 +10,7 @@ use lib.Ieee.{Float, Format, binary64, prec, low, ones, top, fits, ofBits, toSig
 use lib.Ieee.Back.{round-whole}
 use lib.Ieee.Fits.{reach, two}
 use Rattle.ieee.specs.Integral.{half, halfAway, toWhole}
-use Rattle.ieee.specs.WholeNumber.{signed}
+use Rattle.ieee.specs.inner.Wholes.{signed}
 use Rattle.ieee.proofs.Integers.Floats.{toSigned-value}
 use Rattle.ieee.proofs.Patterns.Integral.{field, in-format, size-of, small, whole-already}
 

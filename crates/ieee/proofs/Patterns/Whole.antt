@@ -5,7 +5,7 @@ use native.Mathlib.Nat.{add-div-right, div-div-eq-div-mul, lt-of-lt-of-le, mul-a
 use native.Mathlib.Omega.{arith}
 use lib.Pow.{pow-add, pow-mono, pow-pos, shl-lt}
 use lib.Ieee.{Format, binary64, prec, low, hid}
-use Rattle.ieee.specs.Fields.{exp, sized}
+use Rattle.ieee.specs.inner.Fields.{exp, sized}
 use Rattle.ieee.specs.Integral.{Way, half, toWhole}
 use Rattle.ieee.proofs.Patterns.Fields.{exp-le, sig-lt, twice-hid}
 use Rattle.ieee.proofs.Numbers.Basic.{pow-half}

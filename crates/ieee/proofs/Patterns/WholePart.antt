@@ -12,7 +12,7 @@ use lib.IntN.{pos}
 use lib.Pow.{pow-pos}
 use lib.Ieee.{Float, fin, binary32, le, lt, ofBits, toUnsigned}
 use lib.Ieee.Exact.{HasValue}
-use Rattle.ieee.specs.Fields.{sized}
+use Rattle.ieee.specs.inner.Fields.{sized}
 use Rattle.ieee.specs.Integral.{cut}
 use Rattle.ieee.proofs.Order.Casts.{toUnsigned-mono}
 use Rattle.ieee.proofs.Order.Comparison.{lt-le}

@@ -8,7 +8,7 @@ use borrow.Author.Tests.{lt-ltb, le-ltb}
 use lib.Dec.{T}
 use lib.IntN.{pos, negℤ, _+ℤ_, +ℤ-comm, negℤ-+ℤ, negℤ-negℤ}
 use lib.Ieee.{Format, round, sum}
-use Rattle.ieee.specs.WholeNumber.{signed}
+use Rattle.ieee.specs.inner.Wholes.{signed}
 use Rattle.ieee.proofs.Order.Ranks.{rank}
 
 -- ---- a - b, by which is larger

@@ -27,7 +27,7 @@ put-ids-requires c κs = simp (length-take, length-drop) (omega (arith, c .befor
 returns : tie.Need-returns
 returns c =
     let s = c .before .before .before .before .before .before .before .before .before .before .before .before .before .before .before .before .before in
-    filled (s .args .bytes .now) (s .args .p) (s .args .vertices .now) (s .args .ids .now) (s .pre .inside) _ _ _ _ _ (c .before .before .before .word .ensures) (c .before .before .f32-of .ensures)
+    filled (s .args .bytes .now) (s .args .p) (s .args .vertices .now) (s .args .ids .now) (s .pre .inside) _ _ _ _ _ (c .before .before .before .u32-at .ensures) (c .before .before .f32-of .ensures)
     (c .profile-of .ensures) (c .before .before .before .before .before .before .before .before .before .before .before .put-floats .ensures) (c .before .before .before .before .before .before .put-ids .ensures)
 
 pub fill-spec : {M : Type 1} → statement M

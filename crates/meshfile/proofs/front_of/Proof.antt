@@ -15,37 +15,37 @@ returns c =
 returns-2 : tie.Need-returns-2
 returns-2 c =
     let s = c .before .before .before .before .args in
-    wrong-kind (s .kind) (s .bytes .now) (omega (arith, c .before .before .if1 .left)) (λ q. c .if2 .taken (c .before .half .ensures ∙ q))
+    wrong-kind (s .kind) (s .bytes .now) (omega (arith, c .before .before .if1 .left)) (λ q. c .if2 .taken (c .before .u16-at .ensures ∙ q))
 
 returns-3 : tie.Need-returns-3
 returns-3 c =
     let s = c .before .before .before .before .before .before .before .args in
-    let same = sym (c .before .before .before .before .half .ensures) ∙ c .before .before .before .if2 .left in
-    let size = c .before .before .word in
+    let same = sym (c .before .before .before .before .u16-at .ensures) ∙ c .before .before .before .if2 .left in
+    let size = c .before .before .u32-at in
     let fit = c .before .length-fits in
     wrong-length (s .kind) (s .bytes .now) (omega (arith, c .before .before .before .before .before .if1 .left)) same (size .result) (sym (size .ensures)) (sym (fit .ensures) ∙ not-true (fit .result) (c .if3 .taken))
 
 returns-4 : tie.Need-returns-4
 returns-4 c =
     let s = c .before .before .before .before .before .before .before .before .args in
-    let same = sym (c .before .before .before .before .before .half .ensures) ∙ c .before .before .before .before .if2 .left in
-    let size = c .before .before .before .word in
+    let same = sym (c .before .before .before .before .before .u16-at .ensures) ∙ c .before .before .before .before .if2 .left in
+    let size = c .before .before .before .u32-at in
     let fit = c .before .before .length-fits in
     too-many (s .kind) (s .bytes .now) (omega (arith, c .before .before .before .before .before .before .if1 .left)) same (size .result) (sym (size .ensures)) (sym (fit .ensures) ∙ not-false (fit .result) (c .before .if3 .left)) (omega (arith, c .if4 .taken))
 
 returns-5 : tie.Need-returns-5
 returns-5 c =
     let s = c .before .before .before .before .before .before .before .before .before .args in
-    let same = sym (c .before .before .before .before .before .before .half .ensures) ∙ c .before .before .before .before .before .if2 .left in
-    let size = c .before .before .before .before .word in
+    let same = sym (c .before .before .before .before .before .before .u16-at .ensures) ∙ c .before .before .before .before .before .if2 .left in
+    let size = c .before .before .before .before .u32-at in
     let fit = c .before .before .before .length-fits in
     payload-cut (s .kind) (s .bytes .now) (omega (arith, c .before .before .before .before .before .before .before .if1 .left)) same (size .result) (sym (size .ensures)) (sym (fit .ensures) ∙ not-false (fit .result) (c .before .before .if3 .left)) (omega (arith, c .before .if4 .left)) (omega (arith, c .if5 .taken))
 
 returns-6 : tie.Need-returns-6
 returns-6 c =
     let s = c .before .before .before .before .before .before .before .before .before .args in
-    let same = sym (c .before .before .before .before .before .before .half .ensures) ∙ c .before .before .before .before .before .if2 .left in
-    let size = c .before .before .before .before .word in
+    let same = sym (c .before .before .before .before .before .before .u16-at .ensures) ∙ c .before .before .before .before .before .if2 .left in
+    let size = c .before .before .before .before .u32-at in
     let fit = c .before .before .before .length-fits in
     payload-whole (s .kind) (s .bytes .now) (omega (arith, c .before .before .before .before .before .before .before .if1 .left)) same (size .result) (sym (size .ensures)) (sym (fit .ensures) ∙ not-false (fit .result) (c .before .before .if3 .left)) (omega (arith, c .before .if4 .left)) (omega (arith, c .if5 .left))
 

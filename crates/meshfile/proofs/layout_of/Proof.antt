@@ -3,7 +3,7 @@ use Prim.Native.Nat.{_+_}
 use native.Mathlib.Omega.{arith}
 use borrow.Author.Needs.{needs}
 use denote.Ref.{now}
-use Rattle.meshfile.specs.Steps.{layoutOf, unitFrom}
+use Rattle.meshfile.specs.inner.Steps.{layoutOf, unitFrom}
 use Rattle.meshfile.proofs.Fronts.{room-of, rest-is}
 use Rattle.meshfile.proofs.layout_of.Statement.{statement}
 use Rattle.meshfile.proofs.layout_of.Tie as tie

@@ -22,7 +22,7 @@ loop-again : tie.Need-loop-again Inv-loop μ-loop
 loop-again c =
     let b = c .before .before .before .before .before .before .args .bytes .now in
     let l = c .before .before .before .loop in
-    (search needs, search needs, rw (c .f32-of .ensures) (put-next (ofBits binary32) b (l .i) (l .vertices) (c .before .word .result) (omega arith) (omega arith) (c .before .word .ensures) (l .inv .2)))
+    (search needs, search needs, rw (c .f32-of .ensures) (put-next (ofBits binary32) b (l .i) (l .vertices) (c .before .u32-at .result) (omega arith) (omega arith) (c .before .u32-at .ensures) (l .inv .2)))
 
 returns : tie.Need-returns Inv-loop μ-loop
 returns c =

@@ -22,7 +22,7 @@ loop-again : tie.Need-loop-again Inv-loop μ-loop
 loop-again c =
     let b = c .before .before .before .before .before .args .bytes .now in
     let l = c .before .before .loop in
-    (search needs, search needs, put-next (λ (w : ℕ). w) b (l .i) (l .ids) (c .word .result) (omega arith) (omega arith) (c .word .ensures) (l .inv .2))
+    (search needs, search needs, put-next (λ (w : ℕ). w) b (l .i) (l .ids) (c .u32-at .result) (omega arith) (omega arith) (c .u32-at .ensures) (l .inv .2))
 
 returns : tie.Need-returns Inv-loop μ-loop
 returns c =

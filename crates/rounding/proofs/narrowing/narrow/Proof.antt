@@ -14,7 +14,7 @@ use Rattle.ieee.specs.Rounded.{rounded}
 use Rattle.ieee.proofs.Patterns.Back.{read-back}
 use Rattle.ieee.proofs.Patterns.Nan.{is-nan, ne-self, same-no-nan, up-to-inf}
 use Rattle.ieee.proofs.Patterns.Narrowed.{narrow-finite, narrow-tiny, rounded-fits}
-use Rattle.rounding.specs.Sizes.{narrowSize}
+use Rattle.rounding.specs.inner.Sizes.{narrowSize}
 use Rattle.rounding.proofs.narrowing.narrow.Statement.{statement}
 use Rattle.rounding.proofs.narrowing.narrow.Tie as tie
 

@@ -3,7 +3,7 @@ use borrow.Author.Needs.{needs}
 use Prim.Native.Nat.{_/_, _%_, _^_, _<_}
 use native.Mathlib.Omega.{arith}
 use lib.Ieee.{binary32, binary64}
-use Rattle.ieee.specs.Fields.{sized}
+use Rattle.ieee.specs.inner.Fields.{sized}
 use Rattle.ieee.proofs.Patterns.Narrowed.{narrow-finite, narrow-inf, narrow-nan}
 use Rattle.ieee.proofs.Patterns.Signs.{bits-lt}
 use Rattle.rounding.proofs.narrowing.narrow_bits.Statement.{statement}

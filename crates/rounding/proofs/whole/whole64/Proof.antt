@@ -4,7 +4,7 @@ use mathlib.Core.Path.{_≡_}
 use native.Mathlib.Omega.{arith}
 use lib.Ieee.{binary64, ofBits}
 use denote.Floats.{passes}
-use Rattle.rounding.specs.Ways.{wayOf}
+use Rattle.rounding.specs.inner.Ways.{wayOf}
 use Rattle.ieee.proofs.Patterns.Back.{read-back}
 use Rattle.ieee.proofs.Patterns.Integral.{below-zero, from-zero-up, in-format, whole-already}
 use Rattle.rounding.proofs.whole.whole64.Statement.{statement}

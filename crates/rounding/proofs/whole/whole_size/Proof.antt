@@ -1,6 +1,6 @@
 -- `rounding::whole::whole_size` meets its contract. Assumes nothing.
 use borrow.Author.Needs.{needs}
-use Rattle.rounding.specs.Ways.{wayOf}
+use Rattle.rounding.specs.inner.Ways.{wayOf}
 use Rattle.ieee.proofs.Patterns.Whole.{cut-size, tiny-size}
 use Rattle.rounding.proofs.whole.whole_size.Statement.{statement}
 use Rattle.rounding.proofs.whole.whole_size.Tie as tie

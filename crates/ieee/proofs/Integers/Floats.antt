@@ -59,7 +59,8 @@ whole-of-test f (fin s m e) t =
     let c = m * up e / down e in
     let r = m * up e % down e in
     let both = and-l (eqb r 0 && leb c (2 ^ prec f)) (not (s && eqb m 0)) t in
-    of s c (leb→le c (2 ^ prec f) (and-r (eqb r 0) (leb c (2 ^ prec f)) both)) (no-rest s m e (eqb→eq r 0 (and-l (eqb r 0) (leb c (2 ^ prec f)) both)))
+    of s c (leb→le c (2 ^ prec f) (and-r (eqb r 0) (leb c (2 ^ prec f)) both))
+    (no-rest s m e (eqb→eq r 0 (and-l (eqb r 0) (leb c (2 ^ prec f)) both)))
     (and-r (eqb r 0 && leb c (2 ^ prec f)) (not (s && eqb m 0)) t)
   where
     of : (u : Bool) (c : ℕ) → c ≤ 2 ^ prec f → HasValue (fin u m e) u c 1 → T (not (u && eqb m 0)) → SmallWhole f (fin u m e)
@@ -72,7 +73,8 @@ unfolding whole
 test-of-whole f nan a l v = absurd v
 test-of-whole f (inf s) a l v = absurd v
 test-of-whole f (fin s m e) a l v =
-    rw (cut m e (natAbs a) (v .1), mul-mod-left (natAbs a) (down e), mul-div-cancel (natAbs a) (down-pos e), le-leb (natAbs a) (2 ^ prec f) l, v .0)
+    let n = natAbs a in
+    rw (cut m e n (v .1), mul-mod-left n (down e), mul-div-cancel n (down-pos e), le-leb n (2 ^ prec f) l, v .0)
     (signed-some a (cut m e (natAbs a) (v .1)))
   where
     signed-some : (a : ℤ) → m * up e ≡ natAbs a * down e → T (not (not (nonNeg a) && eqb m 0))

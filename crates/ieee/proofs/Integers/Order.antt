@@ -1,4 +1,5 @@
--- Floats that are whole numbers, zeros of either sign included, compare as the integers do; so both moved by one integer compare alike. Assumes nothing.
+-- Floats that are whole numbers, zeros of either sign included, compare as the integers do; so both moved by one integer compare alike.
+-- Assumes nothing.
 use mathlib.Core.Path.{_≡_, refl, sym, _∙_, ap}
 use mathlib.Core.Bool.{Bool, true, false, not, _&&_, cond, decide}
 use Prim.Native.Nat.{ℕ, zero, suc, _+_, _≤_}
@@ -77,7 +78,9 @@ module _ (x y : Float) (a b : ℤ) (h : EqualsWhole x a) (k : EqualsWhole y b) w
   le-exact = le-not-lt x y (equals-number x a h) (equals-number y b k) ∙ rw (lt-exact y x b a k h) (sym (leZ-ltZ a b))
 
   pub eq-exact : eq x y ≡ decide (ℤ-discrete a b)
-  eq-exact = eq-not-lt x y (equals-number x a h) (equals-number y b k) ∙ rw (lt-exact x y a b h k, lt-exact y x b a k h) (sym (eqZ-ltZ a b (ℤ-discrete a b)))
+  eq-exact =
+      eq-not-lt x y (equals-number x a h) (equals-number y b k)
+      ∙ rw (lt-exact x y a b h k, lt-exact y x b a k h) (sym (eqZ-ltZ a b (ℤ-discrete a b)))
 
 -- ---- no -0
 module _ (x y : Float) (a b : ℤ) (h : IsWhole x a) (k : IsWhole y b) where
@@ -103,5 +106,6 @@ module _ (x y x′ y′ : Float) (a b d : ℤ) (h : IsWhole x a) (k : IsWhole y 
 
   pub eq-moved : eq x′ y′ ≡ eq x y
   eq-moved =
-      eq-whole x′ y′ (a +ℤ d) (b +ℤ d) h′ k′ ∙ eqZ-ltZ (a +ℤ d) (b +ℤ d) (ℤ-discrete (a +ℤ d) (b +ℤ d)) ∙ rw (ltZ-moved a b d, ltZ-moved b a d) (sym (eqZ-ltZ a b (ℤ-discrete a b)))
+      eq-whole x′ y′ (a +ℤ d) (b +ℤ d) h′ k′ ∙ eqZ-ltZ (a +ℤ d) (b +ℤ d) (ℤ-discrete (a +ℤ d) (b +ℤ d))
+      ∙ rw (ltZ-moved a b d, ltZ-moved b a d) (sym (eqZ-ltZ a b (ℤ-discrete a b)))
       ∙ sym (eq-whole x y a b h k)

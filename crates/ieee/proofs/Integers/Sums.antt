@@ -1,4 +1,5 @@
--- The difference of two floats that are whole numbers is the integers', rounded once; so both moved by one integer have the same difference. Assumes nothing.
+-- The difference of two floats that are whole numbers is the integers', rounded once; so both moved by one integer have the same
+-- difference. Assumes nothing.
 use mathlib.Core.Path.{_≡_, refl, sym, _∙_, ap}
 use mathlib.Core.Bool.{Bool, true, false, not}
 use Prim.Native.Nat.{ℕ, zero, suc, _*_, _<_}
@@ -30,8 +31,10 @@ round-ofInt f false n h = refl
 round-ofInt f true zero h = absurd (omega (arith, h tt))
 round-ofInt f true (suc n) h = refl
 
-sum-ofInt : (f : Format) (s : Bool) (a : ℕ) (t : Bool) (b : ℕ) (z : ℤ) → (T s → 0 < a) → signed s a +ℤ signed t b ≡ z → sum f s a t b 1 ≡ ofInt f z
-sum-ofInt f s a t b z h e = let r = total-of f s a t b in r .is 1 ∙ round-ofInt f (r .sign) (r .size) (r .plus h) ∙ ap (ofInt f) (r .total ∙ e)
+sum-ofInt : (f : Format) (s : Bool) (a : ℕ) (t : Bool) (b : ℕ) (z : ℤ) → (T s → 0 < a) → signed s a +ℤ signed t b ≡ z
+    → sum f s a t b 1 ≡ ofInt f z
+sum-ofInt f s a t b z h e =
+    let r = total-of f s a t b in r .is 1 ∙ round-ofInt f (r .sign) (r .size) (r .plus h) ∙ ap (ofInt f) (r .total ∙ e)
 
 -- an integer's zero is no -0
 no-minus : (z : ℤ) → T (not (nonNeg z)) → 0 < natAbs z
@@ -53,5 +56,7 @@ mul-whole f x y z t b c C h k = mul-values f x y (not (nonNeg z)) (natAbs z) 1 t
 pub diff-moved : (a b d : ℤ) → (a +ℤ d) -ℤ (b +ℤ d) ≡ a -ℤ b
 diff-moved a b d = rw (negℤ-+ℤ b d, +ℤ-comm (negℤ b) (negℤ d), ← +ℤ-assoc (a +ℤ d) (negℤ d) (negℤ b), +ℤ-negℤ-cancel a d)
 
-pub sub-moved : (f : Format) (x y x′ y′ : Float) (a b d : ℤ) → IsWhole x a → IsWhole y b → IsWhole x′ (a +ℤ d) → IsWhole y′ (b +ℤ d) → sub f x′ y′ ≡ sub f x y
-sub-moved f x y x′ y′ a b d h k h′ k′ = sub-whole f x′ y′ (a +ℤ d) (b +ℤ d) h′ k′ ∙ ap (ofInt f) (diff-moved a b d) ∙ sym (sub-whole f x y a b h k)
+pub sub-moved : (f : Format) (x y x′ y′ : Float) (a b d : ℤ) → IsWhole x a → IsWhole y b → IsWhole x′ (a +ℤ d) → IsWhole y′ (b +ℤ d)
+    → sub f x′ y′ ≡ sub f x y
+sub-moved f x y x′ y′ a b d h k h′ k′ =
+    sub-whole f x′ y′ (a +ℤ d) (b +ℤ d) h′ k′ ∙ ap (ofInt f) (diff-moved a b d) ∙ sym (sub-whole f x y a b h k)

@@ -20,7 +20,11 @@ pub eqb-ltb : (a b : ℕ) → eqb a b ≡ (not (ltb a b) && not (ltb b a))
 eqb-ltb a b =
     elim (decLt a b) [
       | yes h ↦ rw (lt-ltb a b h, ne-eqb a b (λ e. omega arith))
-      | no h ↦ rw (le-ltb a b (omega arith), ← leb-ltb a b) (elim (ℕ-discrete a b) [ yes e ↦ rw (eq-eqb a b e, le-leb a b (omega arith)) | no e ↦ rw (ne-eqb a b e, lt-leb a b (omega arith)) ])
+      | no h ↦ rw (le-ltb a b (omega arith), ← leb-ltb a b)
+          (elim (ℕ-discrete a b) [
+            | yes e ↦ rw (eq-eqb a b e, le-leb a b (omega arith))
+            | no e ↦ rw (ne-eqb a b e, lt-leb a b (omega arith))
+          ])
     ]
 
 pub le-not-lt : (x y : Float) → T (not (isNan x)) → T (not (isNan y)) → le x y ≡ not (lt y x)

@@ -1,4 +1,5 @@
--- The whole part of an `f32` from 1 up and below 2 ^ 23 is its digits, shifted: it tells that there is no sign, and bounds the exponent's field. Assumes nothing.
+-- The whole part of an `f32` from 1 up and below 2 ^ 23 is its digits, shifted: it tells that there is no sign, and bounds the exponent's
+-- field. Assumes nothing.
 use mathlib.Core.Path.{_≡_, refl, sym, ap, _∙_, subst}
 use mathlib.Core.Logic.{inl, inr}
 use mathlib.Core.Bool.{Bool, true, false, cond}

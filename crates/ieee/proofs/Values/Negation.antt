@@ -19,7 +19,8 @@ unlike-left false false = refl
 
 module _ (f : Format) where
   -- p: the divisor is zero; q: the dividend is
-  neg-quotient : (p q s : Bool) (a c : ℕ) → cond p (cond q nan (inf (not s))) (round f (not s) a c) ≡ neg (cond p (cond q nan (inf s)) (round f s a c))
+  neg-quotient : (p q s : Bool) (a c : ℕ) → cond p (cond q nan (inf (not s))) (round f (not s) a c)
+      ≡ neg (cond p (cond q nan (inf s)) (round f s a c))
   unfolding neg
   neg-quotient true true s a c = refl
   neg-quotient true false s a c = refl
@@ -33,7 +34,8 @@ module _ (f : Format) where
   div-neg-left (inf s) (fin t n d) = rw (unlike-left s t)
   div-neg-left (fin s m e) nan = refl
   div-neg-left (fin s m e) (inf t) = rw (unlike-left s t)
-  div-neg-left (fin s m e) (fin t n d) = rw (unlike-left s t) (neg-quotient (eqb n 0) (eqb m 0) (unlike s t) (m * up e * down d) (n * up d * down e))
+  div-neg-left (fin s m e) (fin t n d) =
+      rw (unlike-left s t) (neg-quotient (eqb n 0) (eqb m 0) (unlike s t) (m * up e * down d) (n * up d * down e))
 
 -- ---- order
 below-neg : (s t : Bool) (a b : ℕ) → below (not s) a (not t) b ≡ below t b s a

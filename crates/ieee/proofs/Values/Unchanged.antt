@@ -19,6 +19,8 @@ rounded-own f (inf s) t = refl
 rounded-own f (fin s m e) t = round-own f s m e t
 
 -- x is ±n, a zero of either sign
-pub integral-own : (f : Format) (above below : Way) (x : Float) (s : Bool) (n : ℕ) → T (fits f x) → HasValue x s n 1 → integral f above below x ≡ x
+pub integral-own : (f : Format) (above below : Way) (x : Float) (s : Bool) (n : ℕ) → T (fits f x) → HasValue x s n 1
+    → integral f above below x ≡ x
 integral-own f above below x s n t h =
-    integral-at f above below x s n 1 (lit< tt) h ∙ rw (whole-one (cond s below above) n) (sym (rounded-values f x s n 1 (lit< tt) h) ∙ rounded-own f x t)
+    integral-at f above below x s n 1 (lit< tt) h
+    ∙ rw (whole-one (cond s below above) n) (sym (rounded-values f x s n 1 (lit< tt) h) ∙ rounded-own f x t)

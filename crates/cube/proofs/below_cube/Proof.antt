@@ -1,4 +1,5 @@
--- `cube::below_cube` meets its contract. With i turns to go q * a + rest is the number that all but the last 16 * i digits of b * 2 ^ e make.
+-- `cube::below_cube` meets its contract. With i turns to go q * a + rest is the number that all but the last 16 * i digits of b * 2 ^ e
+-- make.
 -- Assumes nothing.
 use mathlib.Core.Path.{_≡_, sym, _∙_, subst}
 use Prim.Native.Nat.{ℕ, _+_, _-_, _*_, _/_, _%_, _^_, _≤_, _<_}

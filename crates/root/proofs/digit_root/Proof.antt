@@ -34,7 +34,8 @@ module _ (m a q rest i : ℕ) (t : Turn m a q rest i) where
   n = rest * 4 + a / 2 ^ 62
 
   -- q' and rest' stand for the same digits
-  turn : (q' rest' : ℕ) → q' * q' + rest' ≡ 4 * (q * q) + n → rest' ≤ 2 * q' → q' ≤ 2 * q + 1 → i < 27 → Turn m (a % 2 ^ 62 * 4) q' rest' (i + 1)
+  turn : (q' rest' : ℕ) → q' * q' + rest' ≡ 4 * (q * q) + n → rest' ≤ 2 * q' → q' ≤ 2 * q + 1 → i < 27
+      → Turn m (a % 2 ^ 62 * 4) q' rest' (i + 1)
   turn q' rest' e r l h = record {
     taken = rw (pow-next i, e) (next m a q rest (2 ^ i) (t .taken));
     small = r;

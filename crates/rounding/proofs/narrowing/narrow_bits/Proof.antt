@@ -23,7 +23,7 @@ cast-result c = omega (arith, size-below c)
 returns : tie.Need-returns
 returns c =
     let start = c .before .before in
-    narrow-finite (start .args .b) (c .narrow-size .result) (start .fits .b .fits) (c .before .if1 .taken) (c .narrow-size .ensures)
+    narrow-finite (start .args .b) _ (start .fits .b .fits) (c .before .if1 .taken) (c .narrow-size .ensures)
 
 returns-2 : tie.Need-returns-2
 returns-2 c = let start = c .before .before in narrow-inf (start .args .b) (start .fits .b .fits) (c .if2 .taken)

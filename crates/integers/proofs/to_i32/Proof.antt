@@ -25,16 +25,14 @@ negative : (c : tie.Else2) → pos 0 -ℤ toZ w32 (c .before .cut-size .result)
     ≡ toSigned 31 (c .before .before .before .before .before .args .x)
 negative c =
     let called = c .before .before .before in
-    below-zero w32 31 (lit≤ tt) (lit< tt) _ _ _ (is called)
-    (omega arith) (c .before .cut-size .ensures) (c .if2 .left)
+    below-zero w32 31 (lit≤ tt) (lit< tt) _ _ _ (is called) (omega arith) (c .before .cut-size .ensures) (c .if2 .left)
 
 cast-n : tie.Need-cast-n
 cast-n c =
     let called = c .before .before in
     record {
       sfits =
-          few w32 31 (lit≤ tt) (lit< tt) _ _ _ (is called)
-          (omega arith) (c .cut-size .ensures);
+          few w32 31 (lit≤ tt) (lit< tt) _ _ _ (is called) (omega arith) (c .cut-size .ensures);
     }
 
 sub-result : tie.Need-sub-result

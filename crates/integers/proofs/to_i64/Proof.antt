@@ -24,16 +24,14 @@ is c = rw (c .bits64 .ensures) (read-back binary64 (c .before .args .x) (c .befo
 negative : (c : tie.Else2) → pos 0 -ℤ toZ w64 (c .before .cut-size .result) ≡ toSigned 63 (c .before .before .before .before .args .x)
 negative c =
     let called = c .before .before .before in
-    below-zero w64 63 (lit≤ tt) (lit< tt) _ _ _ (is called)
-    (omega arith) (c .before .cut-size .ensures) (c .if2 .left)
+    below-zero w64 63 (lit≤ tt) (lit< tt) _ _ _ (is called) (omega arith) (c .before .cut-size .ensures) (c .if2 .left)
 
 cast-n : tie.Need-cast-n
 cast-n c =
     let called = c .before .before in
     record {
       sfits =
-          few w64 63 (lit≤ tt) (lit< tt) _ _ _ (is called)
-          (omega arith) (c .cut-size .ensures);
+          few w64 63 (lit≤ tt) (lit< tt) _ _ _ (is called) (omega arith) (c .cut-size .ensures);
     }
 
 sub-result : tie.Need-sub-result

@@ -46,10 +46,11 @@ neither true b q = let y : _≡_ {A = ℕ} 0 1 = cc in absurd (omega arith)
 neither false b q = (refl, q)
 
 -- a fault
-pub refused : (bytes : List ℕ) (vs : List Float) (ids : List ℕ) (n : ℕ) (l : Layout) → l ≡ layoutOf bytes → l ≡ Layout.Fault n → Reads bytes vs ids (Reading.Refused n) vs ids
+pub refused : (bytes : List ℕ) (vs : List Float) (ids : List ℕ) (n : ℕ) → layoutOf bytes ≡ Layout.Fault n
+    → Reads bytes vs ids (Reading.Refused n) vs ids
 unfolding readingOf floatsAfter idsAfter
-refused bytes vs ids n l e h =
-    let at = file-refused bytes n l e h in
+refused bytes vs ids n fault =
+    let at = file-refused bytes n fault in
     record { answers = rw at; floats = rw at; ids-after = rw at }
 
 module _ (bytes : List ℕ) (p : Parts) (vs : List Float) (ids : List ℕ) where
@@ -57,7 +58,9 @@ module _ (bytes : List ℕ) (p : Parts) (vs : List Float) (ids : List ℕ) where
       → w ≡ u32At bytes 6 → u ≡ ofBits binary32 w → profile ≡ profileAt (p .defect)
       → front ≡ floatsOf (wordsIn (take (16 + 4 * p .floats - 16) (drop 16 bytes)))
       → words′ ≡ wordsIn (take (22 + 4 * p .floats + 4 * p .ids - (22 + 4 * p .floats)) (drop (22 + 4 * p .floats) bytes))
-      → AreasFilled (contentsAt bytes p) vs ids (record { unit = u; floats = p .floats; ids = p .ids; clip = eqb (p .clip) 1; profile = profile }) (front ++ drop (p .floats) vs) (words′ ++ drop (p .ids) ids)
+      → AreasFilled (contentsAt bytes p) vs ids
+      (record { unit = u; floats = p .floats; ids = p .ids; clip = eqb (p .clip) 1; profile = profile })
+      (front ++ drop (p .floats) vs) (words′ ++ drop (p .ids) ids)
   unfolding contentsAt
   filled h w u profile front words′ ew eu ep ef ei =
       let f = p .floats in
@@ -70,30 +73,38 @@ module _ (bytes : List ℕ) (p : Parts) (vs : List Float) (ids : List ℕ) where
         ids-after = rw (li, ei, part-is (22 + 4 * f) (4 * i) bytes);
       }
 
-  -- too short an area, or not
-  module _ (l : Layout) (e : l ≡ layoutOf bytes) (h : l ≡ Layout.Whole p) where
-    short-is : (b : Bool) → (ltb (length vs) (p .floats) || ltb (length ids) (p .ids)) ≡ b → meshAreasShort (contentsAt bytes p) (length vs) (length ids) ≡ b
+  -- too short an area, or not, as the code tests it
+  abbrev tooShort : Bool
+  tooShort = ltb (length vs) (p .floats) || ltb (length ids) (p .ids)
+
+  module _ (whole : layoutOf bytes ≡ Layout.Whole p) where
+    short-is : (b : Bool) → tooShort ≡ b → meshAreasShort (contentsAt bytes p) (length vs) (length ids) ≡ b
     unfolding meshAreasShort contentsAt
     short-is b q =
-        let room = inside bytes p l e h in
+        let room = inside bytes p whole in
         rw (part-words 16 (p .floats) bytes (omega arith), part-words (22 + 4 * p .floats) (p .ids) bytes room) q
 
-    pub short : (ltb (length vs) (p .floats) || ltb (length ids) (p .ids)) ≡ true → Reads bytes vs ids (Reading.Refused 3) vs ids
+    pub short : tooShort ≡ true → Reads bytes vs ids (Reading.Refused 3) vs ids
     unfolding readingOf floatsAfter idsAfter
     short q =
-        let at = file-holds bytes p l e h in
+        let at = file-holds bytes p whole in
         let s = short-is true q in
         record { answers = rw (at, s); floats = rw (at, s); ids-after = rw (at, s) }
 
-    pub given : (ltb (length vs) (p .floats) || ltb (length ids) (p .ids)) ≡ false → (r : MeshFile) (vs′ : List Float) (ids′ : List ℕ) → AreasFilled (contentsAt bytes p) vs ids r vs′ ids′
+    pub given : tooShort ≡ false → (r : MeshFile) (vs′ : List Float) (ids′ : List ℕ)
+        → AreasFilled (contentsAt bytes p) vs ids r vs′ ids′
         → Reads bytes vs ids (Reading.File r) vs′ ids′
     unfolding readingOf floatsAfter idsAfter
     given q r vs′ ids′ x =
-        let at = file-holds bytes p l e h in
+        let at = file-holds bytes p whole in
         let s = short-is false q in
-        record { answers = rw (at, s) (ap Reading.File (x .answers)); floats = rw (at, s) (x .floats); ids-after = rw (at, s) (x .ids-after) }
+        record {
+          answers = rw (at, s) (ap Reading.File (x .answers));
+          floats = rw (at, s) (x .floats);
+          ids-after = rw (at, s) (x .ids-after);
+        }
 
-    pub fits : (ltb (length vs) (p .floats) || ltb (length ids) (p .ids)) ≡ false → Fits p (length bytes) (length vs) (length ids)
+    pub fits : tooShort ≡ false → Fits p (length bytes) (length vs) (length ids)
     fits q =
         let both = neither (ltb (length vs) (p .floats)) (ltb (length ids) (p .ids)) q in
-        record { inside = inside bytes p l e h; floats-room = ltb-false _ _ (both .0); ids-room = ltb-false _ _ (both .1) }
+        record { inside = inside bytes p whole; floats-room = ltb-false _ _ (both .0); ids-room = ltb-false _ _ (both .1) }

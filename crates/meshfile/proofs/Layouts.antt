@@ -108,27 +108,28 @@ module _ (bytes : List ℕ) where
   unfolding layoutOf
   stands = from-unit (frontOf 1 bytes) refl .1
 
-  module _ (p : Parts) (l : Layout) (e : l ≡ layoutOf bytes) (h : l ≡ Layout.Whole p) where
+  module _ (p : Parts) (whole : layoutOf bytes ≡ Layout.Whole p) where
     pub laid-out : Laid p
     unfolding Stands
-    laid-out = subst Stands (sym e ∙ h) stands
+    laid-out = subst Stands whole stands
 
     pub file-holds : fileOf bytes ≡ File.Holds (contentsAt bytes p)
     unfolding fileAt
-    file-holds = file-is ∙ ap (fileAt bytes) (sym e ∙ h)
+    file-holds = file-is ∙ ap (fileAt bytes) whole
 
     pub inside : 22 + 4 * p .floats + 4 * p .ids ≤ length bytes
     inside = laid-inside p laid-out
 
-  pub file-refused : (n : ℕ) (l : Layout) → l ≡ layoutOf bytes → l ≡ Layout.Fault n → fileOf bytes ≡ File.Refused n
+  pub file-refused : (n : ℕ) → layoutOf bytes ≡ Layout.Fault n → fileOf bytes ≡ File.Refused n
   unfolding fileAt
-  file-refused n l e h = file-is ∙ ap (fileAt bytes) (sym e ∙ h)
+  file-refused n fault = file-is ∙ ap (fileAt bytes) fault
 
   -- a file that holds something is laid out
-  held-by : (m : Contents) (l : Layout) → layoutOf bytes ≡ l → fileAt bytes l ≡ File.Holds m → (p : Parts) × Laid p × (contentsAt bytes p ≡ m)
+  held-by : (m : Contents) (l : Layout) → layoutOf bytes ≡ l → fileAt bytes l ≡ File.Holds m
+      → (p : Parts) × Laid p × (contentsAt bytes p ≡ m)
   unfolding fileAt
   held-by m (Layout.Fault n) e h = let y : _≡_ {A = ℕ} 0 1 = cc in absurd (omega arith)
-  held-by m (Layout.Whole p) e h = (p, laid-out p (Layout.Whole p) (sym e) refl, cc)
+  held-by m (Layout.Whole p) e h = (p, laid-out p e, cc)
 
   pub held : (m : Contents) → fileOf bytes ≡ File.Holds m → (p : Parts) × Laid p × (contentsAt bytes p ≡ m)
   held m h = held-by m (layoutOf bytes) refl (sym file-is ∙ h)

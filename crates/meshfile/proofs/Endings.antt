@@ -1,5 +1,5 @@
 -- What stands behind the ids: nothing, or kind 4 with known values and nothing behind it. Assumes nothing.
-use mathlib.Core.Path.{_≡_, refl, sym, ap}
+use mathlib.Core.Path.{_≡_, refl, sym, ap, _∙_}
 use mathlib.Core.Bool.{Bool, true, false, cond}
 use mathlib.Core.List.{List, [], _∷_}
 use Prim.Native.Nat.{ℕ, _+_, _≤_, _<_}
@@ -25,10 +25,12 @@ unfolding endingOf
 ending-none [] h = refl
 ending-none (b ∷ bytes) h = absurd (omega arith)
 
-pub ending-some : (bytes : List ℕ) → (length bytes ≡ 0 → ⊥) → flagsIn (frontOf 4 bytes) bytes ≡ endingOf bytes
+-- of some bytes the front decides that is found
+pub ending-by : (bytes : List ℕ) (k found : Front) → (length bytes ≡ 0 → ⊥) → k ≡ frontOf 4 bytes → k ≡ found
+    → flagsIn found bytes ≡ endingOf bytes
 unfolding endingOf
-ending-some [] h = absurd (h refl)
-ending-some (b ∷ bytes) h = refl
+ending-by [] k found some e h = absurd (some refl)
+ending-by (b ∷ bytes) k found some e h = ap (λ (x : Front). flagsIn x (b ∷ bytes)) (sym h ∙ e)
 
 -- kind 4, test by test
 module _ (n c d : ℕ) (bytes : List ℕ) (clip : c ≡ byte bytes 6) (defect : d ≡ byte bytes 7) where

@@ -13,7 +13,8 @@ use lib.Seq.{drop-drop, take-append-seam, drop-append-seam}
 use Rattle.record.specs.Numbers.{flagsFit}
 use Rattle.meshfile.specs.declared.Front.{Front}
 use Rattle.meshfile.specs.declared.Ending.{Ending}
-use Rattle.meshfile.specs.Format.{flagValues, u16At, u32At, mostInFile, lengthFits, frontOf, flagsIn, endingOf, ended, idsIn, verticesIn, unitIn, fileOf, Contents, File}
+use Rattle.meshfile.specs.Format.{flagValues, u16At, u32At, mostInFile, lengthFits, frontOf, flagsIn, endingOf, ended, idsIn}
+use Rattle.meshfile.specs.Format.{verticesIn, unitIn, fileOf, Contents, File}
 use Rattle.meshfile.specs.Written.{bytesOf, allBytes, chunkOf, plainFile, flaggedFile, Below, Proper, IsFileOf, Accepts}
 use Rattle.meshfile.proofs.Fronts.{Record, front-is}
 use Rattle.meshfile.proofs.Bytes.{four-of, length-all, words-all}
@@ -47,12 +48,16 @@ module _ (kind : ℕ) (p : eqb kind 1 ≡ false) (q : eqb kind 4 ≡ false) (ws 
   words-fit = rw (p, q) (eq-eqb (length (allBytes ws) % 4) 0 (omega (arith, length-all ws)))
 
   words-front : frontOf kind (chunkOf kind (allBytes ws) ++ rest) ≡ Front.Payload (length (allBytes ws))
-  words-front = front-is kind (length (allBytes ws)) (chunkOf kind (allBytes ws) ++ rest) (written kind (allBytes ws) rest words-fit (omega (arith, length-all ws)))
+  words-front =
+      front-is kind (length (allBytes ws)) (chunkOf kind (allBytes ws) ++ rest)
+      (written kind (allBytes ws) rest words-fit (omega (arith, length-all ws)))
 
 -- ---- the records in their order
 
-ids-written : (u : ℕ) (vs is tail : List ℕ) (c d : ℕ) → Below (2 ^ 32) is → length is ≤ mostInFile → endingOf tail ≡ Ending.Flags (flagValues c d)
-    → idsIn u vs (frontOf 3 (chunkOf 3 (allBytes is) ++ tail)) (chunkOf 3 (allBytes is) ++ tail) ≡ File.Holds (record { unit = u; vertices = vs; ids = is; clip = c; defect = d })
+ids-written : (u : ℕ) (vs is tail : List ℕ) (c d : ℕ) → Below (2 ^ 32) is → length is ≤ mostInFile
+    → endingOf tail ≡ Ending.Flags (flagValues c d)
+    → idsIn u vs (frontOf 3 (chunkOf 3 (allBytes is) ++ tail)) (chunkOf 3 (allBytes is) ++ tail)
+    ≡ File.Holds (record { unit = u; vertices = vs; ids = is; clip = c; defect = d })
 unfolding idsIn ended
 ids-written u vs is tail c d b few e =
     rw (words-front 3 refl refl is tail few, payload-written 3 (allBytes is) tail, behind-written 3 (allBytes is) tail, words-all is b, e)
@@ -75,7 +80,8 @@ unit-behind : (u : ℕ) (rest : List ℕ) → drop (6 + 4) (chunkOf 1 (bytesOf u
 unfolding bytesOf
 unit-behind u rest = behind-written 1 (bytesOf u) rest
 
-unit-written : (u : ℕ) (rest : List ℕ) (x : File) → u < 2 ^ 32 → verticesIn u (frontOf 2 rest) rest ≡ x → fileOf (chunkOf 1 (bytesOf u) ++ rest) ≡ x
+unit-written : (u : ℕ) (rest : List ℕ) (x : File) → u < 2 ^ 32 → verticesIn u (frontOf 2 rest) rest ≡ x
+    → fileOf (chunkOf 1 (bytesOf u) ++ rest) ≡ x
 unfolding fileOf unitIn
 unit-written u rest x h e = rw (unit-front u rest, unit-word u rest h, unit-behind u rest) e
 
@@ -88,7 +94,8 @@ flags-written c d h = rw (is-true (flagsFit c d) h)
 pub appended : (a b c t : List ℕ) → (a ++ (b ++ c)) ++ t ≡ a ++ (b ++ (c ++ t))
 appended a b c t = simp append-assoc
 
-file-written : (m : Contents) (tail : List ℕ) → Proper m → endingOf tail ≡ Ending.Flags (flagValues (m .clip) (m .defect)) → fileOf (plainFile m ++ tail) ≡ File.Holds m
+file-written : (m : Contents) (tail : List ℕ) → Proper m → endingOf tail ≡ Ending.Flags (flagValues (m .clip) (m .defect))
+    → fileOf (plainFile m ++ tail) ≡ File.Holds m
 unfolding plainFile
 file-written m tail p e =
     rw (appended (chunkOf 1 (bytesOf (m .unit))) (chunkOf 2 (allBytes (m .vertices))) (chunkOf 3 (allBytes (m .ids))) tail)
@@ -98,5 +105,6 @@ file-written m tail p e =
 
 pub accepts : Accepts
 unfolding IsFileOf flaggedFile endingOf
-accepts m bytes p (inl e) = ap fileOf e ∙ file-written m (chunkOf 4 (m .clip ∷ m .defect ∷ [])) p (flags-written (m .clip) (m .defect) (p .flags))
+accepts m bytes p (inl e) =
+    ap fileOf e ∙ file-written m (chunkOf 4 (m .clip ∷ m .defect ∷ [])) p (flags-written (m .clip) (m .defect) (p .flags))
 accepts m bytes p (inr e) = ap fileOf (e .0 ∙ sym (append-nil (plainFile m))) ∙ file-written m [] p (rw (e .1, e .2))

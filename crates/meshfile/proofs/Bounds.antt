@@ -1,4 +1,5 @@
--- A file is at most 12,318 bytes long, and of longer input the first 12,319 bytes decide: each test looks only at bytes that both have. Assumes nothing.
+-- A file is at most 12,318 bytes long, and of longer input the first 12,319 bytes decide: each test looks only at bytes that both have.
+-- Assumes nothing.
 use mathlib.Core.Path.{_≡_, refl, sym, ap, _∙_}
 use mathlib.Core.Bool.{Bool, true, false, not, cond}
 use mathlib.Core.List.{List, [], _∷_}
@@ -9,7 +10,8 @@ use lib.Dec.{ltb, eqb}
 use lib.ListN.{length, take, drop, length-drop}
 use lib.Seq.{length-take-le, getD-take, take-take, take-nil}
 use Rattle.meshfile.specs.declared.Front.{Front}
-use Rattle.meshfile.specs.Format.{byte, u16At, u32At, mostInFile, lengthFits, frontOf, flagsIn, endingOf, ended, idsIn, verticesIn, unitIn, fileOf}
+use Rattle.meshfile.specs.Format.{byte, u16At, u32At, mostInFile, lengthFits, frontOf, flagsIn, endingOf, ended, idsIn, verticesIn}
+use Rattle.meshfile.specs.Format.{unitIn, fileOf}
 use Rattle.meshfile.specs.Written.{FilesAreShort, FrontDecidesFile}
 use Rattle.meshfile.proofs.Fronts.{record-of, four-bytes, whole-words, two-bytes}
 use Rattle.meshfile.proofs.Endings.{flags-front, ending-by, Ends, plain, flags, ends}
@@ -118,7 +120,8 @@ module _ (size : ℕ) (bytes : List ℕ) (enough : size ≤ length bytes) where
       rw (part-taken size bytes enough 6 n (omega arith), behind-taken size bytes enough (6 + n) (omega arith))
       (ap (ended u vs _) (ending-taken (size - (6 + n)) (drop (6 + n) bytes) (behind-enough size bytes enough (6 + n)) (omega arith)))
 
-  ids-taken : (u : ℕ) (vs : List ℕ) → 6159 ≤ size → idsIn u vs (frontOf 3 (take size bytes)) (take size bytes) ≡ idsIn u vs (frontOf 3 bytes) bytes
+  ids-taken : (u : ℕ) (vs : List ℕ) → 6159 ≤ size
+      → idsIn u vs (frontOf 3 (take size bytes)) (take size bytes) ≡ idsIn u vs (frontOf 3 bytes) bytes
   ids-taken u vs h =
       rw (front-taken size bytes enough 3 (omega arith) (λ n f m. let most = payload-most 3 n refl refl f m in omega arith))
       (ids-by u vs (frontOf 3 bytes) refl h)
@@ -133,7 +136,8 @@ module _ (size : ℕ) (bytes : List ℕ) (enough : size ≤ length bytes) where
       rw (part-taken size bytes enough 6 n (omega arith), behind-taken size bytes enough (6 + n) (omega arith))
       (ids-taken (size - (6 + n)) (drop (6 + n) bytes) (behind-enough size bytes enough (6 + n)) u _ (omega arith))
 
-  vertices-taken : (u : ℕ) → 12309 ≤ size → verticesIn u (frontOf 2 (take size bytes)) (take size bytes) ≡ verticesIn u (frontOf 2 bytes) bytes
+  vertices-taken : (u : ℕ) → 12309 ≤ size → verticesIn u (frontOf 2 (take size bytes)) (take size bytes)
+      ≡ verticesIn u (frontOf 2 bytes) bytes
   vertices-taken u h =
       rw (front-taken size bytes enough 2 (omega arith) (λ n f m. let most = payload-most 2 n refl refl f m in omega arith))
       (vertices-by u (frontOf 2 bytes) refl h)

@@ -52,7 +52,9 @@ all-words [] h e = refl
 all-words (a ∷ []) h e = absurd (omega arith)
 all-words (a ∷ b ∷ []) h e = absurd (omega arith)
 all-words (a ∷ b ∷ c ∷ []) h e = absurd (omega arith)
-all-words (a ∷ b ∷ c ∷ d ∷ l) h e = rw (bytes-back a b c d (h .0) (h .1 .0) (h .1 .1 .0) (h .1 .1 .1 .0)) (ap (λ (r : List ℕ). a ∷ b ∷ c ∷ d ∷ r) (all-words l (h .1 .1 .1 .1) (omega arith)))
+all-words (a ∷ b ∷ c ∷ d ∷ l) h e =
+    rw (bytes-back a b c d (h .0) (h .1 .0) (h .1 .1 .0) (h .1 .1 .1 .0))
+    (ap (λ (r : List ℕ). a ∷ b ∷ c ∷ d ∷ r) (all-words l (h .1 .1 .1 .1) (omega arith)))
 
 pub words-below : (l : List ℕ) → Below 256 l → Below (2 ^ 32) (wordsIn l)
 unfolding wordsIn Below

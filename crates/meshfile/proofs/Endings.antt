@@ -60,10 +60,13 @@ pub data Ends (c d : ℕ) : List ℕ → Type 0 where
   flags : (b : ℕ) (l : List ℕ) → Flags c d (b ∷ l) → Ends c d (b ∷ l)
 
 same-flags : (a b c d : ℕ) → Ending.Flags (flagValues a b) ≡ Ending.Flags (flagValues c d) → (a ≡ c) × (b ≡ d)
-same-flags a b c d h = let e : flagValues a b ≡ flagValues c d = cc in (ap (λ (v : FlagValues). v .clip) e, ap (λ (v : FlagValues). v .defect) e)
+same-flags a b c d h =
+    let e : flagValues a b ≡ flagValues c d = cc in (ap (λ (v : FlagValues). v .clip) e, ap (λ (v : FlagValues). v .defect) e)
 
-flags-by : (x y : Bool) (c d : ℕ) (bytes : List ℕ) → Record 4 2 bytes → flagsFit (byte bytes 6) (byte bytes 7) ≡ x → ltb 8 (length bytes) ≡ y
-    → cond x (cond y (Ending.Fault 5) (Ending.Flags (flagValues (byte bytes 6) (byte bytes 7)))) (Ending.Fault 5) ≡ Ending.Flags (flagValues c d) → Flags c d bytes
+flags-by : (x y : Bool) (c d : ℕ) (bytes : List ℕ) → Record 4 2 bytes → flagsFit (byte bytes 6) (byte bytes 7) ≡ x
+    → ltb 8 (length bytes) ≡ y
+    → cond x (cond y (Ending.Fault 5) (Ending.Flags (flagValues (byte bytes 6) (byte bytes 7)))) (Ending.Fault 5)
+    ≡ Ending.Flags (flagValues c d) → Flags c d bytes
 flags-by true true c d bytes r e f h = let y : _≡_ {A = ℕ} 0 1 = cc in absurd (omega arith)
 flags-by true false c d bytes r e f h =
     let s = same-flags _ _ c d h in

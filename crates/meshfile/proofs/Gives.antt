@@ -54,7 +54,8 @@ refused bytes vs ids n fault =
     record { answers = rw at; floats = rw at; ids-after = rw at }
 
 module _ (bytes : List ℕ) (p : Parts) (vs : List Float) (ids : List ℕ) where
-  pub filled : 22 + 4 * p .floats + 4 * p .ids ≤ length bytes → (w : ℕ) (u : Float) (profile : Profile) (front : List Float) (words′ : List ℕ)
+  pub filled : 22 + 4 * p .floats + 4 * p .ids ≤ length bytes
+      → (w : ℕ) (u : Float) (profile : Profile) (front : List Float) (words′ : List ℕ)
       → w ≡ u32At bytes 6 → u ≡ ofBits binary32 w → profile ≡ profileAt (p .defect)
       → front ≡ floatsOf (wordsIn (take (16 + 4 * p .floats - 16) (drop 16 bytes)))
       → words′ ≡ wordsIn (take (22 + 4 * p .floats + 4 * p .ids - (22 + 4 * p .floats)) (drop (22 + 4 * p .floats) bytes))

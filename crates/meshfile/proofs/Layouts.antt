@@ -9,7 +9,8 @@ use Rattle.meshfile.specs.declared.Front.{Front}
 use Rattle.meshfile.specs.declared.Ending.{Ending}
 use Rattle.meshfile.specs.declared.Layout.{Layout}
 use Rattle.meshfile.specs.declared.Parts.{Parts}
-use Rattle.meshfile.specs.Format.{flagValues, u32At, wordsIn, frontOf, endingOf, ended, idsIn, verticesIn, unitIn, fileOf, Contents, File}
+use Rattle.meshfile.specs.Format.{flagValues, u32At, wordsIn, frontOf, endingOf, ended, idsIn, verticesIn, unitIn, fileOf, Contents}
+use Rattle.meshfile.specs.Format.{File}
 use Rattle.meshfile.specs.inner.Steps.{partsBy, idsFrom, verticesFrom, unitFrom, layoutOf, contentsAt, fileAt}
 use Rattle.meshfile.proofs.Fronts.{Record, record-of, four-bytes, whole-words}
 
@@ -56,7 +57,8 @@ module _ (bytes : List ℕ) where
       ids-payload : (i : ℕ) → Record 3 (4 * i) (drop (16 + 4 * f) bytes) → FromIds (Front.Payload (4 * i))
       unfolding idsIn idsFrom
       ids-payload i ids =
-          rw (drop-to 6 (16 + 4 * f) (22 + 4 * f) (omega arith), drop-to (6 + 4 * i) (16 + 4 * f) (22 + 4 * f + 4 * i) (omega arith), quarter i)
+          let rest = drop-to (6 + 4 * i) (16 + 4 * f) (22 + 4 * f + 4 * i) (omega arith) in
+          rw (drop-to 6 (16 + 4 * f) (22 + 4 * f) (omega arith), rest, quarter i)
           (ending i ids _ refl)
 
       from-ids : (k : Front) → frontOf 3 (drop (16 + 4 * f) bytes) ≡ k → FromIds k

@@ -26,7 +26,8 @@ Few (File.Holds m) = (length (m .vertices) ≤ mostInFile) × (length (m .ids) �
 few : (bytes : List ℕ) (l : Layout) → Stands bytes l → Few (fileAt bytes l)
 unfolding Stands fileAt contentsAt
 few bytes (Layout.Fault n) s = tt
-few bytes (Layout.Whole p) s = (few-words (p .floats) (drop 16 bytes) (s .floats .few), few-words (p .ids) (drop (22 + 4 * p .floats) bytes) (s .ids .few))
+few bytes (Layout.Whole p) s =
+    (few-words (p .floats) (drop 16 bytes) (s .floats .few), few-words (p .ids) (drop (22 + 4 * p .floats) bytes) (s .ids .few))
 
 module _ (bytes : List ℕ) (m : Contents) (h : fileOf bytes ≡ File.Holds m) where
   pub holds-most : (length (m .vertices) ≤ mostInFile) × (length (m .ids) ≤ mostInFile)
@@ -49,7 +50,9 @@ unfolding readingOf
 small (File.Refused n) v w h = tt
 small (File.Holds m) v w h = small-by (meshAreasShort m v w) m h
 
-pub reads-most : (bytes : List ℕ) (vs : List Float) (ids : List ℕ) (r : Reading) (vs′ : List Float) (ids′ : List ℕ) → Reads bytes vs ids r vs′ ids′
+pub reads-most : (bytes : List ℕ) (vs : List Float) (ids : List ℕ) (r : Reading) (vs′ : List Float) (ids′ : List ℕ)
+    → Reads bytes vs ids r vs′ ids′
     → (m : MeshFile) → r ≡ Reading.File m → (m .floats ≤ mostInFile) × (m .ids ≤ mostInFile)
 reads-most bytes vs ids r vs′ ids′ made m e =
-    subst Small (sym (made .answers) ∙ e) (small (fileOf bytes) (length vs) (length ids) (rw (file-is bytes) (few bytes (layoutOf bytes) (stands bytes))))
+    subst Small (sym (made .answers) ∙ e) (small (fileOf bytes) (length vs) (length ids)
+    (rw (file-is bytes) (few bytes (layoutOf bytes) (stands bytes))))

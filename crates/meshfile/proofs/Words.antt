@@ -1,4 +1,5 @@
--- Words put one by one into an area: those put so far, then those still to come, are the payload's words, each under one map. Assumes nothing.
+-- Words put one by one into an area: those put so far, then those still to come, are the payload's words, each under one map.
+-- Assumes nothing.
 use mathlib.Core.Path.{_≡_, refl, sym, ap, _∙_}
 use mathlib.Core.List.{List, [], _∷_, _++_, map, append-assoc, append-nil}
 use Prim.Native.Nat.{ℕ, _+_, _*_, _≤_, _<_}
@@ -31,7 +32,8 @@ word-drop n l =
 
 pub words-at : (n : ℕ) (l : List ℕ) → n + 4 ≤ length l → wordsIn (drop n l) ≡ u32At l n ∷ wordsIn (drop (n + 4) l)
 words-at n l h =
-    words-first (drop n l) (simp length-drop (omega arith)) ∙ ap (λ (w : ℕ). w ∷ wordsIn (drop 4 (drop n l))) (word-drop n l) ∙ ap (λ (r : List ℕ). u32At l n ∷ wordsIn r) (drop-drop 4 n l)
+    words-first (drop n l) (simp length-drop (omega arith)) ∙ ap (λ (w : ℕ). w ∷ wordsIn (drop 4 (drop n l))) (word-drop n l)
+    ∙ ap (λ (r : List ℕ). u32At l n ∷ wordsIn r) (drop-drop 4 n l)
 
 module _ {A : Type 0} (f : ℕ → A) (bytes : List ℕ) where
   -- the first i words stand in t
@@ -42,13 +44,15 @@ module _ {A : Type 0} (f : ℕ → A) (bytes : List ℕ) where
   unfolding Put
   put-none t = refl
 
-  pub put-next : (i : ℕ) (t : List A) (w : ℕ) → i < length t → 4 * i + 4 ≤ length bytes → w ≡ u32At bytes (4 * i) → Put i t → Put (i + 1) (set t i (f w))
+  pub put-next : (i : ℕ) (t : List A) (w : ℕ) → i < length t → 4 * i + 4 ≤ length bytes → w ≡ u32At bytes (4 * i) → Put i t
+      → Put (i + 1) (set t i (f w))
   unfolding Put
   put-next i t w h k e p =
       let to : List A → List A = λ r. r ++ map f (wordsIn (drop (4 * i + 4) bytes)) in
       let taken : take (i + 1) (set t i (f w)) ≡ take i t ++ (f w ∷ []) = rw (add-one i) (take-suc-set t i (f w) h) in
       let next : 4 * (i + 1) ≡ 4 * i + 4 = omega arith in
-      rw next (ap to taken ∙ append-assoc (take i t) (f w ∷ []) _ ∙ ap (λ (r : List A). take i t ++ r) (rw (words-at (4 * i) bytes k, e)) ∙ p)
+      rw next (ap to taken ∙ append-assoc (take i t) (f w ∷ []) _
+      ∙ ap (λ (r : List A). take i t ++ r) (rw (words-at (4 * i) bytes k, e)) ∙ p)
 
   pub put-all : (i : ℕ) (t : List A) → length bytes ≤ 4 * i → length t ≤ i → Put i t → t ≡ map f (wordsIn bytes)
   unfolding Put wordsIn

@@ -1,4 +1,5 @@
--- The C form of the record: what `compute` answers becomes a number and words, after the flags are checked; and for every input there is one number and one later content of record and areas.
+-- The C form of the record: what `compute` answers becomes a number and words, after the flags are checked; and for every input there is
+-- one number and one later content of record and areas.
 use mathlib.Core.Path.{_≡_, refl, sym, ap, _∙_}
 use Prim.Native.Nat.{ℕ, _+_}
 use mathlib.Core.Bool.{Bool, true, false, not}

@@ -1,4 +1,5 @@
--- The C form of the record: what `compute` answers becomes a number and words, after the flags are checked; and for every input there is one number and one later content of record and areas.
+-- The C form of the record: what `compute` answers becomes a number and words, after the flags are checked; and for every input there is
+-- one number and one later content of record and areas.
 use mathlib.Core.Path.{_≡_, refl, sym, ap, _∙_}
 use Prim.Native.Nat.{ℕ, _+_}
 use mathlib.Core.Bool.{Bool, true, false, not, cond}
@@ -96,8 +97,3 @@ module _ (vs : List Float) (ids : List ℕ) (u : Float) (clip defect : ℕ) (w r
 pub compute-numbered-one : ComputeNumberedOne
 compute-numbered-one vs ids u clip defect w r s words n m w₁ w₂ r₁ r₂ s₁ s₂ words₁ words₂ x y =
     (x .number ∙ sym (y .number), x .record-words ∙ sym (y .record-words), x .work ∙ sym (y .work), x .raster ∙ sym (y .raster), x .surfaces ∙ sym (y .surfaces))
-
--- a record has 17 words
-pub words-seventeen : (q : MeshQto) → length (wordsOf q) ≡ 17
-unfolding wordsOf
-words-seventeen q = refl

@@ -72,7 +72,8 @@ pub extern "C" fn mf_compute(
     surfaces: &mut [f32],
     record: &mut [u32; 17],
 ) -> u32
-    ensures { λ n. ⌜ ComputesNumbered (now (vertices .entry)) (now (ids .entry)) unit clip defect (now (work .entry)) (now (raster .entry)) (now (surfaces .entry)) (now («record» .entry))
+    ensures { λ n. ⌜ ComputesNumbered (now (vertices .entry)) (now (ids .entry)) unit clip defect
+        (now (work .entry)) (now (raster .entry)) (now (surfaces .entry)) (now («record» .entry))
         n (now (work .exit)) (now (raster .exit)) (now (surfaces .exit)) (now («record» .exit)) ⌝ }
 {
     if !record::flags_fit(clip, defect) {

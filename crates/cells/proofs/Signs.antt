@@ -13,7 +13,7 @@ use lib.Signed.{leZ, nonNeg}
 use mir.Syntax.{w64}
 use mir.Val.{Fits, SFits}
 use Rattle.ieee.specs.Integral.{half, halfAway, toWhole}
-use Rattle.ieee.specs.WholeNumber.{signed}
+use Rattle.ieee.specs.inner.Wholes.{signed}
 use Rattle.ieee.proofs.Patterns.Integral.{field, size-of}
 use Rattle.ieee.proofs.Patterns.Rounding.{few, nearest-signed}
 use Rattle.ids.specs.Uses.{bit}

@@ -4,7 +4,7 @@ ghost use lib.Ieee.{binary32, ofBits};
 ghost use mathlib.Core.Path.{_≡_};
 ghost use Prim.Native.Nat.{_+_, _*_, _/_, _%_, _<_, _^_};
 ghost use Rattle.ieee.specs.Cube.{cubeAbove};
-ghost use Rattle.ieee.specs.Fields.{exp, sig};
+ghost use Rattle.ieee.specs.inner.Fields.{exp, sig};
 use patterns::bits32;
 
 // What the sign counts in an `f32`'s pattern, and what the exponent's field does.

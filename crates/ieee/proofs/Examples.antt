@@ -11,7 +11,8 @@ use Rattle.ieee.specs.Rounded.{rounded}
 use Rattle.ieee.proofs.Patterns.Signs.{sign-cleared}
 
 pub examples : Examples
-unfolding isNan lt ofBits round toBits toSigned toUnsigned integral rounded size units digits floorRoot closestRoot rootRound root magnitude least greatest cubeAbove
+unfolding isNan lt ofBits round toBits toSigned toUnsigned integral rounded size units digits floorRoot closestRoot rootRound root
+    magnitude least greatest cubeAbove
 examples =
     record {
       nan-32 = refl;

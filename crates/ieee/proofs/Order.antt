@@ -4,7 +4,6 @@ pub mod Comparison
 pub mod Signed
 pub mod Extremes
 pub mod Monotone
-pub mod Rising
 pub mod Differences
 pub mod Magnitudes
 pub mod Quotients

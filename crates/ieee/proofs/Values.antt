@@ -4,6 +4,5 @@ pub mod ByValue
 pub mod Unchanged
 pub mod Totals
 pub mod Negation
-pub mod NegatedSum
 pub mod Root
 pub mod Cube

@@ -53,7 +53,8 @@ pub record LeastAbove (x r : Float) : Type 0 where
   pub at-least : T (le x r)
   pub least : (z : Float) → NoFraction z → T (le x z) → T (le r z)
 
--- No whole number is nearer to the size a / b than w: a / b is less than w + 1/2, and w - 1/2 at least. So a half goes away from zero. (`half-away-is`)
+-- No whole number is nearer to the size a / b than w: a / b is less than w + 1/2, and w - 1/2 at least. So a half goes away from
+-- zero. (`half-away-is`)
 pub record HalfAway (a b w : ℕ) : Type 0 where
   pub at-most : 2 * a < (2 * w + 1) * b
   pub at-least : (p : ℕ) → w ≡ p + 1 → (2 * p + 1) * b ≤ 2 * a

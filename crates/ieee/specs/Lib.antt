@@ -1,5 +1,5 @@
--- What the contracts of `floats` cite, one idea a file, over both formats; `Nearest`, `Integer` and the records of `Integral` say what that is worth to a
--- reader, `Answers` that it leaves no choice, and `Examples` tries each on a few values. `WholeNumber` says what the laws on whole numbers suppose.
+-- What the contracts of `floats` cite, one idea a file, over both formats; `Nearest`, `Integer` and the records of `Integral` say what
+-- that is worth to a reader, `Answers` that it leaves no choice, and `Examples` tries each on a few values. `WholeNumber` is demand 3's.
 -- A conversion to an integer is the model's own `toSigned` or `toUnsigned`, a pattern its `toBits` and `ofBits`.
 pub mod Magnitude
 pub mod Order
@@ -11,7 +11,7 @@ pub mod WholeNumber
 pub mod Nearest
 pub mod Cube
 pub mod Answers
-pub mod Fields
 pub mod Single
 pub mod Double
 pub mod Examples
+pub mod inner

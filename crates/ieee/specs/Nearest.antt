@@ -5,8 +5,9 @@ use lib.Ieee.{Float, Format, toBits}
 use lib.Ieee.Positive.{num, den}
 
 -- IEEE 754-2019 4.3.1, roundTiesToEven: r, the rounded a / b, against any other finite value v of the format, by size.
--- a / b lies on r's side of the middle of the two, so v is no nearer. On the middle itself both are as near, and r has the even pattern. (`round-nearest`)
--- r is finite below 2 ^ emax * (2 - 2 ^ -prec), the middle of the largest value and the next power of two, and an infinity from there on. (`round-finite`, `round-inf`)
+-- a / b lies on r's side of the middle of the two, so v is no nearer. On the middle itself both are as near, and r has the even
+-- pattern. (`round-nearest`) r is finite below 2 ^ emax * (2 - 2 ^ -prec), the middle of the largest value and the next power of two,
+-- and an infinity from there on. (`round-finite`, `round-inf`)
 pub record Nearer (f : Format) (a b : ℕ) (r v : Float) : Type 0 where
   pub below : num v * den r < num r * den v → (num r * den v + num v * den r) * b ≤ 2 * a * (den r * den v)
   pub above : num r * den v < num v * den r → 2 * a * (den r * den v) ≤ (num r * den v + num v * den r) * b

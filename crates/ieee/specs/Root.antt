@@ -19,7 +19,8 @@ floorRoot n = digits (size n) n
 unfoldable pub closestRoot : ℕ → ℕ → ℕ
 closestRoot a b = let q = floorRoot (a / b) in nearest q (compare (4 * a) ((2 * q + 1) * (2 * q + 1) * b))
 
--- What it is worth: no whole number is nearer to √(a / b) than r, since √(a / b) is at most r + 1/2, and at least r - 1/2. (`closestRoot-nearest`)
+-- What it is worth: no whole number is nearer to √(a / b) than r, since √(a / b) is at most r + 1/2, and at least r - 1/2.
+-- (`closestRoot-nearest`)
 pub record NearestRoot (a b r : ℕ) : Type 0 where
   pub at-most : 4 * a ≤ (2 * r + 1) * (2 * r + 1) * b
   pub at-least : (q : ℕ) → r ≡ q + 1 → (2 * q + 1) * (2 * q + 1) * b ≤ 4 * a
@@ -33,7 +34,8 @@ rootRound f num den =
     let k = size (floorRoot (n / den)) - prec f in
     units f false (closestRoot n (den * (2 ^ k * 2 ^ k))) k
 
--- IEEE 754-2019 5.4.1, squareRoot: of -0 it is -0, and of any other number below zero a NaN. (`root-nearest`: no value of the format is nearer.)
+-- IEEE 754-2019 5.4.1, squareRoot: of -0 it is -0, and of any other number below zero a NaN.
+-- (`root-nearest`: no value of the format is nearer.)
 unfoldable pub root : Format → Float → Float
 root f nan = nan
 root f (inf s) = cond s nan (inf false)

@@ -1,30 +1,10 @@
--- What it means that a float is a whole number: the premise of the laws on whole-number meshes.
-use mathlib.Core.Path.{_≡_}
-use mathlib.Core.Bool.{Bool, true, false, not}
-use Prim.Native.Nat.{ℕ, _^_, _≤_}
-use lib.IntN.{ℤ, pos, negℤ, natAbs}
+-- What it means that a float is a whole number: the premise of demand 3.
+use mathlib.Core.Bool.{not}
+use lib.IntN.{ℤ, natAbs}
 use lib.Signed.{nonNeg}
-use lib.Ieee.{Float, Format, prec}
+use lib.Ieee.{Float}
 use lib.Ieee.Exact.{HasValue}
 
 -- x is the integer z, and is no -0: finite, of z's sign, and |z| / 1 in size
 abbrev pub IsWhole : Float → ℤ → Type 0
 IsWhole x z = HasValue x (not (nonNeg z)) (natAbs z) 1
-
--- the integer of a sign and a size
-abbrev pub signed : Bool → ℕ → ℤ
-signed false n = pos n
-signed true n = negℤ (pos n)
-
--- x is the integer z, as a zero of either sign: 0 * -1 is -0
-pub record EqualsWhole (x : Float) (z : ℤ) : Type 0 where
-  pub sign : Bool
-  pub size : ℕ
-  pub value : HasValue x sign size 1
-  pub is : signed sign size ≡ z
-
--- x is some integer up to 2 ^ prec either way: among those the format has no gap
-pub record SmallWhole (f : Format) (x : Float) : Type 0 where
-  pub at : ℤ
-  pub small : natAbs at ≤ 2 ^ prec f
-  pub is : IsWhole x at

@@ -8,7 +8,7 @@ ghost use lib.IntN.{pos};
 ghost use mathlib.Core.Bool.{false};
 ghost use mathlib.Core.Path.{_≡_};
 ghost use Prim.Native.Nat.{_/_, _<_, _^_};
-ghost use Rattle.ieee.specs.Fields.{sized};
+ghost use Rattle.ieee.specs.inner.Fields.{sized};
 use patterns::FIELD;
 use patterns::SIGN;
 use patterns::bits64;

@@ -5,8 +5,8 @@ use Rattle.ids.specs.Uses.{bit}
 use Rattle.record.specs.Names.{qualityName, methodName, profileName}
 use Rattle.spelling.specs.Text.{glyph, hex, bits, decimalIn, line}
 use Rattle.listing.specs.Listing.{trustLines, numberLines, prismText, countLines, rowLine, rowLines, headLines, listingOf}
-use Rattle.listing.specs.Cube.{cubeRecord, cubeRows, text, cubeText, CubeLines}
+use Rattle.listing.specs.Cube.{cubeRecord, cubeRows, endedLines, cubeText, CubeLines}
 
 pub cube-lines : CubeLines
-unfolding CubeLines cubeRecord cubeRows text cubeText qualityName methodName profileName bit glyph hex bits decimalIn line trustLines numberLines prismText countLines rowLine rowLines headLines listingOf toBits ofBits
+unfolding CubeLines cubeRecord cubeRows endedLines cubeText qualityName methodName profileName bit glyph hex bits decimalIn line trustLines numberLines prismText countLines rowLine rowLines headLines listingOf toBits ofBits
 cube-lines = refl

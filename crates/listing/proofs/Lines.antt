@@ -17,7 +17,7 @@ use Rattle.record.specs.declared.ProfileDefect.{ProfileDefect}
 use Rattle.record.specs.Names.{qualityName, methodName, defectName, profileName}
 use Rattle.record.specs.Numbers.{qualityNumber, methodNumber, defectNumber, profileNumber}
 use Rattle.spelling.specs.Text.{codes, glyph, hex, bits, decimalIn, decimal, line}
-use Rattle.spelling.specs.Steps.{Puts, lineOf, filledAt, filled}
+use Rattle.spelling.specs.inner.Steps.{PutsText, lineOf, filledAt, filled}
 use Rattle.listing.specs.Listing.{numberLines, prismText}
 
 -- what is put is the text that is wanted, and that has n bytes at most
@@ -25,7 +25,7 @@ pub record Spells (put text : List ℕ) (n : ℕ) : Type 0 where
   pub is : put ≡ text
   pub short : length text ≤ n
 
-pub spells-puts : {put text : List ℕ} {n at r : ℕ} {t t′ : List ℕ} → Spells put text n → Puts at put t r t′ → Puts at text t r t′ × (r ≤ at + n)
+pub spells-puts : {put text : List ℕ} {n at r : ℕ} {t t′ : List ℕ} → Spells put text n → PutsText at put t r t′ → PutsText at text t r t′ × (r ≤ at + n)
 spells-puts s p = (rw (← s .is) p, omega (arith, p .place, ap length (s .is), s .short))
 
 -- ---- of several lines the one with the number of the case

@@ -11,8 +11,8 @@ use lib.Ieee.{Float}
 use Rattle.record.specs.declared.MeshQto.{MeshQto}
 use Rattle.listing.specs.declared.Listed.{Listed}
 use Rattle.listing.specs.Listing.{refusedLine}
-use Rattle.listing.specs.Lists.{textBytes, areasShort, listedAs, areaWith, listingFor, Lists, ListsRefusal, ListOne, ListRefusalOne}
-use Rattle.spelling.specs.Steps.{written, Puts}
+use Rattle.listing.specs.Lists.{textBytes, textAreasShort, listedAs, areaWith, listingFor, Lists, ListsRefusal, ListOne, ListRefusalOne}
+use Rattle.spelling.specs.inner.Steps.{written, PutsText}
 
 -- ---- too short, or not
 
@@ -20,7 +20,7 @@ neither : (a b : Bool) → a || b ≡ false → (a ≡ false) × (b ≡ false)
 neither true b h = absurd (true≢false h)
 neither false b h = (refl, h)
 
-pub areas-fit : (n s t : ℕ) → areasShort n s t ≡ false → (4 * n ≤ s) × (320 + 36 * n ≤ t)
+pub areas-fit : (n s t : ℕ) → textAreasShort n s t ≡ false → (4 * n ≤ s) × (320 + 36 * n ≤ t)
 unfolding textBytes
 areas-fit n s t h =
     let e = neither (ltb s (4 * n)) (ltb t (320 + 36 * n)) h in
@@ -33,15 +33,15 @@ module _ (short : Bool) (text area : List ℕ) where
   unfolding listedAs areaWith
   when-short h = rw h (refl, refl)
 
-  when-put : short ≡ false → (r : ℕ) (area′ : List ℕ) → Puts 0 text area r area′ → (Listed.Length r ≡ listedAs short text) × (area′ ≡ areaWith short text area)
+  when-put : short ≡ false → (r : ℕ) (area′ : List ℕ) → PutsText 0 text area r area′ → (Listed.Length r ≡ listedAs short text) × (area′ ≡ areaWith short text area)
   unfolding listedAs areaWith written
   when-put h r area′ p = rw h (ap Listed.Length (p .place ∙ zero-add (length text)), p .later ∙ ap (λ (n : ℕ). text ++ drop n area) (zero-add (length text)))
 
-module _ (q : MeshQto) (s : List Float) (pieces : ℕ) (area : List ℕ) (short : Bool) (is : short ≡ areasShort (q .«surface_count») (length s) (length area)) where
+module _ (q : MeshQto) (s : List Float) (pieces : ℕ) (area : List ℕ) (short : Bool) (is : short ≡ textAreasShort (q .«surface_count») (length s) (length area)) where
   pub list-short : short ≡ true → Lists q s pieces area (Listed.Refused 3) area
   list-short h = let w = when-short _ (listingFor q s pieces) area (sym is ∙ h) in record { answers = w .0; text = w .1 }
 
-  pub list-put : short ≡ false → (r : ℕ) (area′ : List ℕ) → Puts 0 (listingFor q s pieces) area r area′ → Lists q s pieces area (Listed.Length r) area′
+  pub list-put : short ≡ false → (r : ℕ) (area′ : List ℕ) → PutsText 0 (listingFor q s pieces) area r area′ → Lists q s pieces area (Listed.Length r) area′
   list-put h r area′ p = let w = when-put _ (listingFor q s pieces) area (sym is ∙ h) r area′ p in record { answers = w .0; text = w .1 }
 
 module _ (n : ℕ) (area : List ℕ) where
@@ -49,7 +49,7 @@ module _ (n : ℕ) (area : List ℕ) where
   unfolding textBytes
   refusal-short h = let w = when-short _ (refusedLine n) area (lt-ltb (length area) 320 h) in record { answers = w .0; text = w .1 }
 
-  pub refusal-put : 320 ≤ length area → (r : ℕ) (area′ : List ℕ) → Puts 0 (refusedLine n) area r area′ → ListsRefusal n area (Listed.Length r) area′
+  pub refusal-put : 320 ≤ length area → (r : ℕ) (area′ : List ℕ) → PutsText 0 (refusedLine n) area r area′ → ListsRefusal n area (Listed.Length r) area′
   unfolding textBytes
   refusal-put h r area′ p = let w = when-put _ (refusedLine n) area (le-ltb (length area) 320 h) r area′ p in record { answers = w .0; text = w .1 }
 

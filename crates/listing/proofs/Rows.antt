@@ -10,7 +10,7 @@ use Rattle.rows.specs.declared.PlanarSurface.{PlanarSurface}
 use Rattle.rows.specs.Rows.{rowsOf}
 use Rattle.rows.proofs.Flat.{length-rows}
 use Rattle.spelling.specs.Text.{codes, hex, bits}
-use Rattle.spelling.specs.Steps.{filledAt, filled}
+use Rattle.spelling.specs.inner.Steps.{filledAt, filled}
 use Rattle.listing.specs.Listing.{rowLine, rowLines}
 
 drop-more : (s : List Float) (i j : ℕ) → j ≡ suc i → i < length s → drop i s ≡ getD s i nan ∷ drop j s

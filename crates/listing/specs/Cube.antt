@@ -14,48 +14,48 @@ use Rattle.record.specs.declared.Profile.{Profile}
 use Rattle.spelling.specs.Text.{codes}
 use Rattle.listing.specs.Listing.{listingOf}
 
-abbrev pub single : ℕ → Float
-single b = ofBits binary32 b
+abbrev pub f32Of : ℕ → Float
+f32Of b = ofBits binary32 b
 
 unfoldable pub cubeRecord : MeshQto
 cubeRecord =
     record {
-      «volume_m3» = single 0x4100_0000;
-      «aabb_volume_m3» = single 0x4100_0000;
-      «surface_area_m2» = single 0x41c0_0000;
-      «area_top_m2» = single 0x4080_0000;
-      «area_bottom_m2» = single 0x4080_0000;
-      «area_side_m2» = single 0x4180_0000;
-      «area_inclined_m2» = single 0;
-      «largest_surface_m2» = single 0x4080_0000;
-      «smallest_surface_m2» = single 0x4080_0000;
+      «volume_m3» = f32Of 0x4100_0000;
+      «aabb_volume_m3» = f32Of 0x4100_0000;
+      «surface_area_m2» = f32Of 0x41c0_0000;
+      «area_top_m2» = f32Of 0x4080_0000;
+      «area_bottom_m2» = f32Of 0x4080_0000;
+      «area_side_m2» = f32Of 0x4180_0000;
+      «area_inclined_m2» = f32Of 0;
+      «largest_surface_m2» = f32Of 0x4080_0000;
+      «smallest_surface_m2» = f32Of 0x4080_0000;
       «surface_count» = 6;
       «mesh_quality» = Quality.Closed;
       «volume_reliable» = true;
       «volume_method» = Method.Mesh;
-      «volume_best_m3» = single 0x4100_0000;
+      «volume_best_m3» = f32Of 0x4100_0000;
       «volume_prism_bound_m3» = PrismBound.NotComputed;
       «profile_invalid» = Profile.Valid;
     }
 
 -- four square units towards nx, ny, nz
-abbrev pub side : ℕ → ℕ → ℕ → PlanarSurface
-side x y z = record { area = single 0x4080_0000; nx = single x; ny = single y; nz = single z }
+abbrev pub cubeSide : ℕ → ℕ → ℕ → PlanarSurface
+cubeSide x y z = record { area = f32Of 0x4080_0000; nx = f32Of x; ny = f32Of y; nz = f32Of z }
 
 unfoldable pub cubeRows : List PlanarSurface
 cubeRows =
-    side 0xbf80_0000 0 0
-    ∷ side 0 0xbf80_0000 0
-    ∷ side 0 0 0xbf80_0000
-    ∷ side 0 0 0x3f80_0000
-    ∷ side 0 0x3f80_0000 0
-    ∷ side 0x3f80_0000 0 0
+    cubeSide 0xbf80_0000 0 0
+    ∷ cubeSide 0 0xbf80_0000 0
+    ∷ cubeSide 0 0 0xbf80_0000
+    ∷ cubeSide 0 0 0x3f80_0000
+    ∷ cubeSide 0 0x3f80_0000 0
+    ∷ cubeSide 0x3f80_0000 0 0
     ∷ []
 
 -- lines, each with its end
-unfoldable pub text : List String → List ℕ
-text [] = []
-text (l ∷ ls) = codes l ++ (codes "\n" ++ text ls)
+unfoldable pub endedLines : List String → List ℕ
+endedLines [] = []
+endedLines (l ∷ ls) = codes l ++ (codes "\n" ++ endedLines ls)
 
 unfoldable pub cubeText : List String
 cubeText =
@@ -86,4 +86,4 @@ cubeText =
 
 -- a cube of one piece
 unfoldable pub CubeLines : Type 0
-CubeLines = listingOf cubeRecord cubeRows 1 ≡ text cubeText
+CubeLines = listingOf cubeRecord cubeRows 1 ≡ endedLines cubeText

@@ -46,7 +46,11 @@ rowLines (r ∷ rs) = rowLine r ++ rowLines rs
 
 -- the lines above the rows
 unfoldable pub headLines : MeshQto → ℕ → List ℕ
-headLines q pieces = trustLines q ++ (numberLines q ++ (line "prism " (prismText (q .«volume_prism_bound_m3»)) ++ countLines pieces (q .«surface_count»)))
+headLines q pieces =
+    trustLines q
+    ++ (numberLines q
+    ++ (line "prism " (prismText (q .«volume_prism_bound_m3»))
+    ++ countLines pieces (q .«surface_count»)))
 
 -- of a record, its surface rows and the number of pieces
 unfoldable pub listingOf : MeshQto → List PlanarSurface → ℕ → List ℕ

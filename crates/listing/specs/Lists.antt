@@ -16,8 +16,8 @@ unfoldable pub textBytes : ℕ → ℕ
 textBytes n = 320 + 36 * n
 
 -- whether a surface area of s floats or a text area of t bytes is too short for n rows
-abbrev pub areasShort : ℕ → ℕ → ℕ → Bool
-areasShort n s t = ltb s (4 * n) || ltb t (textBytes n)
+abbrev pub textAreasShort : ℕ → ℕ → ℕ → Bool
+textAreasShort n s t = ltb s (4 * n) || ltb t (textBytes n)
 
 -- refusal 3 for areas that are too short, or how long the text is
 unfoldable pub listedAs : Bool → List ℕ → Listed
@@ -33,10 +33,11 @@ areaWith false text area = text ++ drop (length text) area
 unfoldable pub listingFor : MeshQto → List Float → ℕ → List ℕ
 listingFor q s pieces = listingOf q (rowsOf (take (4 * q .«surface_count») s)) pieces
 
--- The complete contract of `list`: of a record, its surface area s, the number of pieces and a text area come the answer r and the later area.
+-- The complete contract of `list`: of a record, its surface area s, the number of pieces and a text area come the answer r and
+-- the later area.
 pub record Lists (q : MeshQto) (s : List Float) (pieces : ℕ) (area : List ℕ) (r : Listed) (area′ : List ℕ) : Type 0 where
-  pub answers : r ≡ listedAs (areasShort (q .«surface_count») (length s) (length area)) (listingFor q s pieces)
-  pub text : area′ ≡ areaWith (areasShort (q .«surface_count») (length s) (length area)) (listingFor q s pieces) area
+  pub answers : r ≡ listedAs (textAreasShort (q .«surface_count») (length s) (length area)) (listingFor q s pieces)
+  pub text : area′ ≡ areaWith (textAreasShort (q .«surface_count») (length s) (length area)) (listingFor q s pieces) area
 
 -- and of `list_refusal`
 pub record ListsRefusal (n : ℕ) (area : List ℕ) (r : Listed) (area′ : List ℕ) : Type 0 where

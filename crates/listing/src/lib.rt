@@ -4,10 +4,10 @@ ghost use Prim.Native.Nat.{_+_, _*_, _≤_, _<_};
 ghost use lib.ListN.{length};
 ghost use Rattle.rows.specs.Rows.{rowsOf};
 ghost use Rattle.spelling.specs.Text.{line};
-ghost use Rattle.spelling.specs.Steps.{Puts};
+ghost use Rattle.spelling.specs.inner.Steps.{PutsText};
 ghost use Rattle.listing.specs.Listing.{trustLines, numberLines, prismText, countLines, rowLines, headLines};
 ghost use Rattle.listing.specs.Lists.{Lists, ListsRefusal};
-ghost use Rattle.listing.specs.Steps.{Short};
+ghost use Rattle.listing.specs.inner.Steps.{Short};
 use record::MeshQto;
 use volume::PrismBound;
 
@@ -22,7 +22,7 @@ pub enum Listed {
 // The cases of the record. The lines of an enum stand by the numbers of `record`.
 fn trust_lines(out: &mut [u8], at: usize, q: MeshQto) -> usize
     requires { ⌜ at + 276 ≤ length (now out) ⌝ }
-    ensures { λ r. ⌜ Puts at (trustLines q) (now (out .entry)) r (now (out .exit)) × (r ≤ at + 84) ⌝ }
+    ensures { λ r. ⌜ PutsText at (trustLines q) (now (out .entry)) r (now (out .exit)) × (r ≤ at + 84) ⌝ }
 {
     let quality = q.mesh_quality;
     let method = q.volume_method;
@@ -55,7 +55,7 @@ fn trust_lines(out: &mut [u8], at: usize, q: MeshQto) -> usize
 
 fn number_lines(out: &mut [u8], at: usize, q: MeshQto) -> usize
     requires { ⌜ at + 157 ≤ length (now out) ⌝ }
-    ensures { λ r. ⌜ Puts at (numberLines q) (now (out .entry)) r (now (out .exit)) × (r ≤ at + 157) ⌝ }
+    ensures { λ r. ⌜ PutsText at (numberLines q) (now (out .entry)) r (now (out .exit)) × (r ≤ at + 157) ⌝ }
 {
     spelling::fill(
         out,
@@ -78,7 +78,7 @@ fn number_lines(out: &mut [u8], at: usize, q: MeshQto) -> usize
 
 fn prism_line(out: &mut [u8], at: usize, prism: PrismBound) -> usize
     requires { ⌜ at + 15 ≤ length (now out) ⌝ }
-    ensures { λ r. ⌜ Puts at (line "prism " (prismText prism)) (now (out .entry)) r (now (out .exit)) × (r ≤ at + 15) ⌝ }
+    ensures { λ r. ⌜ PutsText at (line "prism " (prismText prism)) (now (out .entry)) r (now (out .exit)) × (r ≤ at + 15) ⌝ }
 {
     match prism {
         PrismBound::NotComputed => spelling::put(out, at, b"prism none\n"),
@@ -88,7 +88,7 @@ fn prism_line(out: &mut [u8], at: usize, prism: PrismBound) -> usize
 
 fn count_lines(out: &mut [u8], at: usize, pieces: u32, surfaces: u32) -> usize
     requires { ⌜ at + 38 ≤ length (now out) ⌝ }
-    ensures { λ r. ⌜ Puts at (countLines pieces surfaces) (now (out .entry)) r (now (out .exit)) × (r ≤ at + 38) ⌝ }
+    ensures { λ r. ⌜ PutsText at (countLines pieces surfaces) (now (out .entry)) r (now (out .exit)) × (r ≤ at + 38) ⌝ }
 {
     let a = spelling::count_line(out, at, b"pieces ", pieces);
     spelling::count_line(out, a, b"surfaces ", surfaces)
@@ -97,7 +97,7 @@ fn count_lines(out: &mut [u8], at: usize, pieces: u32, surfaces: u32) -> usize
 // All lines above the rows.
 fn head_lines(out: &mut [u8], q: MeshQto, pieces: u32) -> usize
     requires { ⌜ 320 ≤ length (now out) ⌝ }
-    ensures { λ r. ⌜ Puts 0 (headLines q pieces) (now (out .entry)) r (now (out .exit)) × (r ≤ 320) ⌝ }
+    ensures { λ r. ⌜ PutsText 0 (headLines q pieces) (now (out .entry)) r (now (out .exit)) × (r ≤ 320) ⌝ }
 {
     let prism = q.volume_prism_bound_m3;
     let a = trust_lines(out, 0, q);
@@ -109,7 +109,7 @@ fn head_lines(out: &mut [u8], q: MeshQto, pieces: u32) -> usize
 // n rows of four floats.
 fn row_lines(out: &mut [u8], at: usize, surfaces: &[f32], n: usize) -> usize
     requires { ⌜ (length (now surfaces) ≡ 4 * n) × (at + 36 * n ≤ length (now out)) ⌝ }
-    ensures { λ r. ⌜ Puts at (rowLines (rowsOf (now (surfaces .entry)))) (now (out .entry)) r (now (out .exit)) ⌝ }
+    ensures { λ r. ⌜ PutsText at (rowLines (rowsOf (now (surfaces .entry)))) (now (out .entry)) r (now (out .exit)) ⌝ }
 {
     let mut end = at;
     let mut i = 0;

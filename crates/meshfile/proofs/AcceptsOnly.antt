@@ -10,9 +10,9 @@ use lib.ListN.{length, take, drop, length-drop, take-append-drop, drop-of-length
 use lib.Seq.{drop-drop, drop-cons, length-take-le}
 use Rattle.record.specs.Numbers.{flagsFit}
 use Rattle.meshfile.specs.declared.Parts.{Parts}
-use Rattle.meshfile.specs.Format.{byte, half, word, words, Contents}
-use Rattle.meshfile.specs.Steps.{contentsAt}
-use Rattle.meshfile.specs.Written.{bytesOf, allBytes, recordOf, plain, withFlags, Below, Proper, IsFileOf, AcceptsOnly}
+use Rattle.meshfile.specs.Format.{byte, u16At, u32At, wordsIn, Contents}
+use Rattle.meshfile.specs.inner.Steps.{contentsAt}
+use Rattle.meshfile.specs.Written.{bytesOf, allBytes, chunkOf, plainFile, flaggedFile, Below, Proper, IsFileOf, AcceptsOnly}
 use Rattle.meshfile.proofs.Fronts.{Record}
 use Rattle.meshfile.proofs.Endings.{Flags, Ends, plain as endsPlain, flags as endsFlags, ends}
 use Rattle.meshfile.proofs.Words.{word-drop}
@@ -26,8 +26,9 @@ use Rattle.meshfile.proofs.Accepts.{appended}
 header : (a b c d n : ℕ) → a < 256 → b < 256 → c < 256 → d < 256 → four a b c d ≡ n → bytesOf n ≡ a ∷ b ∷ c ∷ d ∷ []
 header a b c d n ha hb hc hd e = ap bytesOf (sym e) ∙ bytes-back a b c d ha hb hc hd
 
-pub rebuilt : (kind n : ℕ) (l : List ℕ) → kind < 256 → Below 256 l → Record kind n l → l ≡ recordOf kind (take n (drop 6 l)) ++ drop (6 + n) l
-unfolding recordOf half word Below
+pub rebuilt : (kind n : ℕ) (l : List ℕ) → kind < 256 → Below 256 l → Record kind n l
+    → l ≡ chunkOf kind (take n (drop 6 l)) ++ drop (6 + n) l
+unfolding chunkOf u16At u32At Below
 rebuilt kind n [] k h r = absurd (omega (arith, r .room))
 rebuilt kind n (a ∷ []) k h r = absurd (omega (arith, r .room))
 rebuilt kind n (a ∷ b ∷ []) k h r = absurd (omega (arith, r .room))
@@ -38,24 +39,17 @@ rebuilt kind n (a ∷ b ∷ c ∷ d ∷ e ∷ z ∷ l) k h r =
     let size : length (take n l) ≡ n = length-take-le n l (omega (arith, r .room)) in
     let ez : z ≡ 0 = omega (arith, r .kind-is) in
     let ee : e ≡ kind = omega (arith, r .kind-is) in
-    rw (size, header a b c d n (h .0) (h .1 .0) (h .1 .1 .0) (h .1 .1 .1 .0) (r .size), ← drop-drop n 6 (a ∷ b ∷ c ∷ d ∷ e ∷ z ∷ l), take-append-drop n l, ez, ee)
+    let four = header a b c d n (h .0) (h .1 .0) (h .1 .1 .0) (h .1 .1 .1 .0) (r .size) in
+    rw (size, four, ← drop-drop n 6 (a ∷ b ∷ c ∷ d ∷ e ∷ z ∷ l), take-append-drop n l, ez, ee)
 
 -- the unit's four bytes
-four-taken : (l : List ℕ) → Below 256 l → 4 ≤ length l → bytesOf (word l 0) ≡ take 4 l
-unfolding word Below
+four-taken : (l : List ℕ) → Below 256 l → 4 ≤ length l → (bytesOf (u32At l 0) ≡ take 4 l) × (u32At l 0 < 2 ^ 32)
+unfolding u32At Below
 four-taken [] h k = absurd (omega arith)
 four-taken (a ∷ []) h k = absurd (omega arith)
 four-taken (a ∷ b ∷ []) h k = absurd (omega arith)
 four-taken (a ∷ b ∷ c ∷ []) h k = absurd (omega arith)
-four-taken (a ∷ b ∷ c ∷ d ∷ l) h k = bytes-back a b c d (h .0) (h .1 .0) (h .1 .1 .0) (h .1 .1 .1 .0)
-
-word-below : (l : List ℕ) → Below 256 l → 4 ≤ length l → word l 0 < 2 ^ 32
-unfolding word Below
-word-below [] h k = absurd (omega arith)
-word-below (a ∷ []) h k = absurd (omega arith)
-word-below (a ∷ b ∷ []) h k = absurd (omega arith)
-word-below (a ∷ b ∷ c ∷ []) h k = absurd (omega arith)
-word-below (a ∷ b ∷ c ∷ d ∷ l) h k = four-below a b c d (h .0) (h .1 .0) (h .1 .1 .0) (h .1 .1 .1 .0)
+four-taken (a ∷ b ∷ c ∷ d ∷ l) (ha, (hb, (hc, (hd, hl)))) k = (bytes-back a b c d ha hb hc hd, four-below a b c d ha hb hc hd)
 
 -- the flags' two
 two-taken : (l : List ℕ) → length l ≡ 8 → take 2 (drop 6 l) ≡ byte l 6 ∷ byte l 7 ∷ []
@@ -64,15 +58,15 @@ two-taken l e =
     let seven : 7 < length l = omega arith in
     rw (drop-cons l 6 0 six, drop-cons l 7 0 seven)
 
-flags-rebuilt : (c d : ℕ) (l : List ℕ) → Below 256 l → Flags c d l → l ≡ recordOf 4 (c ∷ d ∷ [])
+flags-rebuilt : (c d : ℕ) (l : List ℕ) → Below 256 l → Flags c d l → l ≡ chunkOf 4 (c ∷ d ∷ [])
 flags-rebuilt c d l h f =
     let long : length l ≤ 8 = omega (arith, f .exact) in
     rebuilt 4 2 l (omega arith) h (f .record-is)
-    ∙ ap (λ (r : List ℕ). recordOf 4 (take 2 (drop 6 l)) ++ r) (drop-of-length-le l long)
+    ∙ ap (λ (r : List ℕ). chunkOf 4 (take 2 (drop 6 l)) ++ r) (drop-of-length-le l long)
     ∙ append-nil _
-    ∙ ap (recordOf 4) (two-taken l (f .exact) ∙ rw (f .clip, f .defect))
+    ∙ ap (chunkOf 4) (two-taken l (f .exact) ∙ rw (f .clip, f .defect))
 
-ends-written : {c d : ℕ} {l : List ℕ} → Below 256 l → Ends c d l → (l ≡ recordOf 4 (c ∷ d ∷ [])) ⊎ ((l ≡ []) × (c ≡ 0) × (d ≡ 0))
+ends-written : {c d : ℕ} {l : List ℕ} → Below 256 l → Ends c d l → (l ≡ chunkOf 4 (c ∷ d ∷ [])) ⊎ ((l ≡ []) × (c ≡ 0) × (d ≡ 0))
 ends-written h (endsPlain p q) = inr (refl, p, q)
 ends-written {c} {d} h (endsFlags b l f) = inl (flags-rebuilt c d (b ∷ l) h f)
 
@@ -87,19 +81,21 @@ joined : (l a b c r s t : List ℕ) → l ≡ a ++ r → r ≡ b ++ s → s ≡ 
 joined l a b c r s t p q w = p ∙ ap (λ (x : List ℕ). a ++ x) (q ∙ ap (λ (x : List ℕ). b ++ x) w) ∙ sym (appended a b c t)
 
 module _ (bytes : List ℕ) (below : Below 256 bytes) where
-  unit-part : Record 1 4 bytes → bytes ≡ recordOf 1 (bytesOf (word bytes 6)) ++ drop 10 bytes
+  unit-part : Record 1 4 bytes → bytes ≡ chunkOf 1 (bytesOf (u32At bytes 6)) ++ drop 10 bytes
   unit-part r =
       let long : 4 ≤ length (drop 6 bytes) = omega (arith, r .room, length-drop 6 bytes) in
       rebuilt 1 4 bytes (omega arith) below r
-      ∙ ap (λ (b : List ℕ). recordOf 1 b ++ drop 10 bytes) (sym (four-taken (drop 6 bytes) (below-drop 256 6 bytes below) long) ∙ ap bytesOf (word-drop 6 bytes))
+      ∙ ap (λ (b : List ℕ). chunkOf 1 b ++ drop 10 bytes)
+      (sym (four-taken (drop 6 bytes) (below-drop 256 6 bytes below) long .0) ∙ ap bytesOf (word-drop 6 bytes))
 
   -- floats and ids: words as bytes again
   words-part : (kind at body end n : ℕ) → kind < 256 → at + 6 ≡ body → body + 4 * n ≡ end → Record kind (4 * n) (drop at bytes)
-      → drop at bytes ≡ recordOf kind (allBytes (words (take (4 * n) (drop body bytes)))) ++ drop end bytes
+      → drop at bytes ≡ chunkOf kind (allBytes (wordsIn (take (4 * n) (drop body bytes)))) ++ drop end bytes
   words-part kind at body end n k eb ee r =
       let room : body + 4 * n ≤ length bytes = omega (arith, r .room, length-drop at bytes) in
       let long = part-length body (4 * n) bytes room in
-      let back = all-words (take (4 * n) (drop body bytes)) (below-take 256 (4 * n) (drop body bytes) (below-drop 256 body bytes below)) (omega arith) in
+      let back = all-words (take (4 * n) (drop body bytes))
+      (below-take 256 (4 * n) (drop body bytes) (below-drop 256 body bytes below)) (omega arith) in
       rebuilt kind (4 * n) (drop at bytes) k (below-drop 256 at bytes below) r
       ∙ rw (drop-to bytes 6 at body eb, drop-to bytes (6 + 4 * n) at end (omega arith), back)
 
@@ -110,13 +106,15 @@ module _ (bytes : List ℕ) (below : Below 256 bytes) (p : Parts) (laid : Laid b
   abbrev tail : List ℕ
   tail = drop (22 + 4 * p .floats + 4 * p .ids) bytes
 
-  split : bytes ≡ plain m ++ tail
-  unfolding plain contentsAt
+  split : bytes ≡ plainFile m ++ tail
+  unfolding plainFile contentsAt
   split =
-      joined bytes (recordOf 1 (bytesOf (m .unit))) (recordOf 2 (allBytes (m .vertices))) (recordOf 3 (allBytes (m .ids))) (drop 10 bytes) (drop (16 + 4 * p .floats) bytes) tail
+      joined bytes (chunkOf 1 (bytesOf (m .unit))) (chunkOf 2 (allBytes (m .vertices))) (chunkOf 3 (allBytes (m .ids)))
+      (drop 10 bytes) (drop (16 + 4 * p .floats) bytes) tail
       (unit-part bytes below (laid .unit))
       (words-part bytes below 2 10 16 (16 + 4 * p .floats) (p .floats) (omega arith) refl refl (laid .floats))
-      (words-part bytes below 3 (16 + 4 * p .floats) (22 + 4 * p .floats) (22 + 4 * p .floats + 4 * p .ids) (p .ids) (omega arith) (omega arith) refl (laid .ids))
+      (words-part bytes below 3 (16 + 4 * p .floats) (22 + 4 * p .floats) (22 + 4 * p .floats + 4 * p .ids) (p .ids) (omega arith)
+      (omega arith) refl (laid .ids))
 
   ending : Ends (p .clip) (p .defect) tail
   ending = ends (p .clip) (p .defect) tail (laid .end)
@@ -127,21 +125,23 @@ module _ (bytes : List ℕ) (below : Below 256 bytes) (p : Parts) (laid : Laid b
       let room = laid-inside bytes p laid in
       let long : 4 ≤ length (drop 6 bytes) = omega (arith, length-drop 6 bytes) in
       record {
-        unit = rw (word-drop 6 bytes) at (word-below (drop 6 bytes) (below-drop 256 6 bytes below) long);
+        unit = rw (word-drop 6 bytes) at (four-taken (drop 6 bytes) (below-drop 256 6 bytes below) long .1);
         vertices = words-below _ (below-take 256 (4 * p .floats) (drop 16 bytes) (below-drop 256 16 bytes below));
-        ids = words-below _ (below-take 256 (4 * p .ids) (drop (22 + 4 * p .floats) bytes) (below-drop 256 (22 + 4 * p .floats) bytes below));
+        ids =
+            words-below _ (below-take 256 (4 * p .ids) (drop (22 + 4 * p .floats) bytes) (below-drop 256 (22 + 4 * p .floats) bytes below));
         floats-most = omega (arith, part-words 16 (p .floats) bytes (omega arith), laid .floats .few);
         ids-most = omega (arith, part-words (22 + 4 * p .floats) (p .ids) bytes room, laid .ids .few);
         flags = ends-known ending;
       }
 
   is-file : IsFileOf m bytes
-  unfolding IsFileOf withFlags contentsAt
+  unfolding IsFileOf flaggedFile contentsAt
   is-file =
-      ⊎-elim (λ e. inl (split ∙ ap (λ (r : List ℕ). plain m ++ r) e)) (λ e. inr (split ∙ ap (λ (r : List ℕ). plain m ++ r) (e .0) ∙ append-nil (plain m), e .1, e .2))
+      ⊎-elim (λ e. inl (split ∙ ap (λ (r : List ℕ). plainFile m ++ r) e))
+      (λ e. inr (split ∙ ap (λ (r : List ℕ). plainFile m ++ r) (e .0) ∙ append-nil (plainFile m), e .1, e .2))
       (ends-written (below-drop 256 (22 + 4 * p .floats + 4 * p .ids) bytes below) ending)
 
 pub accepts-only : AcceptsOnly
 accepts-only m bytes below h =
     let x = held bytes m h in
-    (subst Proper (x .2) (proper bytes below (x .0) (x .1)), subst (λ (c : Contents). IsFileOf c bytes) (x .2) (is-file bytes below (x .0) (x .1)))
+    subst (λ (c : Contents). Proper c × IsFileOf c bytes) (x .2) (proper bytes below (x .0) (x .1), is-file bytes below (x .0) (x .1))

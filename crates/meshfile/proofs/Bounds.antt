@@ -1,6 +1,7 @@
--- A file is at most 12,318 bytes long, and of longer input the first 12,319 bytes decide: each test looks only at bytes that both have. Assumes nothing.
+-- A file is at most 12,318 bytes long, and of longer input the first 12,319 bytes decide: each test looks only at bytes that both have.
+-- Assumes nothing.
 use mathlib.Core.Path.{_≡_, refl, sym, ap, _∙_}
-use mathlib.Core.Bool.{Bool, true, false, not}
+use mathlib.Core.Bool.{Bool, true, false, not, cond}
 use mathlib.Core.List.{List, [], _∷_}
 use Prim.Native.Nat.{ℕ, zero, suc, _+_, _*_, _-_, _/_, _≤_, _<_}
 use native.Mathlib.Omega.{arith}
@@ -9,10 +10,11 @@ use lib.Dec.{ltb, eqb}
 use lib.ListN.{length, take, drop, length-drop}
 use lib.Seq.{length-take-le, getD-take, take-take, take-nil}
 use Rattle.meshfile.specs.declared.Front.{Front}
-use Rattle.meshfile.specs.Format.{half, word, most, lengthFits, faultIf, frontOf, flagsIn, endingOf, idsIn, verticesIn, unitIn, fileOf}
-use Rattle.meshfile.specs.Written.{FilesAreShort, FrontDecides}
+use Rattle.meshfile.specs.Format.{byte, u16At, u32At, mostInFile, lengthFits, frontOf, flagsIn, endingOf, ended, idsIn, verticesIn}
+use Rattle.meshfile.specs.Format.{unitIn, fileOf}
+use Rattle.meshfile.specs.Written.{FilesAreShort, FrontDecidesFile}
 use Rattle.meshfile.proofs.Fronts.{record-of, four-bytes, whole-words, two-bytes}
-use Rattle.meshfile.proofs.Endings.{flags-front, ending-some, Ends, plain, flags, ends}
+use Rattle.meshfile.proofs.Endings.{flags-front, ending-by, Ends, plain, flags, ends}
 use Rattle.meshfile.proofs.Layouts.{held}
 
 -- ---- the longest file
@@ -31,9 +33,11 @@ files-are-short m bytes h =
 -- ---- the first bytes decide
 
 -- a test that is tried after two others may differ where they already found a fault
-late : (b c x y : Bool) (r : Front) → (b ≡ true → c ≡ false → x ≡ y) → faultIf (not b) 5 (faultIf c 6 (faultIf x 5 r)) ≡ faultIf (not b) 5 (faultIf c 6 (faultIf y 5 r))
+late : (b c x y : Bool) (r : Front) → (b ≡ true → c ≡ false → x ≡ y)
+    → cond (not b) (Front.Fault 5) (cond c (Front.Fault 6) (cond x (Front.Fault 5) r))
+    ≡ cond (not b) (Front.Fault 5) (cond c (Front.Fault 6) (cond y (Front.Fault 5) r))
 late true true x y r h = refl
-late true false x y r h = ap (λ (z : Bool). faultIf z 5 r) (h refl refl)
+late true false x y r h = ap (λ (z : Bool). cond z (Front.Fault 5) r) (h refl refl)
 late false c x y r h = refl
 
 drop-take : (n m k : ℕ) (l : List ℕ) → k ≡ n + m → drop n (take k l) ≡ take m (drop n l)
@@ -45,22 +49,28 @@ drop-take (suc n) m (suc k) [] e = sym (take-nil m)
 drop-take (suc n) m (suc k) (a ∷ l) e = drop-take n m k l (omega arith)
 
 module _ (size : ℕ) (bytes : List ℕ) (enough : size ≤ length bytes) where
-  half-taken : (i : ℕ) → i + 1 < size → half (take size bytes) i ≡ half bytes i
-  unfolding half
-  half-taken i h = rw (getD-take size bytes i 0 (omega arith), getD-take size bytes (i + 1) 0 h)
+  same : (i : ℕ) → i < size → byte (take size bytes) i ≡ byte bytes i
+  same i h = getD-take size bytes i 0 h
 
-  word-taken : (i : ℕ) → i + 3 < size → word (take size bytes) i ≡ word bytes i
-  unfolding word
-  word-taken i h = rw (getD-take size bytes i 0 (omega arith), getD-take size bytes (i + 1) 0 (omega arith), getD-take size bytes (i + 2) 0 (omega arith), getD-take size bytes (i + 3) 0 h)
+  half-taken : (i : ℕ) → i + 1 < size → u16At (take size bytes) i ≡ u16At bytes i
+  unfolding u16At
+  half-taken i h = rw (same i (omega arith), same (i + 1) h)
 
-  front-taken : (kind : ℕ) → 6 ≤ size → ((n : ℕ) → lengthFits kind n ≡ true → n / 4 ≤ most → 6 + n ≤ size) → frontOf kind (take size bytes) ≡ frontOf kind bytes
+  word-taken : (i : ℕ) → i + 3 < size → u32At (take size bytes) i ≡ u32At bytes i
+  unfolding u32At
+  word-taken i h = rw (same i (omega arith), same (i + 1) (omega arith), same (i + 2) (omega arith), same (i + 3) h)
+
+  front-taken : (kind : ℕ) → 6 ≤ size → ((n : ℕ) → lengthFits kind n ≡ true → n / 4 ≤ mostInFile → 6 + n ≤ size)
+      → frontOf kind (take size bytes) ≡ frontOf kind bytes
   unfolding frontOf
   front-taken kind h fits =
-      let n = word bytes 0 in
-      rw (length-take-le size bytes enough, half-taken 4 (omega arith), word-taken 0 (omega arith), le-ltb size 6 h, le-ltb (length bytes) 6 (omega arith))
-      (ap (faultIf (not (eqb (half bytes 4) kind)) 5)
-      (late (lengthFits kind n) (ltb most (n / 4)) (ltb size (6 + n)) (ltb (length bytes) (6 + n)) (Front.Payload n)
-      (λ a b. let k = fits n a (ltb-false most (n / 4) b) in le-ltb size (6 + n) k ∙ sym (le-ltb (length bytes) (6 + n) (omega arith)))))
+      let n = u32At bytes 0 in
+      let long = le-ltb (length bytes) 6 (omega arith) in
+      rw (length-take-le size bytes enough, half-taken 4 (omega arith), word-taken 0 (omega arith), le-ltb size 6 h, long)
+      (ap (cond (not (eqb (u16At bytes 4) kind)) (Front.Fault 5))
+      (late (lengthFits kind n) (ltb mostInFile (n / 4)) (ltb size (6 + n)) (ltb (length bytes) (6 + n)) (Front.Payload n)
+      (λ a b. let k = fits n a (ltb-false mostInFile (n / 4) b) in
+      le-ltb size (6 + n) k ∙ sym (le-ltb (length bytes) (6 + n) (omega arith)))))
 
   -- what lies within both is the same, and what is behind is a front of what is behind
   part-taken : (n k : ℕ) → n + k ≤ size → take k (drop n (take size bytes)) ≡ take k (drop n bytes)
@@ -82,18 +92,20 @@ module _ (size : ℕ) (bytes : List ℕ) (enough : size ≤ length bytes) where
   flags-taken (Front.Fault n) e h = refl
   flags-taken (Front.Payload n) e h =
       let two = flags-front n bytes e .0 in
-      rw (getD-take size bytes 6 0 (omega arith), getD-take size bytes 7 0 (omega arith), length-take-le size bytes enough, lt-ltb (6 + n) size (omega arith), lt-ltb (6 + n) (length bytes) (omega arith))
+      let six = same size bytes enough 6 (omega arith) in
+      let seven = same size bytes enough 7 (omega arith) in
+      rw (six, seven, length-take-le size bytes enough, lt-ltb (6 + n) size (omega arith), lt-ltb (6 + n) (length bytes) (omega arith))
 
   ending-taken : 9 ≤ size → endingOf (take size bytes) ≡ endingOf bytes
   ending-taken h =
       let long = length-take-le size bytes enough in
-      sym (ending-some (take size bytes) (λ q. omega arith))
-      ∙ ap (λ (k : Front). flagsIn k (take size bytes)) (front-taken size bytes enough 4 (omega arith) (λ n f m. let two = two-bytes n f in omega arith))
+      let same = front-taken size bytes enough 4 (omega arith) (λ n f m. let two = two-bytes n f in omega arith) in
+      sym (ending-by (take size bytes) _ (frontOf 4 bytes) (λ q. omega arith) refl same)
       ∙ flags-taken (frontOf 4 bytes) refl h
-      ∙ ending-some bytes (λ q. omega arith)
+      ∙ ending-by bytes _ (frontOf 4 bytes) (λ q. omega arith) refl refl
 
 -- a payload of floats or ids is at most 6,144 bytes
-payload-most : (kind n : ℕ) → eqb kind 1 ≡ false → eqb kind 4 ≡ false → lengthFits kind n ≡ true → n / 4 ≤ most → n ≤ 6144
+payload-most : (kind n : ℕ) → eqb kind 1 ≡ false → eqb kind 4 ≡ false → lengthFits kind n ≡ true → n / 4 ≤ mostInFile → n ≤ 6144
 payload-most kind n p q h m =
     let e = whole-words kind n p q h in
     omega arith
@@ -105,9 +117,11 @@ module _ (size : ℕ) (bytes : List ℕ) (enough : size ≤ length bytes) where
   ids-by u vs (Front.Payload n) e h =
       let r = record-of 3 n bytes e in
       let most = payload-most 3 n refl refl (r .fits) (r .few) in
-      rw (part-taken size bytes enough 6 n (omega arith), behind-taken size bytes enough (6 + n) (omega arith), ending-taken (size - (6 + n)) (drop (6 + n) bytes) (behind-enough size bytes enough (6 + n)) (omega arith))
+      rw (part-taken size bytes enough 6 n (omega arith), behind-taken size bytes enough (6 + n) (omega arith))
+      (ap (ended u vs _) (ending-taken (size - (6 + n)) (drop (6 + n) bytes) (behind-enough size bytes enough (6 + n)) (omega arith)))
 
-  ids-taken : (u : ℕ) (vs : List ℕ) → 6159 ≤ size → idsIn u vs (frontOf 3 (take size bytes)) (take size bytes) ≡ idsIn u vs (frontOf 3 bytes) bytes
+  ids-taken : (u : ℕ) (vs : List ℕ) → 6159 ≤ size
+      → idsIn u vs (frontOf 3 (take size bytes)) (take size bytes) ≡ idsIn u vs (frontOf 3 bytes) bytes
   ids-taken u vs h =
       rw (front-taken size bytes enough 3 (omega arith) (λ n f m. let most = payload-most 3 n refl refl f m in omega arith))
       (ids-by u vs (frontOf 3 bytes) refl h)
@@ -122,7 +136,8 @@ module _ (size : ℕ) (bytes : List ℕ) (enough : size ≤ length bytes) where
       rw (part-taken size bytes enough 6 n (omega arith), behind-taken size bytes enough (6 + n) (omega arith))
       (ids-taken (size - (6 + n)) (drop (6 + n) bytes) (behind-enough size bytes enough (6 + n)) u _ (omega arith))
 
-  vertices-taken : (u : ℕ) → 12309 ≤ size → verticesIn u (frontOf 2 (take size bytes)) (take size bytes) ≡ verticesIn u (frontOf 2 bytes) bytes
+  vertices-taken : (u : ℕ) → 12309 ≤ size → verticesIn u (frontOf 2 (take size bytes)) (take size bytes)
+      ≡ verticesIn u (frontOf 2 bytes) bytes
   vertices-taken u h =
       rw (front-taken size bytes enough 2 (omega arith) (λ n f m. let most = payload-most 2 n refl refl f m in omega arith))
       (vertices-by u (frontOf 2 bytes) refl h)
@@ -135,7 +150,7 @@ module _ (size : ℕ) (bytes : List ℕ) (enough : size ≤ length bytes) where
       let r = record-of 1 n bytes e in
       let four = four-bytes n (r .fits) in
       rw (word-taken size bytes enough 6 (omega arith), behind-taken size bytes enough (6 + n) (omega arith))
-      (vertices-taken (size - (6 + n)) (drop (6 + n) bytes) (behind-enough size bytes enough (6 + n)) (word bytes 6) (omega arith))
+      (vertices-taken (size - (6 + n)) (drop (6 + n) bytes) (behind-enough size bytes enough (6 + n)) (u32At bytes 6) (omega arith))
 
   file-taken : 12319 ≤ size → fileOf (take size bytes) ≡ fileOf bytes
   unfolding fileOf
@@ -143,5 +158,5 @@ module _ (size : ℕ) (bytes : List ℕ) (enough : size ≤ length bytes) where
       rw (front-taken size bytes enough 1 (omega arith) (λ n f m. let four = four-bytes n f in omega arith))
       (unit-by (frontOf 1 bytes) refl h)
 
-pub front-decides : FrontDecides
+pub front-decides : FrontDecidesFile
 front-decides bytes h = file-taken 12319 bytes h (omega arith)

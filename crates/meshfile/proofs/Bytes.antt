@@ -4,7 +4,7 @@ use mathlib.Core.List.{List, [], _∷_}
 use Prim.Native.Nat.{ℕ, zero, suc, _+_, _*_, _^_, _/_, _%_, _<_}
 use native.Mathlib.Omega.{arith}
 use lib.ListN.{length, take, drop}
-use Rattle.meshfile.specs.Format.{words}
+use Rattle.meshfile.specs.Format.{wordsIn}
 use Rattle.meshfile.specs.Written.{bytesOf, allBytes, Below}
 
 -- the u32 of four bytes
@@ -41,21 +41,23 @@ unfolding allBytes bytesOf
 length-all [] = refl
 length-all (w ∷ ws) = omega (arith, length-all ws)
 
-pub words-all : (ws : List ℕ) → Below (2 ^ 32) ws → words (allBytes ws) ≡ ws
-unfolding allBytes bytesOf words Below
+pub words-all : (ws : List ℕ) → Below (2 ^ 32) ws → wordsIn (allBytes ws) ≡ ws
+unfolding allBytes bytesOf wordsIn Below
 words-all [] h = refl
 words-all (w ∷ ws) h = rw (four-of w (h .0), words-all ws (h .1))
 
-pub all-words : (l : List ℕ) → Below 256 l → length l % 4 ≡ 0 → allBytes (words l) ≡ l
-unfolding allBytes words Below
+pub all-words : (l : List ℕ) → Below 256 l → length l % 4 ≡ 0 → allBytes (wordsIn l) ≡ l
+unfolding allBytes wordsIn Below
 all-words [] h e = refl
 all-words (a ∷ []) h e = absurd (omega arith)
 all-words (a ∷ b ∷ []) h e = absurd (omega arith)
 all-words (a ∷ b ∷ c ∷ []) h e = absurd (omega arith)
-all-words (a ∷ b ∷ c ∷ d ∷ l) h e = rw (bytes-back a b c d (h .0) (h .1 .0) (h .1 .1 .0) (h .1 .1 .1 .0)) (ap (λ (r : List ℕ). a ∷ b ∷ c ∷ d ∷ r) (all-words l (h .1 .1 .1 .1) (omega arith)))
+all-words (a ∷ b ∷ c ∷ d ∷ l) h e =
+    rw (bytes-back a b c d (h .0) (h .1 .0) (h .1 .1 .0) (h .1 .1 .1 .0))
+    (ap (λ (r : List ℕ). a ∷ b ∷ c ∷ d ∷ r) (all-words l (h .1 .1 .1 .1) (omega arith)))
 
-pub words-below : (l : List ℕ) → Below 256 l → Below (2 ^ 32) (words l)
-unfolding words Below
+pub words-below : (l : List ℕ) → Below 256 l → Below (2 ^ 32) (wordsIn l)
+unfolding wordsIn Below
 words-below [] h = tt
 words-below (a ∷ []) h = tt
 words-below (a ∷ b ∷ []) h = tt

@@ -1,5 +1,5 @@
 -- What stands behind the ids: nothing, or kind 4 with known values and nothing behind it. Assumes nothing.
-use mathlib.Core.Path.{_≡_, refl, sym, ap}
+use mathlib.Core.Path.{_≡_, refl, sym, ap, _∙_}
 use mathlib.Core.Bool.{Bool, true, false, cond}
 use mathlib.Core.List.{List, [], _∷_}
 use Prim.Native.Nat.{ℕ, _+_, _≤_, _<_}
@@ -25,10 +25,12 @@ unfolding endingOf
 ending-none [] h = refl
 ending-none (b ∷ bytes) h = absurd (omega arith)
 
-pub ending-some : (bytes : List ℕ) → (length bytes ≡ 0 → ⊥) → flagsIn (frontOf 4 bytes) bytes ≡ endingOf bytes
+-- of some bytes the front decides that is found
+pub ending-by : (bytes : List ℕ) (k found : Front) → (length bytes ≡ 0 → ⊥) → k ≡ frontOf 4 bytes → k ≡ found
+    → flagsIn found bytes ≡ endingOf bytes
 unfolding endingOf
-ending-some [] h = absurd (h refl)
-ending-some (b ∷ bytes) h = refl
+ending-by [] k found some e h = absurd (some refl)
+ending-by (b ∷ bytes) k found some e h = ap (λ (x : Front). flagsIn x (b ∷ bytes)) (sym h ∙ e)
 
 -- kind 4, test by test
 module _ (n c d : ℕ) (bytes : List ℕ) (clip : c ≡ byte bytes 6) (defect : d ≡ byte bytes 7) where
@@ -58,10 +60,13 @@ pub data Ends (c d : ℕ) : List ℕ → Type 0 where
   flags : (b : ℕ) (l : List ℕ) → Flags c d (b ∷ l) → Ends c d (b ∷ l)
 
 same-flags : (a b c d : ℕ) → Ending.Flags (flagValues a b) ≡ Ending.Flags (flagValues c d) → (a ≡ c) × (b ≡ d)
-same-flags a b c d h = let e : flagValues a b ≡ flagValues c d = cc in (ap (λ (v : FlagValues). v .clip) e, ap (λ (v : FlagValues). v .defect) e)
+same-flags a b c d h =
+    let e : flagValues a b ≡ flagValues c d = cc in (ap (λ (v : FlagValues). v .clip) e, ap (λ (v : FlagValues). v .defect) e)
 
-flags-by : (x y : Bool) (c d : ℕ) (bytes : List ℕ) → Record 4 2 bytes → flagsFit (byte bytes 6) (byte bytes 7) ≡ x → ltb 8 (length bytes) ≡ y
-    → cond x (cond y (Ending.Fault 5) (Ending.Flags (flagValues (byte bytes 6) (byte bytes 7)))) (Ending.Fault 5) ≡ Ending.Flags (flagValues c d) → Flags c d bytes
+flags-by : (x y : Bool) (c d : ℕ) (bytes : List ℕ) → Record 4 2 bytes → flagsFit (byte bytes 6) (byte bytes 7) ≡ x
+    → ltb 8 (length bytes) ≡ y
+    → cond x (cond y (Ending.Fault 5) (Ending.Flags (flagValues (byte bytes 6) (byte bytes 7)))) (Ending.Fault 5)
+    ≡ Ending.Flags (flagValues c d) → Flags c d bytes
 flags-by true true c d bytes r e f h = let y : _≡_ {A = ℕ} 0 1 = cc in absurd (omega arith)
 flags-by true false c d bytes r e f h =
     let s = same-flags _ _ c d h in

@@ -1,6 +1,6 @@
 -- What stands in front is a payload exactly where none of the five tests finds a fault. Assumes nothing.
 use mathlib.Core.Path.{_≡_, refl, sym, _∙_}
-use mathlib.Core.Bool.{Bool, true, false}
+use mathlib.Core.Bool.{Bool, true, false, not, cond}
 use mathlib.Core.List.{List}
 use Prim.Native.Nat.{ℕ, _+_, _*_, _-_, _/_, _%_, _≤_, _<_}
 use native.Mathlib.Omega.{arith}
@@ -9,17 +9,17 @@ use lib.Dec.{ltb, eqb}
 use lib.ListN.{length, take, drop, length-drop}
 use lib.Seq.{take-all}
 use Rattle.meshfile.specs.declared.Front.{Front}
-use Rattle.meshfile.specs.Format.{half, word, most, lengthFits, faultIf, frontOf}
+use Rattle.meshfile.specs.Format.{u16At, u32At, mostInFile, lengthFits, frontOf}
 
 -- a record of this kind whose payload is n bytes long
 pub record Record (kind n : ℕ) (bytes : List ℕ) : Type 0 where
-  pub kind-is : half bytes 4 ≡ kind
-  pub size : word bytes 0 ≡ n
+  pub kind-is : u16At bytes 4 ≡ kind
+  pub size : u32At bytes 0 ≡ n
   pub fits : lengthFits kind n ≡ true
-  pub few : n / 4 ≤ most
+  pub few : n / 4 ≤ mostInFile
   pub room : 6 + n ≤ length bytes
 
-past : (b : Bool) (k n : ℕ) (rest : Front) → faultIf b k rest ≡ Front.Payload n → (b ≡ false) × (rest ≡ Front.Payload n)
+past : (b : Bool) (k n : ℕ) (rest : Front) → cond b (Front.Fault k) rest ≡ Front.Payload n → (b ≡ false) × (rest ≡ Front.Payload n)
 past true k n rest h = let y : _≡_ {A = ℕ} 0 1 = cc in absurd (omega arith)
 past false k n rest h = (refl, h)
 
@@ -34,13 +34,13 @@ record-of kind n bytes h =
     let d = past _ 5 n _ (b .1) in
     let e = past _ 6 n _ (d .1) in
     let f = past _ 5 n _ (e .1) in
-    let size : word bytes 0 ≡ n = same _ _ (f .1) in
+    let size : u32At bytes 0 ≡ n = same _ _ (f .1) in
     record {
       kind-is = eqb-true _ _ (not-false _ (b .0));
       size = size;
-      fits = rw size at (not-false (lengthFits kind (word bytes 0)) (d .0));
-      few = rw size at (ltb-false most (word bytes 0 / 4) (e .0));
-      room = rw size at (ltb-false (length bytes) (6 + word bytes 0) (f .0));
+      fits = rw size at (not-false (lengthFits kind (u32At bytes 0)) (d .0));
+      few = rw size at (ltb-false mostInFile (u32At bytes 0 / 4) (e .0));
+      room = rw size at (ltb-false (length bytes) (6 + u32At bytes 0) (f .0));
     }
 
 -- the tests in their order: each is tried where those before it found no fault
@@ -49,30 +49,40 @@ module _ (kind : ℕ) (bytes : List ℕ) where
   unfolding frontOf
   header-cut h = rw (lt-ltb (length bytes) 6 h)
 
-  module _ (long : 6 ≤ length bytes) where
-    pub wrong-kind : (half bytes 4 ≡ kind → ⊥) → Front.Fault 5 ≡ frontOf kind bytes
-    unfolding frontOf
-    wrong-kind h = rw (le-ltb (length bytes) 6 long, ne-eqb (half bytes 4) kind h)
+  pub wrong-kind : 6 ≤ length bytes → (u16At bytes 4 ≡ kind → ⊥) → Front.Fault 5 ≡ frontOf kind bytes
+  unfolding frontOf
+  wrong-kind whole h = rw (le-ltb (length bytes) 6 whole, ne-eqb (u16At bytes 4) kind h)
 
-    module _ (same : half bytes 4 ≡ kind) (n : ℕ) (size : word bytes 0 ≡ n) where
-      pub wrong-length : lengthFits kind n ≡ false → Front.Fault 5 ≡ frontOf kind bytes
-      unfolding frontOf
-      wrong-length h = rw (size, le-ltb (length bytes) 6 long, eq-eqb (half bytes 4) kind same, h)
+-- a header that is whole, of this kind, with n for the payload's length
+pub record Header (kind n : ℕ) (bytes : List ℕ) : Type 0 where
+  pub whole : 6 ≤ length bytes
+  pub kind-is : u16At bytes 4 ≡ kind
+  pub size : u32At bytes 0 ≡ n
 
-      pub too-many : lengthFits kind n ≡ true → most < n / 4 → Front.Fault 6 ≡ frontOf kind bytes
-      unfolding frontOf
-      too-many h m = rw (size, le-ltb (length bytes) 6 long, eq-eqb (half bytes 4) kind same, h, lt-ltb most (n / 4) m)
+module _ {kind n : ℕ} {bytes : List ℕ} (head : Header kind n bytes) where
+  -- what the first two tests leave
+  read-on : frontOf kind bytes
+      ≡ cond (not (lengthFits kind n)) (Front.Fault 5)
+      (cond (ltb mostInFile (n / 4)) (Front.Fault 6) (cond (ltb (length bytes) (6 + n)) (Front.Fault 5) (Front.Payload n)))
+  unfolding frontOf
+  read-on = rw (head .size, le-ltb (length bytes) 6 (head .whole), eq-eqb (u16At bytes 4) kind (head .kind-is))
 
-      pub payload-cut : lengthFits kind n ≡ true → n / 4 ≤ most → length bytes < 6 + n → Front.Fault 5 ≡ frontOf kind bytes
-      unfolding frontOf
-      payload-cut h m r = rw (size, le-ltb (length bytes) 6 long, eq-eqb (half bytes 4) kind same, h, le-ltb most (n / 4) m, lt-ltb (length bytes) (6 + n) r)
+  pub wrong-length : lengthFits kind n ≡ false → Front.Fault 5 ≡ frontOf kind bytes
+  wrong-length h = rw (read-on, h)
 
-      pub payload-whole : lengthFits kind n ≡ true → n / 4 ≤ most → 6 + n ≤ length bytes → Front.Payload n ≡ frontOf kind bytes
-      unfolding frontOf
-      payload-whole h m r = rw (size, le-ltb (length bytes) 6 long, eq-eqb (half bytes 4) kind same, h, le-ltb most (n / 4) m, le-ltb (length bytes) (6 + n) r)
+  pub too-many : lengthFits kind n ≡ true → mostInFile < n / 4 → Front.Fault 6 ≡ frontOf kind bytes
+  too-many h m = rw (read-on, h, lt-ltb mostInFile (n / 4) m)
+
+  pub payload-cut : lengthFits kind n ≡ true → n / 4 ≤ mostInFile → length bytes < 6 + n → Front.Fault 5 ≡ frontOf kind bytes
+  payload-cut h m r = rw (read-on, h, le-ltb mostInFile (n / 4) m, lt-ltb (length bytes) (6 + n) r)
+
+  pub payload-whole : lengthFits kind n ≡ true → n / 4 ≤ mostInFile → 6 + n ≤ length bytes → Front.Payload n ≡ frontOf kind bytes
+  payload-whole h m r = rw (read-on, h, le-ltb mostInFile (n / 4) m, le-ltb (length bytes) (6 + n) r)
 
 pub front-is : (kind n : ℕ) (bytes : List ℕ) → Record kind n bytes → frontOf kind bytes ≡ Front.Payload n
-front-is kind n bytes r = sym (payload-whole kind bytes (omega (arith, r .room)) (r .kind-is) n (r .size) (r .fits) (r .few) (r .room))
+front-is kind n bytes r =
+    let head : Header kind n bytes = record { whole = omega (arith, r .room); kind-is = r .kind-is; size = r .size } in
+    sym (payload-whole head (r .fits) (r .few) (r .room))
 
 -- and as the code meets it: the front found, with what it was found to be
 pub room-of : (kind n : ℕ) (bytes : List ℕ) (k : Front) → k ≡ frontOf kind bytes → k ≡ Front.Payload n → 6 + n ≤ length bytes

@@ -9,8 +9,9 @@ use Rattle.meshfile.specs.declared.Front.{Front}
 use Rattle.meshfile.specs.declared.Ending.{Ending}
 use Rattle.meshfile.specs.declared.Layout.{Layout}
 use Rattle.meshfile.specs.declared.Parts.{Parts}
-use Rattle.meshfile.specs.Format.{flagValues, word, words, frontOf, endingOf, ended, idsIn, verticesIn, unitIn, fileOf, Contents, File}
-use Rattle.meshfile.specs.Steps.{partsBy, idsFrom, verticesFrom, unitFrom, layoutOf, contentsAt, fileAt}
+use Rattle.meshfile.specs.Format.{flagValues, u32At, wordsIn, frontOf, endingOf, ended, idsIn, verticesIn, unitIn, fileOf, Contents}
+use Rattle.meshfile.specs.Format.{File}
+use Rattle.meshfile.specs.inner.Steps.{partsBy, idsFrom, verticesFrom, unitFrom, layoutOf, contentsAt, fileAt}
 use Rattle.meshfile.proofs.Fronts.{Record, record-of, four-bytes, whole-words}
 
 quarter : (i : ℕ) → 4 * i / 4 ≡ i
@@ -40,23 +41,24 @@ module _ (bytes : List ℕ) where
   Agrees x l = (x ≡ fileAt bytes l) × Stands l
 
   abbrev floatsAt : ℕ → List ℕ
-  floatsAt f = words (take (4 * f) (drop 16 bytes))
+  floatsAt f = wordsIn (take (4 * f) (drop 16 bytes))
 
   module _ (unit : Record 1 4 bytes) where
     module _ (f : ℕ) (floats : Record 2 (4 * f) (drop 10 bytes)) where
       ending : (i : ℕ) → Record 3 (4 * i) (drop (16 + 4 * f) bytes) → (e : Ending) → endingOf (drop (22 + 4 * f + 4 * i) bytes) ≡ e
-          → Agrees (ended (word bytes 6) (floatsAt f) (words (take (4 * i) (drop (22 + 4 * f) bytes))) e) (partsBy f i e)
+          → Agrees (ended (u32At bytes 6) (floatsAt f) (wordsIn (take (4 * i) (drop (22 + 4 * f) bytes))) e) (partsBy f i e)
       unfolding ended partsBy fileAt contentsAt Stands
       ending i ids (Ending.Fault n) h = (refl, tt)
       ending i ids (Ending.Flags flags) h = (refl, record { unit = unit; floats = floats; ids = ids; end = h })
 
       abbrev FromIds : Front → Type 0
-      FromIds k = Agrees (idsIn (word bytes 6) (floatsAt f) k (drop (16 + 4 * f) bytes)) (idsFrom f k (drop (16 + 4 * f) bytes))
+      FromIds k = Agrees (idsIn (u32At bytes 6) (floatsAt f) k (drop (16 + 4 * f) bytes)) (idsFrom f k (drop (16 + 4 * f) bytes))
 
       ids-payload : (i : ℕ) → Record 3 (4 * i) (drop (16 + 4 * f) bytes) → FromIds (Front.Payload (4 * i))
       unfolding idsIn idsFrom
       ids-payload i ids =
-          rw (drop-to 6 (16 + 4 * f) (22 + 4 * f) (omega arith), drop-to (6 + 4 * i) (16 + 4 * f) (22 + 4 * f + 4 * i) (omega arith), quarter i)
+          let rest = drop-to (6 + 4 * i) (16 + 4 * f) (22 + 4 * f + 4 * i) (omega arith) in
+          rw (drop-to 6 (16 + 4 * f) (22 + 4 * f) (omega arith), rest, quarter i)
           (ending i ids _ refl)
 
       from-ids : (k : Front) → frontOf 3 (drop (16 + 4 * f) bytes) ≡ k → FromIds k
@@ -68,7 +70,7 @@ module _ (bytes : List ℕ) where
           subst (λ (m : ℕ). FromIds (Front.Payload m)) (sym e) (ids-payload (n / 4) (rw e at r))
 
     abbrev FromVertices : Front → Type 0
-    FromVertices k = Agrees (verticesIn (word bytes 6) k (drop 10 bytes)) (verticesFrom k (drop 10 bytes))
+    FromVertices k = Agrees (verticesIn (u32At bytes 6) k (drop 10 bytes)) (verticesFrom k (drop 10 bytes))
 
     vertices-payload : (f : ℕ) → Record 2 (4 * f) (drop 10 bytes) → FromVertices (Front.Payload (4 * f))
     unfolding verticesIn verticesFrom
@@ -108,27 +110,28 @@ module _ (bytes : List ℕ) where
   unfolding layoutOf
   stands = from-unit (frontOf 1 bytes) refl .1
 
-  module _ (p : Parts) (l : Layout) (e : l ≡ layoutOf bytes) (h : l ≡ Layout.Whole p) where
+  module _ (p : Parts) (whole : layoutOf bytes ≡ Layout.Whole p) where
     pub laid-out : Laid p
     unfolding Stands
-    laid-out = subst Stands (sym e ∙ h) stands
+    laid-out = subst Stands whole stands
 
     pub file-holds : fileOf bytes ≡ File.Holds (contentsAt bytes p)
     unfolding fileAt
-    file-holds = file-is ∙ ap (fileAt bytes) (sym e ∙ h)
+    file-holds = file-is ∙ ap (fileAt bytes) whole
 
     pub inside : 22 + 4 * p .floats + 4 * p .ids ≤ length bytes
     inside = laid-inside p laid-out
 
-  pub file-refused : (n : ℕ) (l : Layout) → l ≡ layoutOf bytes → l ≡ Layout.Fault n → fileOf bytes ≡ File.Refused n
+  pub file-refused : (n : ℕ) → layoutOf bytes ≡ Layout.Fault n → fileOf bytes ≡ File.Refused n
   unfolding fileAt
-  file-refused n l e h = file-is ∙ ap (fileAt bytes) (sym e ∙ h)
+  file-refused n fault = file-is ∙ ap (fileAt bytes) fault
 
   -- a file that holds something is laid out
-  held-by : (m : Contents) (l : Layout) → layoutOf bytes ≡ l → fileAt bytes l ≡ File.Holds m → (p : Parts) × Laid p × (contentsAt bytes p ≡ m)
+  held-by : (m : Contents) (l : Layout) → layoutOf bytes ≡ l → fileAt bytes l ≡ File.Holds m
+      → (p : Parts) × Laid p × (contentsAt bytes p ≡ m)
   unfolding fileAt
   held-by m (Layout.Fault n) e h = let y : _≡_ {A = ℕ} 0 1 = cc in absurd (omega arith)
-  held-by m (Layout.Whole p) e h = (p, laid-out p (Layout.Whole p) (sym e) refl, cc)
+  held-by m (Layout.Whole p) e h = (p, laid-out p e, cc)
 
   pub held : (m : Contents) → fileOf bytes ≡ File.Holds m → (p : Parts) × Laid p × (contentsAt bytes p ≡ m)
   held m h = held-by m (layoutOf bytes) refl (sym file-is ∙ h)

@@ -15,19 +15,19 @@ abbrev pub byte : List ℕ → ℕ → ℕ
 byte bytes i = getD bytes i 0
 
 -- a u16 and a u32 at a place
-unfoldable pub half : List ℕ → ℕ → ℕ
-half bytes i = byte bytes i + 256 * byte bytes (i + 1)
+unfoldable pub u16At : List ℕ → ℕ → ℕ
+u16At bytes i = byte bytes i + 256 * byte bytes (i + 1)
 
-unfoldable pub word : List ℕ → ℕ → ℕ
-word bytes i = byte bytes i + 256 * byte bytes (i + 1) + 65536 * byte bytes (i + 2) + 16777216 * byte bytes (i + 3)
+unfoldable pub u32At : List ℕ → ℕ → ℕ
+u32At bytes i = byte bytes i + 256 * byte bytes (i + 1) + 65536 * byte bytes (i + 2) + 16777216 * byte bytes (i + 3)
 
 -- the words of a payload; what is left over at the end belongs to none
-unfoldable pub words : List ℕ → List ℕ
-words [] = []
-words (a ∷ []) = []
-words (a ∷ b ∷ []) = []
-words (a ∷ b ∷ c ∷ []) = []
-words (a ∷ b ∷ c ∷ d ∷ l) = (a + 256 * b + 65536 * c + 16777216 * d) ∷ words l
+unfoldable pub wordsIn : List ℕ → List ℕ
+wordsIn [] = []
+wordsIn (a ∷ []) = []
+wordsIn (a ∷ b ∷ []) = []
+wordsIn (a ∷ b ∷ c ∷ []) = []
+wordsIn (a ∷ b ∷ c ∷ d ∷ l) = (a + 256 * b + 65536 * c + 16777216 * d) ∷ wordsIn l
 
 -- ---- one record: u32 payload length, u16 kind, payload
 
@@ -38,27 +38,23 @@ abbrev pub behind : ℕ → List ℕ → List ℕ
 behind n bytes = drop (6 + n) bytes
 
 -- at most so many floats, and so many ids
-abbrev pub most : ℕ
-most = 1536
+abbrev pub mostInFile : ℕ
+mostInFile = 1536
 
 -- by the kind: 4 bytes for the unit, 2 for the flags, else whole words
 unfoldable pub lengthFits : ℕ → ℕ → Bool
 lengthFits kind n = cond (eqb kind 1) (eqb n 4) (cond (eqb kind 4) (eqb n 2) (eqb (n % 4) 0))
 
-abbrev pub faultIf : Bool → ℕ → Front → Front
-faultIf true n rest = Front.Fault n
-faultIf false n rest = rest
-
--- What stands in front of the bytes: a record of this kind, its payload so many bytes long, or the fault met first. Header missing or cut, wrong kind,
--- wrong length: 5. Too many: 6. Payload cut: 5.
+-- What stands in front of the bytes: a record of this kind, its payload so many bytes long, or the fault met first.
+-- Header missing or cut, wrong kind, wrong length: 5. Too many: 6. Payload cut: 5.
 unfoldable pub frontOf : ℕ → List ℕ → Front
 frontOf kind bytes =
-    faultIf (ltb (length bytes) 6) 5
-    (faultIf (not (eqb (half bytes 4) kind)) 5
-    (faultIf (not (lengthFits kind (word bytes 0))) 5
-    (faultIf (ltb most (word bytes 0 / 4)) 6
-    (faultIf (ltb (length bytes) (6 + word bytes 0)) 5
-    (Front.Payload (word bytes 0))))))
+    cond (ltb (length bytes) 6) (Front.Fault 5)
+    (cond (not (eqb (u16At bytes 4) kind)) (Front.Fault 5)
+    (cond (not (lengthFits kind (u32At bytes 0))) (Front.Fault 5)
+    (cond (ltb mostInFile (u32At bytes 0 / 4)) (Front.Fault 6)
+    (cond (ltb (length bytes) (6 + u32At bytes 0)) (Front.Fault 5)
+    (Front.Payload (u32At bytes 0))))))
 
 -- ---- the records in their order
 
@@ -81,7 +77,9 @@ flagValues c d = record { clip = c; defect = d }
 unfoldable pub flagsIn : Front → List ℕ → Ending
 flagsIn (Front.Fault n) bytes = Ending.Fault n
 flagsIn (Front.Payload n) bytes =
-    cond (flagsFit (byte bytes 6) (byte bytes 7)) (cond (ltb (6 + n) (length bytes)) (Ending.Fault 5) (Ending.Flags (flagValues (byte bytes 6) (byte bytes 7)))) (Ending.Fault 5)
+    cond (flagsFit (byte bytes 6) (byte bytes 7))
+    (cond (ltb (6 + n) (length bytes)) (Ending.Fault 5) (Ending.Flags (flagValues (byte bytes 6) (byte bytes 7))))
+    (Ending.Fault 5)
 
 unfoldable pub endingOf : List ℕ → Ending
 endingOf [] = Ending.Flags (flagValues 0 0)
@@ -94,17 +92,17 @@ ended u vs is (Ending.Flags flags) = Holds (record { unit = u; vertices = vs; id
 -- kind 3: ids
 unfoldable pub idsIn : ℕ → List ℕ → Front → List ℕ → File
 idsIn u vs (Front.Fault n) bytes = Refused n
-idsIn u vs (Front.Payload n) bytes = ended u vs (words (payload n bytes)) (endingOf (behind n bytes))
+idsIn u vs (Front.Payload n) bytes = ended u vs (wordsIn (payload n bytes)) (endingOf (behind n bytes))
 
 -- kind 2: vertex floats
 unfoldable pub verticesIn : ℕ → Front → List ℕ → File
 verticesIn u (Front.Fault n) bytes = Refused n
-verticesIn u (Front.Payload n) bytes = idsIn u (words (payload n bytes)) (frontOf 3 (behind n bytes)) (behind n bytes)
+verticesIn u (Front.Payload n) bytes = idsIn u (wordsIn (payload n bytes)) (frontOf 3 (behind n bytes)) (behind n bytes)
 
 -- kind 1: unit
 unfoldable pub unitIn : Front → List ℕ → File
 unitIn (Front.Fault n) bytes = Refused n
-unitIn (Front.Payload n) bytes = verticesIn (word bytes 6) (frontOf 2 (behind n bytes)) (behind n bytes)
+unitIn (Front.Payload n) bytes = verticesIn (u32At bytes 6) (frontOf 2 (behind n bytes)) (behind n bytes)
 
 unfoldable pub fileOf : List ℕ → File
 fileOf bytes = unitIn (frontOf 1 bytes) bytes

@@ -1,5 +1,5 @@
--- The program's input: its format, what reading one gives, the format from the writer's side, and the steps of the code.
+-- The program's input: its format, what reading one gives, and the format from the writer's side.
 pub mod Format
 pub mod Reading
 pub mod Written
-pub mod Steps
+pub mod inner

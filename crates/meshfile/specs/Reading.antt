@@ -1,8 +1,9 @@
--- What comes back of `read`, and what it leaves in the lent floats and ids: for every list of bytes one answer, and one later content of each area.
+-- What comes back of `read`, and what it leaves in the lent floats and ids: for every list of bytes one answer, and one later
+-- content of each area.
 use mathlib.Core.Path.{_≡_}
 use mathlib.Core.Logic.{_⊎_}
 use Prim.Native.Nat.{ℕ}
-use mathlib.Core.Bool.{Bool, true, false, _||_}
+use mathlib.Core.Bool.{Bool, _||_, cond}
 use mathlib.Core.List.{List, [], _∷_, _++_}
 use lib.Dec.{eqb, ltb}
 use lib.ListN.{length, drop}
@@ -18,29 +19,33 @@ floatsOf [] = []
 floatsOf (w ∷ ws) = ofBits binary32 w ∷ floatsOf ws
 
 -- refusal 3: an area of f floats or of i ids is too short for what the file holds
-unfoldable pub areasShort : Contents → ℕ → ℕ → Bool
-areasShort m f i = ltb f (length (m .vertices)) || ltb i (length (m .ids))
+unfoldable pub meshAreasShort : Contents → ℕ → ℕ → Bool
+meshAreasShort m f i = ltb f (length (m .vertices)) || ltb i (length (m .ids))
 
 abbrev pub meshFile : Contents → MeshFile
-meshFile m = record { unit = ofBits binary32 (m .unit); floats = length (m .vertices); ids = length (m .ids); clip = eqb (m .clip) 1; profile = profileAt (m .defect) }
-
-unfoldable pub unlessShort : {A : Type 0} → Bool → A → A → A
-unlessShort true short enough = short
-unlessShort false short enough = enough
+meshFile m =
+    record {
+      unit = ofBits binary32 (m .unit);
+      floats = length (m .vertices);
+      ids = length (m .ids);
+      clip = eqb (m .clip) 1;
+      profile = profileAt (m .defect);
+    }
 
 -- by the lengths of the two areas
 unfoldable pub readingOf : File → ℕ → ℕ → Reading
 readingOf (File.Refused n) f i = Reading.Refused n
-readingOf (File.Holds m) f i = unlessShort (areasShort m f i) (Reading.Refused 3) (Reading.File (meshFile m))
+readingOf (File.Holds m) f i = cond (meshAreasShort m f i) (Reading.Refused 3) (Reading.File (meshFile m))
 
 -- what stands in an area afterwards: the file's floats or ids first, the rest untouched; all of it on a refusal
 unfoldable pub floatsAfter : File → ℕ → List Float → List Float
 floatsAfter (File.Refused n) i area = area
-floatsAfter (File.Holds m) i area = unlessShort (areasShort m (length area) i) area (floatsOf (m .vertices) ++ drop (length (m .vertices)) area)
+floatsAfter (File.Holds m) i area =
+    cond (meshAreasShort m (length area) i) area (floatsOf (m .vertices) ++ drop (length (m .vertices)) area)
 
 unfoldable pub idsAfter : File → ℕ → List ℕ → List ℕ
 idsAfter (File.Refused n) f area = area
-idsAfter (File.Holds m) f area = unlessShort (areasShort m f (length area)) area (m .ids ++ drop (length (m .ids)) area)
+idsAfter (File.Holds m) f area = cond (meshAreasShort m f (length area)) area (m .ids ++ drop (length (m .ids)) area)
 
 -- The complete contract: of bytes and lent floats vs and ids come the answer r and the later vs′ and ids′.
 pub record Reads (bytes : List ℕ) (vs : List Float) (ids : List ℕ) (r : Reading) (vs′ : List Float) (ids′ : List ℕ) : Type 0 where
@@ -54,7 +59,8 @@ Refuses (Reading.File m) = Unit {0}
 Refuses (Reading.Refused n) = (n ≡ 3) ⊎ (n ≡ 5) ⊎ (n ≡ 6)
 
 abbrev pub RefusesBy356 : Type 0
-RefusesBy356 = (bytes : List ℕ) (vs : List Float) (ids : List ℕ) (r : Reading) (vs′ : List Float) (ids′ : List ℕ) → Reads bytes vs ids r vs′ ids′ → Refuses r
+RefusesBy356 = (bytes : List ℕ) (vs : List Float) (ids : List ℕ) (r : Reading) (vs′ : List Float) (ids′ : List ℕ)
+    → Reads bytes vs ids r vs′ ids′ → Refuses r
 
 abbrev pub RefusalsWriteNothing : Type 0
 RefusalsWriteNothing = (bytes : List ℕ) (vs : List Float) (ids : List ℕ) (n : ℕ) (vs′ : List Float) (ids′ : List ℕ)

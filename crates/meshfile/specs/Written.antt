@@ -6,7 +6,7 @@ use mathlib.Core.List.{List, [], _∷_, _++_}
 use lib.Dec.{T}
 use lib.ListN.{length, take}
 use Rattle.record.specs.Numbers.{flagsFit}
-use Rattle.meshfile.specs.Format.{most, Contents, File, fileOf}
+use Rattle.meshfile.specs.Format.{mostInFile, Contents, File, fileOf}
 
 -- a u32 as four bytes, little-endian
 unfoldable pub bytesOf : ℕ → List ℕ
@@ -17,15 +17,15 @@ allBytes [] = []
 allBytes (w ∷ ws) = bytesOf w ++ allBytes ws
 
 -- one record
-unfoldable pub recordOf : ℕ → List ℕ → List ℕ
-recordOf kind payload = bytesOf (length payload) ++ (kind ∷ 0 ∷ payload)
+unfoldable pub chunkOf : ℕ → List ℕ → List ℕ
+chunkOf kind payload = bytesOf (length payload) ++ (kind ∷ 0 ∷ payload)
 
 -- a file without kind 4, and with it
-unfoldable pub plain : Contents → List ℕ
-plain m = recordOf 1 (bytesOf (m .unit)) ++ (recordOf 2 (allBytes (m .vertices)) ++ recordOf 3 (allBytes (m .ids)))
+unfoldable pub plainFile : Contents → List ℕ
+plainFile m = chunkOf 1 (bytesOf (m .unit)) ++ (chunkOf 2 (allBytes (m .vertices)) ++ chunkOf 3 (allBytes (m .ids)))
 
-unfoldable pub withFlags : Contents → List ℕ
-withFlags m = plain m ++ recordOf 4 (m .clip ∷ m .defect ∷ [])
+unfoldable pub flaggedFile : Contents → List ℕ
+flaggedFile m = plainFile m ++ chunkOf 4 (m .clip ∷ m .defect ∷ [])
 
 -- each number below a bound
 unfoldable pub Below : ℕ → List ℕ → Type 0
@@ -37,16 +37,16 @@ pub record Proper (m : Contents) : Type 0 where
   pub unit : m .unit < 2 ^ 32
   pub vertices : Below (2 ^ 32) (m .vertices)
   pub ids : Below (2 ^ 32) (m .ids)
-  pub floats-most : length (m .vertices) ≤ most
-  pub ids-most : length (m .ids) ≤ most
+  pub floats-most : length (m .vertices) ≤ mostInFile
+  pub ids-most : length (m .ids) ≤ mostInFile
   pub flags : T (flagsFit (m .clip) (m .defect))
 
 -- a file that holds m: with its flags, or without kind 4 where both are 0
 unfoldable pub IsFileOf : Contents → List ℕ → Type 0
-IsFileOf m bytes = (bytes ≡ withFlags m) ⊎ ((bytes ≡ plain m) × (m .clip ≡ 0) × (m .defect ≡ 0))
+IsFileOf m bytes = (bytes ≡ flaggedFile m) ⊎ ((bytes ≡ plainFile m) × (m .clip ≡ 0) × (m .defect ≡ 0))
 
--- The theorems: reading holds exactly what was written; a file is at most 12,318 bytes long, and of longer input the first 12,319 bytes decide, which is why
--- the program needs to keep no more.
+-- The theorems: reading holds exactly what was written; a file is at most 12,318 bytes long, and of longer input the first
+-- 12,319 bytes decide, which is why the program needs to keep no more.
 abbrev pub Accepts : Type 0
 Accepts = (m : Contents) (bytes : List ℕ) → Proper m → IsFileOf m bytes → fileOf bytes ≡ File.Holds m
 
@@ -59,5 +59,5 @@ longest = 12318
 abbrev pub FilesAreShort : Type 0
 FilesAreShort = (m : Contents) (bytes : List ℕ) → fileOf bytes ≡ File.Holds m → length bytes ≤ longest
 
-abbrev pub FrontDecides : Type 0
-FrontDecides = (bytes : List ℕ) → longest < length bytes → fileOf (take 12319 bytes) ≡ fileOf bytes
+abbrev pub FrontDecidesFile : Type 0
+FrontDecidesFile = (bytes : List ℕ) → longest < length bytes → fileOf (take 12319 bytes) ≡ fileOf bytes

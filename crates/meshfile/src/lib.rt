@@ -3,9 +3,9 @@ ghost use mathlib.Core.Path.{_≡_};
 ghost use Prim.Native.Nat.{_+_, _*_, _≤_, _<_};
 ghost use lib.ListN.{length};
 ghost use Rattle.meshfile.specs.declared.Front.{Front};
-ghost use Rattle.meshfile.specs.Format.{byte as byteOf, half as halfOf, word as wordOf, words, lengthFits, frontOf, flagsIn, endingOf};
+ghost use Rattle.meshfile.specs.Format.{byte as byteOf, u16At, u32At, wordsIn, lengthFits, frontOf, flagsIn, endingOf};
 ghost use Rattle.meshfile.specs.Reading.{floatsOf, Reads};
-ghost use Rattle.meshfile.specs.Steps.{partsBy, idsFrom, verticesFrom, layoutOf, contentsAt, Fits, Filled};
+ghost use Rattle.meshfile.specs.inner.Steps.{partsBy, idsFrom, verticesFrom, layoutOf, contentsAt, Fits, AreasFilled};
 use record::Profile;
 
 // What a file holds beside its floats and ids: their numbers, the unit and the flags.
@@ -33,9 +33,9 @@ fn byte(bytes: &[u8], at: usize) -> u32
 }
 
 // The u16 at a place.
-fn half(bytes: &[u8], at: usize) -> u32
+fn u16_at(bytes: &[u8], at: usize) -> u32
     requires { ⌜ at + 2 ≤ length (now bytes) ⌝ }
-    ensures { λ r. ⌜ r ≡ halfOf (now (bytes .entry)) at ⌝ }
+    ensures { λ r. ⌜ r ≡ u16At (now (bytes .entry)) at ⌝ }
 {
     let low = byte(bytes, at);
     let high = byte(bytes, at + 1);
@@ -43,9 +43,9 @@ fn half(bytes: &[u8], at: usize) -> u32
 }
 
 // The u32 at a place.
-fn word(bytes: &[u8], at: usize) -> u32
+fn u32_at(bytes: &[u8], at: usize) -> u32
     requires { ⌜ at + 4 ≤ length (now bytes) ⌝ }
-    ensures { λ r. ⌜ r ≡ wordOf (now (bytes .entry)) at ⌝ }
+    ensures { λ r. ⌜ r ≡ u32At (now (bytes .entry)) at ⌝ }
 {
     let first = byte(bytes, at);
     let second = byte(bytes, at + 1);
@@ -81,10 +81,10 @@ fn front_of(bytes: &[u8], kind: u32) -> Front
     if bytes.len() < 6 {
         return Front::Fault(5);
     }
-    if half(bytes, 4) != kind {
+    if u16_at(bytes, 4) != kind {
         return Front::Fault(5);
     }
-    let n = word(bytes, 0) as usize;
+    let n = u32_at(bytes, 0) as usize;
     if !length_fits(kind, n) {
         return Front::Fault(5);
     }
@@ -205,22 +205,22 @@ fn layout_of(bytes: &[u8]) -> Layout
 
 fn put_floats(bytes: &[u8], vertices: &mut [f32])
     requires { ⌜ length (now bytes) ≡ 4 * length (now vertices) ⌝ }
-    ensures { λ _. ⌜ now (vertices .exit) ≡ floatsOf (words (now (bytes .entry))) ⌝ }
+    ensures { λ _. ⌜ now (vertices .exit) ≡ floatsOf (wordsIn (now (bytes .entry))) ⌝ }
 {
     let mut i = 0;
     while i < vertices.len() {
-        vertices[i] = floats::f32_of(word(bytes, 4 * i));
+        vertices[i] = floats::f32_of(u32_at(bytes, 4 * i));
         i += 1;
     }
 }
 
 fn put_ids(bytes: &[u8], ids: &mut [u32])
     requires { ⌜ length (now bytes) ≡ 4 * length (now ids) ⌝ }
-    ensures { λ _. ⌜ now (ids .exit) ≡ words (now (bytes .entry)) ⌝ }
+    ensures { λ _. ⌜ now (ids .exit) ≡ wordsIn (now (bytes .entry)) ⌝ }
 {
     let mut i = 0;
     while i < ids.len() {
-        ids[i] = word(bytes, 4 * i);
+        ids[i] = u32_at(bytes, 4 * i);
         i += 1;
     }
 }
@@ -228,7 +228,8 @@ fn put_ids(bytes: &[u8], ids: &mut [u32])
 // The floats and ids go to the front of the two areas, which are long enough.
 fn fill(bytes: &[u8], vertices: &mut [f32], ids: &mut [u32], p: Parts) -> MeshFile
     requires { ⌜ Fits p (length (now bytes)) (length (now vertices)) (length (now ids)) ⌝ }
-    ensures { λ r. ⌜ Filled (contentsAt (now (bytes .entry)) p) (now (vertices .entry)) (now (ids .entry)) r (now (vertices .exit)) (now (ids .exit)) ⌝ }
+    ensures { λ r. ⌜ AreasFilled (contentsAt (now (bytes .entry)) p) (now (vertices .entry)) (now (ids .entry)) r
+        (now (vertices .exit)) (now (ids .exit)) ⌝ }
 {
     let f = p.floats;
     let i = p.ids;
@@ -236,7 +237,7 @@ fn fill(bytes: &[u8], vertices: &mut [f32], ids: &mut [u32], p: Parts) -> MeshFi
     put_floats(&bytes[16..16 + 4 * f], &mut vertices[..f]);
     put_ids(&bytes[at..at + 4 * i], &mut ids[..i]);
     MeshFile {
-        unit: floats::f32_of(word(bytes, 6)),
+        unit: floats::f32_of(u32_at(bytes, 6)),
         floats: f,
         ids: i,
         clip: p.clip == 1,
@@ -247,7 +248,8 @@ fn fill(bytes: &[u8], vertices: &mut [f32], ids: &mut [u32], p: Parts) -> MeshFi
 // The file that the bytes hold: its floats and ids go to the front of the two areas. A refusal writes nothing: 5 or 6 for the
 // fault that is met first, and then 3 for an area that is too short.
 pub fn read(bytes: &[u8], vertices: &mut [f32], ids: &mut [u32]) -> Reading
-    ensures { λ r. ⌜ Reads (now (bytes .entry)) (now (vertices .entry)) (now (ids .entry)) r (now (vertices .exit)) (now (ids .exit)) ⌝ }
+    ensures { λ r. ⌜ Reads (now (bytes .entry)) (now (vertices .entry)) (now (ids .entry)) r
+        (now (vertices .exit)) (now (ids .exit)) ⌝ }
 {
     let found = layout_of(bytes);
     match found {

@@ -16,7 +16,8 @@ use lib.Ieee.Bits.{is-true}
 use lib.Ieee.Fits.{round-fits}
 use lib.Ieee.Positive.{den, den-pos, num, own-value}
 use Rattle.ieee.specs.Integral.{half, halfAway}
-use Rattle.ieee.specs.WholeNumber.{IsWhole, signed}
+use Rattle.ieee.specs.WholeNumber.{IsWhole}
+use Rattle.ieee.specs.inner.Wholes.{signed}
 use Rattle.ieee.proofs.Integers.Floats.{toSigned-value}
 use Rattle.ieee.proofs.Integers.Sums.{mul-whole}
 use Rattle.ieee.proofs.Numbers.Basic.{lt-next}

@@ -1,4 +1,5 @@
-// For the differential runs alone, and in no header: what they ask of the port and C has no name for. Its static library is shipped to nobody.
+// For the differential runs alone, and in no header: what they ask of the port and C has no name for.
+// Its static library is shipped to nobody.
 ghost use lib.Dec.{eqb, leb, ltb};
 ghost use lib.Ieee.{binary32, ofBits};
 ghost use lib.ListN.{length, replicate};
@@ -8,7 +9,7 @@ ghost use mathlib.Core.Path.{_≡_};
 ghost use Prim.Native.Nat.{_+_, _*_};
 ghost use Rattle.ieee.specs.Cube.{cubeAbove};
 ghost use Rattle.ieee.specs.Single.{nought};
-ghost use Rattle.ids.specs.Lent.{cleared};
+ghost use Rattle.ids.specs.Lent.{cleared, mostEntries};
 ghost use Rattle.vertices.specs.Vertices.{vertexCount};
 ghost use Rattle.weld.specs.Weld.{epsilonOf, welded};
 ghost use Rattle.grid.specs.Point.{pointIn};
@@ -40,9 +41,11 @@ pub extern "C" fn probe_welded_indices(
     eps: f32,
     part: &mut [u32],
 ) -> bool
-    ensures { λ r. ⌜ (r ≡ (leb (length (now (vertices .entry))) 98304
+    ensures { λ r. ⌜ (r ≡ (leb (length (now (vertices .entry))) mostEntries
         && eqb (length (now (part .entry))) (8 * vertexCount (now (vertices .entry)) + length (now (ids .entry)))))
-        × (now (part .exit) ≡ cond r (replicate (8 * vertexCount (now (vertices .entry))) 0 ++ welded (now (vertices .entry)) (now (ids .entry)) eps) (now (part .entry))) ⌝ }
+        × (now (part .exit) ≡ cond r
+        (replicate (8 * vertexCount (now (vertices .entry))) 0 ++ welded (now (vertices .entry)) (now (ids .entry)) eps)
+        (now (part .entry))) ⌝ }
 {
     if 98304 < vertices.len() {
         return false;

@@ -30,16 +30,16 @@ use Rattle.refusals.specs.Refusals.{checkOf, unitFits}
 use Rattle.vertices.specs.Areas.{workWords}
 use Rattle.qto.specs.Full.{best, buckets, measures, measuresFrom, recordBy, recordFrom, recordOf, surfaceOf, surfaceRows, totals, verdict}
 use Rattle.qto.specs.Full.{volumeOf}
-use Rattle.meshfile.specs.Format.{File, ended, endingOf, fileOf, frontOf, half, idsIn, lengthFits, unitIn, verticesIn, word, words}
+use Rattle.meshfile.specs.Format.{File, ended, endingOf, fileOf, frontOf, u16At, idsIn, lengthFits, unitIn, verticesIn, u32At, words}
 use Rattle.meshfile.specs.Reading.{floatsOf}
-use Rattle.meshfile.specs.Written.{allBytes, bytesOf, plain, recordOf as recordBytes}
+use Rattle.meshfile.specs.Written.{allBytes, bytesOf, plainFile, chunkOf}
 use Rattle.listing.specs.Cube.{cubeRecord, cubeRows, CubeLines}
 use Rattle.listing.proofs.Cube.{cube-lines}
 use Rattle.program.specs.Program.{listed, meshText, textAt, textFor, textOf}
 use Rattle.program.specs.Cube.{cubeFile, CubePrinted}
 
-cube-file : fileOf (plain cubeFile) ≡ File.Holds cubeFile
-unfolding cubeFile plain recordBytes allBytes bytesOf fileOf frontOf half word words lengthFits unitIn verticesIn idsIn ended endingOf
+cube-file : fileOf (plainFile cubeFile) ≡ File.Holds cubeFile
+unfolding cubeFile plainFile chunkOf allBytes bytesOf fileOf frontOf u16At u32At words lengthFits unitIn verticesIn idsIn ended endingOf
 cube-file = refl
 
 cube-passes : checkOf (floatsOf (cubeFile .vertices)) (cubeFile .ids) (ofBits binary32 (cubeFile .unit)) 13824 65536 2048 ≡ Check.Full

@@ -18,7 +18,7 @@ use Rattle.pieces.specs.declared.PieceCount.{PieceCount}
 use Rattle.pieces.specs.Answer.{PiecesGiven}
 use Rattle.listing.specs.declared.Listed.{Listed}
 use Rattle.listing.specs.Listing.{listingOf, refusedLine}
-use Rattle.listing.specs.Lists.{textBytes, areasShort, listedAs, areaWith, listingFor, Lists, ListsRefusal}
+use Rattle.listing.specs.Lists.{textBytes, textAreasShort, listedAs, areaWith, listingFor, Lists, ListsRefusal}
 use Rattle.program.specs.Program.{Prints}
 
 -- ---- pieces
@@ -61,7 +61,7 @@ keeps-count false (Profile.Invalid d) q = refl
 
 module _ (clip : Bool) (p : Profile) (q : MeshQto) (s : List Float) (n : ℕ) (area : List ℕ) where
   not-short : 4 * q .«surface_count» ≤ length s → 320 + 36 * q .«surface_count» ≤ length area
-      → areasShort (flagged clip p q .«surface_count») (length s) (length area) ≡ false
+      → textAreasShort (flagged clip p q .«surface_count») (length s) (length area) ≡ false
   unfolding textBytes
   not-short hs ha =
       rw (keeps-count clip p q, le-ltb (length s) (4 * q .«surface_count») hs, le-ltb (length area) (320 + 36 * q .«surface_count») ha)
@@ -76,6 +76,6 @@ module _ (clip : Bool) (p : Profile) (q : MeshQto) (s : List Float) (n : ℕ) (a
       (lengthIn r) area′
   record-prints f r area′ e hs ha given =
       rw (← same-text)
-      (listed-prints (areasShort (flagged clip p q .«surface_count») (length s) (length area))
+      (listed-prints (textAreasShort (flagged clip p q .«surface_count») (length s) (length area))
       (listingFor (flagged clip p q) s n) area r area′ (not-short hs ha)
       (rw e at (given .answers)) (rw e at (given .text)))

@@ -10,7 +10,7 @@ use lib.Ieee.{Float}
 use Rattle.meshfile.specs.declared.MeshFile.{MeshFile}
 use Rattle.meshfile.specs.declared.Reading.{Reading}
 use Rattle.meshfile.specs.Format.{Contents, File, fileOf}
-use Rattle.meshfile.specs.Reading.{floatsOf, areasShort, unlessShort, readingOf, floatsAfter, idsAfter, Reads}
+use Rattle.meshfile.specs.Reading.{floatsOf, meshAreasShort, readingOf, floatsAfter, idsAfter, Reads}
 use Rattle.meshfile.proofs.Most.{never-short}
 use Rattle.listing.specs.Listing.{refusedLine}
 use Rattle.program.specs.Program.{meshText, textFor, textOf}
@@ -29,9 +29,9 @@ readText vs ids (Reading.Refused n) = refusedLine n
 readText vs ids (Reading.File m) = meshText (take (m .floats) vs) (take (m .ids) ids) (m .unit) (m .clip) (m .profile)
 
 module _ (vs : List Float) (ids : List ℕ) where
-  text-by : (f : File) → ((m : Contents) → f ≡ File.Holds m → areasShort m (length vs) (length ids) ≡ false)
+  text-by : (f : File) → ((m : Contents) → f ≡ File.Holds m → meshAreasShort m (length vs) (length ids) ≡ false)
       → readText (floatsAfter f (length ids) vs) (idsAfter f (length vs) ids) (readingOf f (length vs) (length ids)) ≡ textFor f
-  unfolding readText floatsAfter idsAfter readingOf unlessShort textFor
+  unfolding readText floatsAfter idsAfter readingOf textFor
   text-by (File.Refused n) h = refl
   text-by (File.Holds m) h =
       rw (

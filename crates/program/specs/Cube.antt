@@ -3,8 +3,8 @@ use mathlib.Core.Path.{_≡_}
 use mathlib.Core.List.{[], _∷_}
 use Prim.Native.Nat.{ℕ}
 use Rattle.meshfile.specs.Format.{Contents}
-use Rattle.meshfile.specs.Written.{plain}
-use Rattle.listing.specs.Cube.{text, cubeText}
+use Rattle.meshfile.specs.Written.{plainFile}
+use Rattle.listing.specs.Cube.{endedLines, cubeText}
 use Rattle.program.specs.Program.{textOf}
 
 -- 2 as a word; 0 is 0
@@ -25,4 +25,4 @@ cubeFile =
     }
 
 abbrev pub CubePrinted : Type 0
-CubePrinted = textOf (plain cubeFile) ≡ text cubeText
+CubePrinted = textOf (plainFile cubeFile) ≡ endedLines cubeText

@@ -1,6 +1,6 @@
-// Runs the meshes of data/meshes, each a u32 length and so many bytes of the program's format, and prints for each what `takeoff` prints, and a line with what
-// the routines on ids say of its ids and what `compute` says to a work area that is one word short. The gate holds this to `stdout`, which the unchanged Rust
-// wrote (docs/DIFFERENCES.md says how).
+// Runs the meshes of data/meshes, each a u32 length and so many bytes of the program's format, and prints for each what
+// `takeoff` prints, and a line with what the routines on ids say of its ids and what `compute` says to a work area that is
+// one word short. The gate holds this to `stdout`, which the unchanged Rust wrote (docs/DIFFERENCES.md says how).
 ghost use Prim.Native.Nat.{_≤_, _<_};
 ghost use lib.ListN.{length};
 use chain::EdgeChain;

@@ -1,4 +1,5 @@
-// The square root of an `f64`: a guess by floats, held against the radicand by integer arithmetic on the pattern. Internal: `floats` passes it on.
+// The square root of an `f64`: a guess by floats, held against the radicand by integer arithmetic on the pattern.
+// Internal: `floats` passes it on.
 ghost use lib.Ieee.{binary64, ofBits, toBits};
 ghost use mathlib.Core.Logic.{_⊎_};
 ghost use mathlib.Core.Path.{_≡_};

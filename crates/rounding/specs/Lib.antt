@@ -1,3 +1,2 @@
--- What only the contracts of private functions speak of.
-pub mod Ways
-pub mod Sizes
+-- The definitions are those of `ieee`.
+pub mod inner

@@ -3,7 +3,7 @@ ghost use lib.Ieee.{binary32, binary64, ofBits, toBits};
 ghost use mathlib.Core.Path.{_≡_};
 ghost use Prim.Native.Nat.{_<_, _≤_};
 ghost use Rattle.ieee.specs.Rounded.{rounded};
-ghost use Rattle.rounding.specs.Sizes.{narrowSize};
+ghost use Rattle.rounding.specs.inner.Sizes.{narrowSize};
 use crate::ties_even::nearest_shift;
 use patterns::FIELD;
 use patterns::SIGN;

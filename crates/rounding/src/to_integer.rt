@@ -3,7 +3,7 @@
 ghost use lib.Ieee.{binary32, binary64};
 ghost use mathlib.Core.Path.{_≡_};
 ghost use Prim.Native.Nat.{_<_, _^_};
-ghost use Rattle.ieee.specs.Fields.{sized};
+ghost use Rattle.ieee.specs.inner.Fields.{sized};
 ghost use Rattle.ieee.specs.Integral.{half, toWhole};
 use crate::ties_away::nearest_shift;
 use patterns::FIELD;

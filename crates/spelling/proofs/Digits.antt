@@ -9,7 +9,7 @@ use borrow.Author.Tests.{lt-ltb, le-ltb}
 use lib.ListN.{length, set, take, drop}
 use lib.Seq.{set-append-left, take-set-lt, take-suc-set, length-take-le}
 use Rattle.spelling.specs.Text.{glyph, hex, decimalIn}
-use Rattle.spelling.specs.Steps.{written, Puts}
+use Rattle.spelling.specs.inner.Steps.{written, PutsText}
 use Rattle.spelling.proofs.Puts.{puts-both, puts-none}
 
 less : (k : ℕ) → suc k - 1 ≡ k
@@ -62,7 +62,7 @@ module _ (at w : ℕ) where
           later = rw (s .later, p) (written-before (at + (i - 1)) g (s .done) area₀ (omega arith));
         }
 
-    pub spelt-all : i ≤ 0 → Puts at (hex w) area₀ (at + 8) area
+    pub spelt-all : i ≤ 0 → PutsText at (hex w) area₀ (at + 8) area
     unfolding digits hex
     spelt-all h =
         let z : i ≡ 0 = omega arith in
@@ -97,8 +97,8 @@ long zero n l h = absurd (omega arith)
 long (suc k) n l h = rw (less k) (longer k n h)
 
 module _ {at r : ℕ} {t t′ : List ℕ} (k n g : ℕ) where
-  pub puts-short : n < 10 → g ≡ glyph n → Puts at (g ∷ []) t r t′ → Puts at (decimalIn k n) t r t′
+  pub puts-short : n < 10 → g ≡ glyph n → PutsText at (g ∷ []) t r t′ → PutsText at (decimalIn k n) t r t′
   puts-short h e p = rw (decimal-short k n h, ← e) p
 
-  pub puts-long : {r′ : ℕ} {t″ : List ℕ} → 0 < k → 10 ≤ n → g ≡ glyph (n % 10) → at ≤ length t → Puts at (decimalIn (k - 1) (n / 10)) t r t′ → Puts r (g ∷ []) t′ r′ t″ → Puts at (decimalIn k n) t r′ t″
+  pub puts-long : {r′ : ℕ} {t″ : List ℕ} → 0 < k → 10 ≤ n → g ≡ glyph (n % 10) → at ≤ length t → PutsText at (decimalIn (k - 1) (n / 10)) t r t′ → PutsText r (g ∷ []) t′ r′ t″ → PutsText at (decimalIn k n) t r′ t″
   puts-long l h e room p q = rw (long k n l h, ← e) (puts-both p q room)

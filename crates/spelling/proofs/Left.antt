@@ -4,14 +4,14 @@ use mathlib.Core.List.{List, [], _∷_, _++_}
 use Prim.Native.Nat.{ℕ, _+_, _≤_, _<_}
 use native.Mathlib.Omega.{arith}
 use lib.ListN.{length, set, length-append}
-use Rattle.spelling.specs.Steps.{Puts}
+use Rattle.spelling.specs.inner.Steps.{PutsText}
 use Rattle.spelling.proofs.Puts.{puts-both, puts-length, puts-none, puts-byte}
 
 -- the whole at a place of the area as it was; the rest at the place `end` of the area as it is
 pub record Left (at : ℕ) (whole area₀ : List ℕ) (end : ℕ) (rest area : List ℕ) : Type 0 where
   pub room : end + length rest ≤ length area
   pub kept : length area ≡ length area₀
-  pub joins : {r : ℕ} {area′ : List ℕ} → Puts end rest area r area′ → Puts at whole area₀ r area′
+  pub joins : {r : ℕ} {area′ : List ℕ} → PutsText end rest area r area′ → PutsText at whole area₀ r area′
 
 pub left-all : (at : ℕ) (whole area : List ℕ) → at + length whole ≤ length area → Left at whole area at whole area
 left-all at whole area h = record { room = h; kept = refl; joins = λ p. p }
@@ -25,7 +25,7 @@ module _ {at end : ℕ} {whole area₀ rest area : List ℕ} (l : Left at whole 
     pub left-room : end + length a ≤ length area
     left-room = omega (arith, l .room, both-parts)
 
-    pub left-less : {end′ : ℕ} {area′ : List ℕ} → Puts end a area end′ area′ → Left at whole area₀ end′ b area′
+    pub left-less : {end′ : ℕ} {area′ : List ℕ} → PutsText end a area end′ area′ → Left at whole area₀ end′ b area′
     left-less {end′} {area′} p =
         let k : length area′ ≡ length area = puts-length p left-room in
         record {
@@ -42,5 +42,5 @@ module _ {at end : ℕ} {whole area₀ rest area : List ℕ} (l : Left at whole 
     pub left-byte : Left at whole area₀ (end + 1) b (set area end byte)
     left-byte = left-less (byte ∷ []) b e (puts-byte end byte area byte-room)
 
-  pub left-none : rest ≡ [] → Puts at whole area₀ end area
+  pub left-none : rest ≡ [] → PutsText at whole area₀ end area
   left-none e = l .joins (rw e (puts-none end area))

@@ -7,7 +7,7 @@ use native.Mathlib.Nat.{add-assoc, add-zero}
 use native.Mathlib.Numerals.{add-one}
 use lib.ListN.{length, take, drop, set, getD, length-append, length-drop, take-append-drop}
 use lib.Seq.{paste, paste-suc, take-length, take-at, drop-at, drop-drop, length-take-le, set-split}
-use Rattle.spelling.specs.Steps.{written, Puts}
+use Rattle.spelling.specs.inner.Steps.{written, PutsText}
 
 -- ---- one text behind another
 
@@ -30,8 +30,8 @@ written-length : (at : ℕ) (a t : List ℕ) → at + length a ≤ length t → 
 unfolding written
 written-length at a t h = rw (length-append (take at t) (a ++ drop (at + length a) t), length-take-le at t (omega arith), length-append a (drop (at + length a) t), length-drop (at + length a) t) (omega arith)
 
-module _ {at r : ℕ} {a t t′ : List ℕ} (p : Puts at a t r t′) where
-  pub puts-both : {r′ : ℕ} {b t″ : List ℕ} → Puts r b t′ r′ t″ → at ≤ length t → Puts at (a ++ b) t r′ t″
+module _ {at r : ℕ} {a t t′ : List ℕ} (p : PutsText at a t r t′) where
+  pub puts-both : {r′ : ℕ} {b t″ : List ℕ} → PutsText r b t′ r′ t″ → at ≤ length t → PutsText at (a ++ b) t r′ t″
   puts-both {r′} {b} {t″} q h =
       record {
         place = rw length-append (omega (arith, p .place, q .place));
@@ -43,11 +43,11 @@ module _ {at r : ℕ} {a t t′ : List ℕ} (p : Puts at a t r t′) where
 
 -- ---- nothing, and byte by byte
 
-pub puts-none : (at : ℕ) (area : List ℕ) → Puts at [] area at area
+pub puts-none : (at : ℕ) (area : List ℕ) → PutsText at [] area at area
 unfolding written
 puts-none at area = record { place = omega arith; later = rw (add-zero at) (sym (take-append-drop at area)) }
 
-pub puts-byte : (at byte : ℕ) (area : List ℕ) → at < length area → Puts at (byte ∷ []) area (at + 1) (set area at byte)
+pub puts-byte : (at byte : ℕ) (area : List ℕ) → at < length area → PutsText at (byte ∷ []) area (at + 1) (set area at byte)
 unfolding written
 puts-byte at byte area h = record { place = omega arith; later = rw (set-split area at byte h, add-one at) }
 
@@ -55,7 +55,7 @@ pub paste-more : (at : ℕ) (text area area′ : List ℕ) (i : ℕ) → i < len
     → set area′ (at + i) (getD text i 0) ≡ paste area at text (i + 1)
 paste-more at text area area′ i l h e = rw (e, add-one i) (paste-suc area at text i 0 (omega arith) l)
 
-pub puts-all : (at : ℕ) (text area area′ : List ℕ) (i : ℕ) → i ≡ length text → area′ ≡ paste area at text i → Puts at text area (at + i) area′
+pub puts-all : (at : ℕ) (text area area′ : List ℕ) (i : ℕ) → i ≡ length text → area′ ≡ paste area at text i → PutsText at text area (at + i) area′
 unfolding written
 puts-all at text area area′ i e h =
     record {

@@ -13,7 +13,7 @@ use lib.Ieee.{Float, nan}
 use mir.Val.{boolByte}
 use Rattle.ids.proofs.Same.{both}
 use Rattle.spelling.specs.Text.{hex, bits}
-use Rattle.spelling.specs.Steps.{lineOf, filledAt, filled}
+use Rattle.spelling.specs.inner.Steps.{lineOf, filledAt, filled}
 use Rattle.spelling.proofs.Left.{Left, left-room}
 
 -- a byte that is no mark stays, and so does a mark when no number is left

@@ -1,3 +1,3 @@
--- How the listing is spelt: names and numbers, and the steps of the code.
+-- How the listing is spelt: names and numbers.
 pub mod Text
-pub mod Steps
+pub mod inner

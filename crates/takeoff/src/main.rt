@@ -1,4 +1,5 @@
-// The program `takeoff`: reads a mesh file from standard input to its end and prints its listing, or `refused N`. What it prints is `program::run_front`'s.
+// The program `takeoff`: reads a mesh file from standard input to its end and prints its listing, or `refused N`.
+// What it prints is `program::run_front`'s.
 ghost use Prim.Native.Nat.{_+_, _≤_};
 ghost use mathlib.Core.Path.{_≡_};
 ghost use lib.ListN.{length, take};
@@ -55,7 +56,8 @@ fn skip_rest() {
     }
 }
 
-// Reads behind the n bytes that are there to the end of the input, and keeps as much as the area holds. The n bytes stay as they are, and are counted.
+// Reads behind the n bytes that are there to the end of the input, and keeps as much as the area holds.
+// The n bytes stay as they are, and are counted.
 fn read_input(bytes: &mut [u8], n: usize) -> Input
     requires { ⌜ n ≤ length (now bytes) ⌝ }
     ensures { λ r. ⌜ (take n (now (bytes .exit)) ≡ take n (now (bytes .entry))) × (n ≤ r .n) × (r .n ≤ length (now (bytes .exit))) ⌝ }

@@ -1,4 +1,5 @@
--- `cube::below_cube` meets its contract. With i turns to go q * a + rest is the number that all but the last 16 * i digits of b * 2 ^ e make.
+-- `cube::below_cube` meets its contract. With i turns to go q * a + rest is the number that all but the last 16 * i digits of b * 2 ^ e
+-- make.
 -- Assumes nothing.
 use mathlib.Core.Path.{_≡_, sym, _∙_, subst}
 use Prim.Native.Nat.{ℕ, _+_, _-_, _*_, _/_, _%_, _^_, _≤_, _<_}
@@ -63,15 +64,6 @@ returns c = let start = c .before in rw (c .if1 .taken) (sym (le-ltb (start .arg
 mul-square : tie.Need-mul-square Inv-loop μ-loop
 mul-square c = let start = c .before in omega (arith, square-below (start .args .a) 24 (start .pre .0))
 
-shl-n : tie.Need-shl-n Inv-loop μ-loop
-shl-n c = omega arith
-
-div-q : tie.Need-div-q Inv-loop μ-loop
-div-q c = omega arith
-
-rem-rest : tie.Need-rem-rest Inv-loop μ-loop
-rem-rest c = omega arith
-
 loop-holds : tie.Need-loop-holds Inv-loop μ-loop
 loop-holds c = let start = c .before in first (start .args .a) (start .args .b) (start .args .e) (omega arith) (start .pre .1)
 
@@ -84,22 +76,10 @@ mul-d c = let small = c .before .before .loop .inv .small in omega arith
 mul-q : tie.Need-mul-q Inv-loop μ-loop
 mul-q c = let start = c .before .before .before .before in omega (arith, square-below (start .args .a) 24 (start .pre .0))
 
-div-q-2 : tie.Need-div-q-2 Inv-loop μ-loop
-div-q-2 c = omega arith
-
 add-q : tie.Need-add-q Inv-loop μ-loop
 add-q c =
     let start = c .before .before .before .before in
     omega (arith, square-below (start .args .a) 24 (start .pre .0), digits-lt (c .before .before .loop .inv) (omega arith))
-
-rem-rest-2 : tie.Need-rem-rest-2 Inv-loop μ-loop
-rem-rest-2 c = omega arith
-
-sub-i : tie.Need-sub-i Inv-loop μ-loop
-sub-i c = omega arith
-
-loop-less : tie.Need-loop-less Inv-loop μ-loop
-loop-less c = omega arith
 
 loop-again : tie.Need-loop-again Inv-loop μ-loop
 loop-again c = next (c .before .before .loop .inv) (omega arith) (omega arith)
@@ -120,5 +100,6 @@ returns-3 c =
 pub below-cube-spec : {M : Type 1} → statement M
 below-cube-spec =
     tie.close
-    (tie.spec Inv-loop μ-loop returns mul-square shl-n div-q rem-rest loop-holds returns-2 mul-d mul-q div-q-2 add-q
-    rem-rest-2 sub-i loop-less loop-again returns-3)
+    (tie.spec Inv-loop μ-loop returns mul-square (λ c. omega arith) (λ c. omega arith) (λ c. omega arith) loop-holds
+    returns-2 mul-d mul-q (λ c. omega arith) add-q (λ c. omega arith) (λ c. omega arith) (λ c. omega arith) loop-again
+    returns-3)

@@ -8,14 +8,14 @@ use borrow.Author.Tests.{eq-eqb, le-leb, ne-eqb}
 use lib.Dec.{T, eqb, leb, eqb→eq, leb→le, lit<}
 use lib.IntN.{ℤ, pos, negsuc, natAbs}
 use lib.Signed.{nonNeg}
-use lib.Ieee.{Float, nan, inf, fin, Format, prec, up, down, fits, ofInt, toSigned, whole}
-use lib.Ieee.Back.{round-whole, whole-unique}
+use lib.Ieee.{Float, nan, inf, fin, Format, prec, up, down, ofInt, toSigned, whole}
+use lib.Ieee.Back.{round-whole}
 use lib.Ieee.Exact.{HasValue}
-use lib.Ieee.Fits.{and-l, and-r, down-pos, ofInt-fits, up-pos}
-use Rattle.ieee.specs.WholeNumber.{IsWhole, SmallWhole, signed}
+use lib.Ieee.Fits.{and-l, and-r, down-pos, up-pos}
+use Rattle.ieee.specs.WholeNumber.{IsWhole}
+use Rattle.ieee.specs.inner.Wholes.{SmallWhole, signed}
 use Rattle.ieee.specs.Magnitude.{magnitude}
-use Rattle.ieee.specs.Rounded.{rounded}
-use Rattle.ieee.proofs.Values.ByValue.{magnitude-value, rounded-values}
+use Rattle.ieee.proofs.Values.ByValue.{magnitude-value}
 use Rattle.ieee.proofs.Integers.Sums.{signed-is}
 use Rattle.ieee.proofs.Order.Ranges.{signed-cut}
 
@@ -25,16 +25,7 @@ unfolding ofInt
 ofInt-whole f (pos n) l = round-whole f false n l
 ofInt-whole f (negsuc n) l = round-whole f true (suc n) l
 
-pub whole-one-float : (f : Format) (x y : Float) (a : ℤ) → T (fits f x) → T (fits f y) → IsWhole x a → IsWhole y a → x ≡ y
-whole-one-float f x y a p q h k = whole-unique f x y (not (nonNeg a)) (natAbs a) p q h k
-
-pub whole-ofInt : (f : Format) (x : Float) (a : ℤ) → T (fits f x) → natAbs a ≤ 2 ^ prec f → IsWhole x a → x ≡ ofInt f a
-whole-ofInt f x a p l h = whole-one-float f x (ofInt f a) a p (ofInt-fits f a) h (ofInt-whole f a l)
-
 -- ---- from one such float to another
-pub rounded-whole : (f : Format) (x : Float) (a : ℤ) → natAbs a ≤ 2 ^ prec f → IsWhole x a → IsWhole (rounded f x) a
-rounded-whole f x a l h = rw (rounded-values f x (not (nonNeg a)) (natAbs a) 1 (lit< tt) h) (round-whole f (not (nonNeg a)) (natAbs a) l)
-
 pub magnitude-whole : (x : Float) (a : ℤ) → IsWhole x a → IsWhole (magnitude x) (pos (natAbs a))
 magnitude-whole x a h = magnitude-value x (not (nonNeg a)) (natAbs a) 1 h
 
@@ -68,7 +59,8 @@ whole-of-test f (fin s m e) t =
     let c = m * up e / down e in
     let r = m * up e % down e in
     let both = and-l (eqb r 0 && leb c (2 ^ prec f)) (not (s && eqb m 0)) t in
-    of s c (leb→le c (2 ^ prec f) (and-r (eqb r 0) (leb c (2 ^ prec f)) both)) (no-rest s m e (eqb→eq r 0 (and-l (eqb r 0) (leb c (2 ^ prec f)) both)))
+    of s c (leb→le c (2 ^ prec f) (and-r (eqb r 0) (leb c (2 ^ prec f)) both))
+    (no-rest s m e (eqb→eq r 0 (and-l (eqb r 0) (leb c (2 ^ prec f)) both)))
     (and-r (eqb r 0 && leb c (2 ^ prec f)) (not (s && eqb m 0)) t)
   where
     of : (u : Bool) (c : ℕ) → c ≤ 2 ^ prec f → HasValue (fin u m e) u c 1 → T (not (u && eqb m 0)) → SmallWhole f (fin u m e)
@@ -81,7 +73,8 @@ unfolding whole
 test-of-whole f nan a l v = absurd v
 test-of-whole f (inf s) a l v = absurd v
 test-of-whole f (fin s m e) a l v =
-    rw (cut m e (natAbs a) (v .1), mul-mod-left (natAbs a) (down e), mul-div-cancel (natAbs a) (down-pos e), le-leb (natAbs a) (2 ^ prec f) l, v .0)
+    let n = natAbs a in
+    rw (cut m e n (v .1), mul-mod-left n (down e), mul-div-cancel n (down-pos e), le-leb n (2 ^ prec f) l, v .0)
     (signed-some a (cut m e (natAbs a) (v .1)))
   where
     signed-some : (a : ℤ) → m * up e ≡ natAbs a * down e → T (not (not (nonNeg a) && eqb m 0))

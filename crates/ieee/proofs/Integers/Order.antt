@@ -1,4 +1,5 @@
--- Floats that are whole numbers, zeros of either sign included, compare as the integers do; so both moved by one integer compare alike. Assumes nothing.
+-- Floats that are whole numbers, zeros of either sign included, compare as the integers do; so both moved by one integer compare alike.
+-- Assumes nothing.
 use mathlib.Core.Path.{_≡_, refl, sym, _∙_, ap}
 use mathlib.Core.Bool.{Bool, true, false, not, _&&_, cond, decide}
 use Prim.Native.Nat.{ℕ, zero, suc, _+_, _≤_}
@@ -6,10 +7,11 @@ use native.Mathlib.Nat.{zero-add}
 use native.Mathlib.Omega.{arith}
 use borrow.Author.Tests.{lt-ltb, le-ltb, eq-eqb, ne-eqb}
 use lib.Dec.{T, ltb, le→leb, leb·suc-suc, lit<}
-use lib.IntN.{ℤ, pos, negsuc, negℤ, natAbs, ℤ-discrete, pos-ne-negsuc, _+ℤ_, _-ℤ_}
+use lib.IntN.{ℤ, pos, negsuc, natAbs, ℤ-discrete, pos-ne-negsuc, _+ℤ_, _-ℤ_}
 use lib.Signed.{ltZ, leZ, nonNeg}
 use lib.Ieee.{Float, below, lt, le, eq, isNan}
-use Rattle.ieee.specs.WholeNumber.{IsWhole, EqualsWhole, signed}
+use Rattle.ieee.specs.WholeNumber.{IsWhole}
+use Rattle.ieee.specs.inner.Wholes.{EqualsWhole, signed}
 use Rattle.ieee.proofs.Values.ByValue.{lt-values, value-number}
 use Rattle.ieee.proofs.Order.Comparison.{leb-ltb, eqb-ltb, le-not-lt, eq-not-lt}
 use Rattle.ieee.proofs.Integers.Sums.{diff-moved, signed-is}
@@ -76,15 +78,14 @@ module _ (x y : Float) (a b : ℤ) (h : EqualsWhole x a) (k : EqualsWhole y b) w
   le-exact = le-not-lt x y (equals-number x a h) (equals-number y b k) ∙ rw (lt-exact y x b a k h) (sym (leZ-ltZ a b))
 
   pub eq-exact : eq x y ≡ decide (ℤ-discrete a b)
-  eq-exact = eq-not-lt x y (equals-number x a h) (equals-number y b k) ∙ rw (lt-exact x y a b h k, lt-exact y x b a k h) (sym (eqZ-ltZ a b (ℤ-discrete a b)))
+  eq-exact =
+      eq-not-lt x y (equals-number x a h) (equals-number y b k)
+      ∙ rw (lt-exact x y a b h k, lt-exact y x b a k h) (sym (eqZ-ltZ a b (ℤ-discrete a b)))
 
 -- ---- no -0
 module _ (x y : Float) (a b : ℤ) (h : IsWhole x a) (k : IsWhole y b) where
   pub lt-whole : lt x y ≡ ltZ a b
   lt-whole = lt-exact x y a b (whole-equals x a h) (whole-equals y b k)
-
-  pub le-whole : le x y ≡ leZ a b
-  le-whole = le-exact x y a b (whole-equals x a h) (whole-equals y b k)
 
   pub eq-whole : eq x y ≡ decide (ℤ-discrete a b)
   eq-whole = eq-exact x y a b (whole-equals x a h) (whole-equals y b k)
@@ -94,30 +95,17 @@ upper : (a : ℤ) (c : ℕ) → natAbs a ≤ c → T (leZ a (pos c))
 upper (pos n) c l = le→leb n c l
 upper (negsuc n) c l = tt
 
-lower : (a : ℤ) (c : ℕ) → natAbs a ≤ c → T (leZ (negℤ (pos c)) a)
-lower (pos n) zero l = le→leb 0 n (omega arith)
-lower (pos n) (suc c) l = tt
-lower (negsuc n) zero l = absurd (omega arith)
-lower (negsuc n) (suc c) l = le→leb n c (omega arith)
-
 module _ (x y : Float) (a : ℤ) (c : ℕ) (h : EqualsWhole x a) (l : natAbs a ≤ c) where
   pub under-bound : EqualsWhole y (pos c) → T (le x y)
   under-bound k = rw (le-exact x y a (pos c) h k) (upper a c l)
-
-  pub over-bound : EqualsWhole y (negℤ (pos c)) → T (le y x)
-  over-bound k = rw (le-exact y x (negℤ (pos c)) a k h) (lower a c l)
 
 -- ---- moved by one integer
 module _ (x y x′ y′ : Float) (a b d : ℤ) (h : IsWhole x a) (k : IsWhole y b) (h′ : IsWhole x′ (a +ℤ d)) (k′ : IsWhole y′ (b +ℤ d)) where
   pub lt-moved : lt x′ y′ ≡ lt x y
   lt-moved = lt-whole x′ y′ (a +ℤ d) (b +ℤ d) h′ k′ ∙ ltZ-moved a b d ∙ sym (lt-whole x y a b h k)
 
-  pub le-moved : le x′ y′ ≡ le x y
-  le-moved =
-      le-whole x′ y′ (a +ℤ d) (b +ℤ d) h′ k′ ∙ leZ-ltZ (a +ℤ d) (b +ℤ d) ∙ ap not (ltZ-moved b a d) ∙ sym (leZ-ltZ a b)
-      ∙ sym (le-whole x y a b h k)
-
   pub eq-moved : eq x′ y′ ≡ eq x y
   eq-moved =
-      eq-whole x′ y′ (a +ℤ d) (b +ℤ d) h′ k′ ∙ eqZ-ltZ (a +ℤ d) (b +ℤ d) (ℤ-discrete (a +ℤ d) (b +ℤ d)) ∙ rw (ltZ-moved a b d, ltZ-moved b a d) (sym (eqZ-ltZ a b (ℤ-discrete a b)))
+      eq-whole x′ y′ (a +ℤ d) (b +ℤ d) h′ k′ ∙ eqZ-ltZ (a +ℤ d) (b +ℤ d) (ℤ-discrete (a +ℤ d) (b +ℤ d))
+      ∙ rw (ltZ-moved a b d, ltZ-moved b a d) (sym (eqZ-ltZ a b (ℤ-discrete a b)))
       ∙ sym (eq-whole x y a b h k)

@@ -64,7 +64,8 @@ module _ (scale : ℕ → ℕ) (grows : (x y : ℕ) → x < y → scale x < scal
       under l = lt-of-lt-of-le (grows (q * c + v) (2 * q * c) (omega arith)) lo
 
       over : q * c < v → mid ≤ scale (q * c + v)
-      over l = mono ((2 * q + 1) * c) (q * c + v) (⊎-elim (λ (g : v ≤ q * c). absurd (omega arith)) (λ (g : (q + 1) * c ≤ v). omega arith) apart)
+      over l =
+          mono ((2 * q + 1) * c) (q * c + v) (⊎-elim (λ (g : v ≤ q * c). absurd (omega arith)) (λ (g : (q + 1) * c ≤ v). omega arith) apart)
 
   upper : n < scale (2 * (q + 1) * c) → mid ≤ n → At ((q + 1) * c)
   upper hi h =
@@ -75,7 +76,9 @@ module _ (scale : ℕ → ℕ) (grows : (x y : ℕ) → x < y → scale x < scal
       }
     where
       under : v < (q + 1) * c → scale ((q + 1) * c + v) ≤ mid
-      under l = mono ((q + 1) * c + v) ((2 * q + 1) * c) (⊎-elim (λ (g : v ≤ q * c). omega arith) (λ (g : (q + 1) * c ≤ v). absurd (omega arith)) apart)
+      under l =
+          mono ((q + 1) * c + v) ((2 * q + 1) * c) (⊎-elim (λ (g : v ≤ q * c). omega arith)
+          (λ (g : (q + 1) * c ≤ v). absurd (omega arith)) apart)
 
       over : (q + 1) * c < v → n < scale ((q + 1) * c + v)
       over l = lt-of-lt-of-le hi (mono (2 * (q + 1) * c) ((q + 1) * c + v) (omega arith))
@@ -88,7 +91,8 @@ module _ (scale : ℕ → ℕ) (grows : (x y : ℕ) → x < y → scale x < scal
         | no h ↦
             elim (decLt mid n) [
               | yes g ↦ rw (cmp-gt n mid g, ← add-one q) (upper hi (le-of-lt g))
-              | no g ↦ let e : n ≡ mid = omega arith in rw (cmp-eq n mid e) (tied (q % 2) refl (omega arith) (le-of-eq e) (le-of-eq (sym e)))
+              | no g ↦ let e : n ≡ mid = omega arith in
+                  rw (cmp-eq n mid e) (tied (q % 2) refl (omega arith) (le-of-eq e) (le-of-eq (sym e)))
             ]
       ]
     where

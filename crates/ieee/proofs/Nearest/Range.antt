@@ -1,4 +1,5 @@
--- A rounded number is finite below the middle of the largest value and the next power of two, and an infinity from there on. Assumes nothing.
+-- A rounded number is finite below the middle of the largest value and the next power of two, and an infinity from there on.
+-- Assumes nothing.
 use mathlib.Core.Path.{_≡_, refl, sym, ap, _∙_, subst}
 use mathlib.Core.Bool.{Bool, false}
 use Prim.Native.Nat.{ℕ, suc, _+_, _-_, _*_, _^_, _≤_, _<_}
@@ -30,7 +31,8 @@ overflow-is binary32 = refl
 overflow-is binary64 = refl
 
 -- a / b below the limit m is nearer to the largest value p * c than to any r from (p + 1) * c on
-below-middle : (p c l b a r m : ℕ) → 0 < l → 0 < c → m * (2 * l) ≡ (2 * p + 1) * c → (p + 1) * c ≤ r → (p * c < r → (r + p * c) * b ≤ 2 * (a * l))
+below-middle : (p c l b a r m : ℕ) → 0 < l → 0 < c → m * (2 * l) ≡ (2 * p + 1) * c → (p + 1) * c ≤ r
+    → (p * c < r → (r + p * c) * b ≤ 2 * (a * l))
     → a < m * b → ⊥
 below-middle p c l b a r m L C e g side h =
     let up : (r + p * c) * b ≤ 2 * (a * l) = side (omega arith) in

@@ -4,7 +4,9 @@ use mathlib.Core.Logic.{inr}
 use mathlib.Core.Bool.{false}
 use Prim.Native.Nat.{ℕ, suc, _+_, _-_, _*_, _/_, _%_, _^_, _≤_, _<_, compare}
 use native.Mathlib.Decide.{decLt}
-use native.Mathlib.Nat.{div-div-eq-div-mul, div-lt-iff-lt-mul, eq-of-mul-eq-mul-right, le-div-iff-mul-le, le-of-eq, le-of-lt, le-trans, lt-of-le-of-lt, lt-of-lt-of-le, mul-assoc, mul-div-cancel, mul-le-mul, mul-le-mul-left, mul-le-mul-right, mul-lt-mul-of-pos-right, mul-pos, mul-right-comm, one-mul}
+use native.Mathlib.Nat.{div-div-eq-div-mul, div-lt-iff-lt-mul, eq-of-mul-eq-mul-right, le-div-iff-mul-le, le-of-eq, le-of-lt, le-trans}
+use native.Mathlib.Nat.{lt-of-le-of-lt, lt-of-lt-of-le, mul-assoc, mul-div-cancel, mul-le-mul, mul-le-mul-left, mul-le-mul-right}
+use native.Mathlib.Nat.{mul-lt-mul-of-pos-right, mul-pos, mul-right-comm, one-mul}
 use native.Mathlib.Omega.{arith}
 use lib.Arith.{lt-of-le-ne}
 use lib.Dec.{T, lit≤}
@@ -82,7 +84,8 @@ module _ (f : Format) (a b : ℕ) (B : 0 < b) (A : 0 < a) (u : InUnits f a b) wh
   first-digit : 2 ^ (prec f - 1) ≤ floorRoot (n / b)
   first-digit =
       let places : prec f - 1 + (prec f - 1) ≤ low f = omega (arith, two f, wide f) in
-      let least : 2 ^ (prec f - 1) * 2 ^ (prec f - 1) ≤ l = le-trans (le-of-eq (sym (pow-add 2 (prec f - 1) (prec f - 1)))) (pow-mono places) in
+      let least : 2 ^ (prec f - 1) * 2 ^ (prec f - 1) ≤ l =
+      le-trans (le-of-eq (sym (pow-add 2 (prec f - 1) (prec f - 1)))) (pow-mono places) in
       let one : l ≤ n / b = rw whole-is (le-trans (le-of-eq (sym (one-mul l))) (mul-le-mul-right l some)) in
       omega (arith, square-lt (2 ^ (prec f - 1)) (floorRoot (n / b) + 1) (lt-of-le-of-lt (le-trans least one) (floorRoot-is (n / b) .1)))
 
@@ -105,7 +108,8 @@ module _ (f : Format) (a b : ℕ) (B : 0 < b) (A : 0 < a) (u : InUnits f a b) wh
       let top : 2 ^ (p + p) < 2 ^ (low f + suc (emax f) + low f) =
       rw (pow-add 2 p p, pow-add 2 (low f + suc (emax f)) (low f), ← square (prec f - 1) k)
       (lt-of-le-of-lt (le-trans digits (le-of-eq whole-is)) (mul-lt-mul-of-pos-right (u .room) (pow-pos (low f)))) in
-      let places : prec f + k < low f + suc (emax f) = omega (arith, two f, wide f, pow-lt-back (p + p) (low f + suc (emax f) + low f) top) in
+      let places : prec f + k < low f + suc (emax f) =
+      omega (arith, two f, wide f, pow-lt-back (p + p) (low f + suc (emax f) + low f) top) in
       lt-of-le-of-lt (mul-le-mul-right c (keeps-le f a b B)) (subst (λ (z : ℕ). z < overflow f) (pow-add 2 (prec f) k) (pow-lt places))
 
   value : HasValue (rootRound f a b) false (keeps f a b * c) l

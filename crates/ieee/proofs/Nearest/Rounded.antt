@@ -4,7 +4,8 @@ use mathlib.Core.Logic.{inl, inr, ⊎-elim}
 use mathlib.Core.Bool.{Bool, true, false, cond}
 use Prim.Native.Nat.{ℕ, suc, _+_, _-_, _*_, _/_, _%_, _^_, _≤_, _<_, compare}
 use native.Mathlib.Decide.{decLt}
-use native.Mathlib.Nat.{div-add-mod', div-div-eq-div-mul, div-mul-le-self, eq-zero-or-pos, le-div-iff-mul-le, le-of-eq, le-trans, lt-of-le-of-lt, mul-le-mul-right, mul-lt-mul-of-pos-right, mul-pos}
+use native.Mathlib.Nat.{div-add-mod', div-div-eq-div-mul, div-mul-le-self, eq-zero-or-pos, le-div-iff-mul-le, le-of-eq, le-trans}
+use native.Mathlib.Nat.{lt-of-le-of-lt, mul-le-mul-right, mul-lt-mul-of-pos-right, mul-pos}
 use native.Mathlib.Omega.{arith}
 use lib.Dec.{T, ltb→lt}
 use lib.Pow.{pow-add, pow-pos}
@@ -70,11 +71,13 @@ module _ (f : Format) (a b : ℕ) (B : 0 < b) where
       (eq-zero-or-pos k)
 
   -- against any value m * 2 ^ j of the format, and past its largest too
-  pub near : (m j : ℕ) → m < 2 ^ prec f → Sided ((grid f a b + m * 2 ^ j) * b) (2 * (a * 2 ^ low f)) (2 * (a * 2 ^ low f) ≡ mid) (grid f a b) (m * 2 ^ j)
+  pub near : (m j : ℕ) → m < 2 ^ prec f → Sided ((grid f a b + m * 2 ^ j) * b) (2 * (a * 2 ^ low f)) (2 * (a * 2 ^ low f) ≡ mid)
+      (grid f a b) (m * 2 ^ j)
   near m j h =
       let u : 0 < b * 2 ^ k = mul-pos B (pow-pos k) in
       rw (closest-mid n b (2 ^ k))
-      (sided (λ s. s * b) (λ x y l. mul-lt-mul-of-pos-right l B) (2 * n) (2 ^ k) q (m * 2 ^ j) (gap (prec f) m j q k (omega (arith, two f)) h leading)
+      (sided (λ s. s * b) (λ x y l. mul-lt-mul-of-pos-right l B) (2 * n) (2 ^ k) q (m * 2 ^ j)
+      (gap (prec f) m j q k (omega (arith, two f)) h leading)
       (omega (arith, div-mul-le-self n (b * 2 ^ k))) (omega (arith, lt-next n (b * 2 ^ k) u)))
 
   -- ---- at a tie the pattern is even
@@ -120,7 +123,8 @@ round-nearest f s a b B t v g h =
     let over : sum * l ≡ (R + W) * d = sum-over r v l R W L at-r (u .is) in
     let scaled : sum * b * l ≡ (R + W) * b * d = omega (arith, ap (λ (z : ℕ). z * b) over) in
     let side =
-    in-fractions r v l R W L at-r (u .is) l d (sum * b) ((R + W) * b) (2 * a * d) (2 * n) (2 * n ≡ mid f a b B) L (mul-pos (den-pos r) (den-pos v))
+    in-fractions r v l R W L at-r (u .is) l d (sum * b) ((R + W) * b) (2 * a * d) (2 * n) (2 * n ≡ mid f a b B) L
+    (mul-pos (den-pos r) (den-pos v))
     scaled (omega arith) (near f a b B (u .m) (u .j) (u .few)) in
     record { below = side .below; above = side .above; even = λ c e. even-bits f a b B s room (side .tie c e) }
 

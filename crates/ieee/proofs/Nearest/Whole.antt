@@ -13,7 +13,8 @@ use lib.Ieee.Back.{round-whole}
 use lib.Ieee.Exact.{HasValue, round-exact}
 use lib.Ieee.Fits.{down-pos, two}
 use lib.Ieee.Scale.{finite}
-use Rattle.ieee.specs.Integral.{GreatestBelow, HalfAway, NoFraction, LeastAbove, Way, cut, away, half, toWhole, integral, floor, ceiling, halfAway}
+use Rattle.ieee.specs.Integral.{GreatestBelow, HalfAway, NoFraction, LeastAbove, Way, cut, away, half, toWhole, integral, floor}
+use Rattle.ieee.specs.Integral.{ceiling, halfAway}
 use Rattle.ieee.proofs.Numbers.Basic.{pow-half}
 use Rattle.ieee.proofs.Order.Signed.{AtMost, at-most-of-le, at-most-self, le-of-at-most}
 use Rattle.ieee.proofs.Values.OneFloat.{in-units, short}
@@ -37,7 +38,8 @@ integral-exact f above below s m (negsuc k) t =
     let l : m * 1 / c < hid f =
     div-lt-iff-lt-mul (pow-pos (suc k)) .1 (half-less (m * 1) (hid f) c (omega (arith, short f s m (negsuc k) t)) (pow-mono {i =
     1} (omega arith))) in
-    round-whole f s (toWhole (cond s below above) (m * 1) c) (omega (arith, whole-le (cond s below above) (m * 1) c (pow-pos (suc k)), pow-pos (prec f - 1)))
+    round-whole f s (toWhole (cond s below above) (m * 1) c)
+    (omega (arith, whole-le (cond s below above) (m * 1) c (pow-pos (suc k)), pow-pos (prec f - 1)))
 
 -- ---- whole numbers
 whole-value : (z : Float) → NoFraction z → (t : Bool) × (p : ℕ) × HasValue z t p 1
@@ -55,7 +57,8 @@ flip : {A B : Type 0} → A × B → B × A
 flip h = (h .1, h .0)
 
 floor-iff : (t s : Bool) (p a b : ℕ) → 0 < b
-    → (AtMost t (p * b) s a → AtMost t p s (toWhole (cond s away cut) a b)) × (AtMost t p s (toWhole (cond s away cut) a b) → AtMost t (p * b) s a)
+    → (AtMost t (p * b) s a → AtMost t p s (toWhole (cond s away cut) a b))
+    × (AtMost t p s (toWhole (cond s away cut) a b) → AtMost t (p * b) s a)
 unfolding AtMost
 floor-iff false false p a b B = cut-iff a b p B
 floor-iff false true p a b B = none-iff a b p B
@@ -63,7 +66,8 @@ floor-iff true false p a b B = (λ h. zero-le, λ h. zero-le)
 floor-iff true true p a b B = away-iff a b p B
 
 ceiling-iff : (t s : Bool) (p a b : ℕ) → 0 < b
-    → (AtMost s a t (p * b) → AtMost s (toWhole (cond s cut away) a b) t p) × (AtMost s (toWhole (cond s cut away) a b) t p → AtMost s a t (p * b))
+    → (AtMost s a t (p * b) → AtMost s (toWhole (cond s cut away) a b) t p)
+    × (AtMost s (toWhole (cond s cut away) a b) t p → AtMost s a t (p * b))
 unfolding AtMost
 ceiling-iff false false p a b B = away-iff a b p B
 ceiling-iff true false p a b B = (λ h. flip (none-iff a b p B .0 (h .1, h .0)), λ h. flip (none-iff a b p B .1 (h .1, h .0)))
@@ -88,7 +92,9 @@ module _ (f : Format) (s : Bool) (m : ℕ) (e : ℤ) (t : T (fits f (fin s m e))
       let B = down-pos e in
       record {
         whole = no-fraction (floor f x) s w is;
-        at-most = le-of-at-most s s w 1 a b (pow-pos 0) B (floor f x) x is (refl, refl) (rw (mul-one a) (floor-iff s s w a b B .1 (at-most-self s w)));
+        at-most =
+            le-of-at-most s s w 1 a b (pow-pos 0) B (floor f x) x is (refl, refl)
+            (rw (mul-one a) (floor-iff s s w a b B .1 (at-most-self s w)));
         greatest = λ z i h.
             let v = whole-value z i in
             let o = at-most-of-le (v .0) s (v .1) 1 a b (pow-pos 0) B z x (v .2) (refl, refl) h in
@@ -103,7 +109,9 @@ module _ (f : Format) (s : Bool) (m : ℕ) (e : ℤ) (t : T (fits f (fin s m e))
       let B = down-pos e in
       record {
         whole = no-fraction (ceiling f x) s w is;
-        at-least = le-of-at-most s s a b w 1 B (pow-pos 0) x (ceiling f x) (refl, refl) is (rw (mul-one a) (ceiling-iff s s w a b B .1 (at-most-self s w)));
+        at-least =
+            le-of-at-most s s a b w 1 B (pow-pos 0) x (ceiling f x) (refl, refl) is
+            (rw (mul-one a) (ceiling-iff s s w a b B .1 (at-most-self s w)));
         least = λ z i h.
             let v = whole-value z i in
             let o = at-most-of-le s (v .0) a b (v .1) 1 B (pow-pos 0) x z (refl, refl) (v .2) h in

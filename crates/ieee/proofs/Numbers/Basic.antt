@@ -1,8 +1,11 @@
--- Facts on numbers that the rounding laws lean on: what `compare` answers, how many digits a number has, the nearest quotient. Assumes nothing.
+-- Facts on numbers that the rounding laws lean on: what `compare` answers, how many digits a number has, the nearest quotient.
+-- Assumes nothing.
 use mathlib.Core.Path.{_≡_, refl, sym, ap, _∙_, subst}
 use Prim.Native.Nat.{ℕ, zero, suc, _+_, _-_, _*_, _/_, _%_, _^_, _≤_, _<_, compare, Ordering, Ordering·lt, Ordering·eq, Ordering·gt}
 use native.Mathlib.Decide.{decLt}
-use native.Mathlib.Nat.{div-add-mod', div-eq-of-lt-le, eq-of-mul-eq-mul-right, le-antisymm, le-of-lt, le-of-mul-le-mul-right, le-of-suc-le-suc, lt-of-le-of-lt, lt-of-lt-of-le, lt-of-mul-lt-mul-right, lt-of-not-le, mod-lt, mul-le-mul-left, mul-le-mul-right, mul-lt-mul-of-pos-right, not-le-of-lt, one-mul, pow-succ'}
+use native.Mathlib.Nat.{div-add-mod', div-eq-of-lt-le, eq-of-mul-eq-mul-right, le-antisymm, le-of-lt, le-of-mul-le-mul-right}
+use native.Mathlib.Nat.{le-of-suc-le-suc, lt-of-le-of-lt, lt-of-lt-of-le, lt-of-mul-lt-mul-right, lt-of-not-le, mod-lt, mul-le-mul-left}
+use native.Mathlib.Nat.{mul-le-mul-right, mul-lt-mul-of-pos-right, not-le-of-lt, one-mul, pow-succ'}
 use native.Mathlib.Omega.{arith}
 use mathlib.Core.Bool.{not}
 use lib.Dec.{T, isLe, isEq, leb→le, nleb→lt, eqb, eqb→eq, eqb-refl, lit<}
@@ -86,7 +89,8 @@ pub closest-le : (a b : ℕ) → closest a b ≤ suc (a / b)
 closest-le a b = nearest-le (a / b) (compare (a % b * 2) b)
 
 -- (q * 2h + r) / 2h; m is 1 where q is odd, and then a tie goes up
-quotient : (q r h m : ℕ) → 0 < h → r < 2 * h → q % 2 ≡ m → m < 2 → (q * (2 * h) + r + (h - 1) + m) / (2 * h) ≡ nearest q (compare (r * 2) (2 * h))
+quotient : (q r h m : ℕ) → 0 < h → r < 2 * h → q % 2 ≡ m → m < 2
+    → (q * (2 * h) + r + (h - 1) + m) / (2 * h) ≡ nearest q (compare (r * 2) (2 * h))
 quotient q r h m H R e l =
     elim (decLt h r) [
       | yes a ↦ rw (cmp-gt (r * 2) (2 * h) (omega arith)) (div-eq-of-lt-le {k = suc q} (2 * h) (omega arith) (omega arith))

@@ -1,7 +1,7 @@
 -- Whether 8 * A ^ 3 is above B ^ 2 * 2 ^ k, for A = a * 2 ^ x and B = b * 2 ^ y: a power of two on one side is enough. Assumes nothing.
 use mathlib.Core.Path.{_≡_, _∙_}
 use mathlib.Core.Bool.{Bool}
-use Prim.Native.Nat.{ℕ, _+_, _-_, _*_, _/_, _^_, _≤_}
+use Prim.Native.Nat.{ℕ, _+_, _-_, _*_, _/_, _^_}
 use native.Mathlib.Omega.{arith}
 use lib.Dec.{ltb}
 use lib.Pow.{pow-add}

@@ -1,8 +1,10 @@
--- Two numbers compare as their multiples do, and as a quotient does: so a common factor goes away, and powers of two go to one side. Assumes nothing.
+-- Two numbers compare as their multiples do, and as a quotient does: so a common factor goes away, and powers of two go to one side.
+-- Assumes nothing.
 use mathlib.Core.Path.{_≡_, sym, ap, _∙_}
 use Prim.Native.Nat.{ℕ, _+_, _-_, _*_, _/_, _%_, _^_, _≤_, _<_}
 use native.Mathlib.Decide.{decLt, ℕ-discrete}
-use native.Mathlib.Nat.{add-zero, div-add-mod', eq-of-mul-eq-mul-right, mod-lt, mul-assoc, mul-comm, mul-le-mul-right, mul-sub, sub-add-cancel}
+use native.Mathlib.Nat.{add-zero, div-add-mod', eq-of-mul-eq-mul-right, mod-lt, mul-assoc, mul-comm, mul-le-mul-right, mul-sub}
+use native.Mathlib.Nat.{sub-add-cancel}
 use native.Mathlib.Omega.{arith}
 use borrow.Author.Tests.{eq-eqb, le-ltb, lt-ltb, ne-eqb}
 use lib.Dec.{eqb, ltb}

@@ -3,7 +3,9 @@ use mathlib.Core.Path.{_≡_, refl, sym, _∙_, subst}
 use mathlib.Core.Bool.{Bool, true, false, not, cond}
 use Prim.Native.Nat.{ℕ, zero, suc, _+_, _*_, _/_, _%_, _^_, _≤_, _<_, compare, Ordering, Ordering·lt, Ordering·eq, Ordering·gt, zero-le}
 use native.Mathlib.Decide.{decLt}
-use native.Mathlib.Nat.{div-lt-iff-lt-mul, div-one, le-div-iff-mul-le, le-of-eq, le-of-lt, le-trans, lt-of-le-of-lt, lt-of-lt-of-le, lt-of-not-le, mul-assoc, mul-le-mul, mul-le-mul-left, mul-lt-mul-of-pos-right, mul-one, mul-right-comm, not-le-of-lt, pow-succ'}
+use native.Mathlib.Nat.{div-lt-iff-lt-mul, div-one, le-div-iff-mul-le, le-of-eq, le-of-lt, le-trans, lt-of-le-of-lt, lt-of-lt-of-le}
+use native.Mathlib.Nat.{lt-of-not-le, mul-assoc, mul-le-mul, mul-le-mul-left, mul-lt-mul-of-pos-right, mul-one, mul-right-comm}
+use native.Mathlib.Nat.{not-le-of-lt, pow-succ'}
 use native.Mathlib.Numerals.{add-one}
 use native.Mathlib.Omega.{arith}
 use lib.Dec.{T, isEq, isLe, eqb→eq, leb, leb→le, nleb→lt}
@@ -74,8 +76,8 @@ closestRoot-same a b c d B D e =
     let q = floorRoot (c / d) in
     let left : 4 * a * d ≡ 4 * c * b = mul-assoc 4 a d ∙ rw e (sym (mul-assoc 4 c b)) in
     closestRoot-is a b
-    ∙ rw (div-same a b c d B D e, ← cmp-scale (4 * a) (past q * b) d D, left, mul-right-comm (past q) b d, cmp-scale (4 * c) (past q * d) b B)
-    (sym (closestRoot-is c d))
+    ∙ rw (div-same a b c d B D e, ← cmp-scale (4 * a) (past q * b) d D, left)
+    (rw (mul-right-comm (past q) b d, cmp-scale (4 * c) (past q * d) b B) (sym (closestRoot-is c d)))
 
 by-floor : (n q : ℕ) → IsRoot n q → closestRoot n 1 ≡ nearest q (compare (4 * n) (past q * 1))
 by-floor n q h = closestRoot-is n 1 ∙ rw (div-one n, ← floorRoot-at n q h)
@@ -99,7 +101,8 @@ closestRoot-ge n h g =
 pub closestRoot-le : (a b h : ℕ) → 0 < b → a / b < h * h → closestRoot a b ≤ h
 closestRoot-le a b h B g =
     let r = floorRoot (a / b) in
-    rw (closestRoot-is a b) (le-trans (nearest-le r (compare (4 * a) (past r * b))) (square-lt r h (lt-of-le-of-lt (floorRoot-is (a / b) .0) g)))
+    rw (closestRoot-is a b) (le-trans (nearest-le r (compare (4 * a) (past r * b)))
+    (square-lt r h (lt-of-le-of-lt (floorRoot-is (a / b) .0) g)))
 
 -- what `closestRoot` is worth, by the three answers of its comparison
 pub closestRoot-nearest : (a b : ℕ) → 0 < b → NearestRoot a b (closestRoot a b)
@@ -117,7 +120,8 @@ closestRoot-nearest a b B =
     }
 
     next : (q : ℕ) → a < (q + 1) * (q + 1) * b → past q * b ≤ 4 * a → NearestRoot a b (q + 1)
-    next q l h = record { at-most = omega arith; at-least = λ p e. let m : q ≡ p = omega arith in subst (λ (z : ℕ). past z * b ≤ 4 * a) m h }
+    next q l h =
+        record { at-most = omega arith; at-least = λ p e. let m : q ≡ p = omega arith in subst (λ (z : ℕ). past z * b ≤ 4 * a) m h }
 
     even : (q m : ℕ) → q % 2 ≡ m → m < 2 → NearestRoot a b q → NearestRoot a b (q + 1) → NearestRoot a b (q + m)
     even q zero e l x y = subst (λ (z : ℕ). NearestRoot a b z) (omega arith) x

@@ -1,7 +1,8 @@
 -- A fraction as a whole number, by each way: it goes by the fraction's value alone, and leaves what is whole. Assumes nothing.
 use mathlib.Core.Path.{_≡_, refl, sym, _∙_, subst}
 use Prim.Native.Nat.{ℕ, zero, suc, _+_, _-_, _*_, _/_, _<_, _≤_, min}
-use native.Mathlib.Nat.{div-eq-of-lt, div-eq-of-lt-le, div-lt-iff-lt-mul, div-mul-le-self, le-div-iff-mul-le, mul-comm, mul-div-mul-right, mul-le-mul-left, mul-le-mul-right, zero-mul}
+use native.Mathlib.Nat.{div-eq-of-lt, div-eq-of-lt-le, div-lt-iff-lt-mul, div-mul-le-self, le-div-iff-mul-le, mul-comm, mul-div-mul-right}
+use native.Mathlib.Nat.{mul-le-mul-left, mul-le-mul-right, zero-mul}
 use native.Mathlib.Omega.{arith}
 use Rattle.ieee.specs.Integral.{HalfAway, Way, cut, away, half, toWhole}
 use Rattle.ieee.proofs.Numbers.Basic.{lt-next}
@@ -84,7 +85,8 @@ away-iff a b p B = (
 )
 
 -- where that is 0 there was nothing
-pub none-iff : (a b p : ℕ) → 0 < b → ((p * b ≡ 0) × (a ≡ 0) → (p ≡ 0) × (toWhole away a b ≡ 0)) × ((p ≡ 0) × (toWhole away a b ≡ 0) → (p * b ≡ 0) × (a ≡ 0))
+pub none-iff : (a b p : ℕ) → 0 < b → ((p * b ≡ 0) × (a ≡ 0) → (p ≡ 0) × (toWhole away a b ≡ 0))
+    × ((p ≡ 0) × (toWhole away a b ≡ 0) → (p * b ≡ 0) × (a ≡ 0))
 none-iff a b p B = (
   λ h. (omega (arith, h .0, mul-le-mul-left p B), omega (arith, away-iff a b 0 B .0 (omega (arith, h .1)))),
   λ h. (rw (h .0) (zero-mul b), omega (arith, away-iff a b 0 B .1 (omega (arith, h .1)))),

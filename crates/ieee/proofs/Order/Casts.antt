@@ -10,7 +10,7 @@ use lib.Signed.{leZ}
 use lib.Ieee.{Float, nan, inf, fin, up, down, le, toSigned, toUnsigned}
 use lib.Ieee.Fits.{down-pos}
 use lib.Ieee.Nearest.{div-mono}
-use Rattle.ieee.specs.WholeNumber.{signed}
+use Rattle.ieee.specs.inner.Wholes.{signed}
 use Rattle.ieee.proofs.Order.Monotone.{no-factor}
 use Rattle.ieee.proofs.Order.Signed.{AtMost, at-most}
 
@@ -35,7 +35,8 @@ module _ (n m : ℕ) (e : ℤ) where
 
   upTo-rises : (k : ℕ) (d : ℤ) → m * up e * down d ≤ k * up d * down e → upTo n m e ≤ upTo n k d
   unfolding upTo
-  upTo-rises k d h = least-of (m * up e / down e) (k * up d / down d) n (div-mono (m * up e) (down e) (k * up d) (down d) (down-pos e) (down-pos d) h)
+  upTo-rises k d h =
+      least-of (m * up e / down e) (k * up d / down d) n (div-mono (m * up e) (down e) (k * up d) (down d) (down-pos e) (down-pos d) h)
 
 pub toUnsigned-mono : (w : ℕ) (x y : Float) → T (le x y) → toUnsigned w x ≤ toUnsigned w y
 unfolding toUnsigned le AtMost upTo
@@ -51,7 +52,8 @@ toUnsigned-mono w (fin s m e) (inf true) h = absurd h
 toUnsigned-mono w (fin true m e) (inf false) h = zero-le
 toUnsigned-mono w (fin false m e) (inf false) h = upTo-end (2 ^ w - 1) m e
 toUnsigned-mono w (fin true m e) (fin t n d) h = zero-le
-toUnsigned-mono w (fin false m e) (fin false n d) h = upTo-rises (2 ^ w - 1) m e n d (at-most false (m * up e * down d) false (n * up d * down e) h)
+toUnsigned-mono w (fin false m e) (fin false n d) h =
+    upTo-rises (2 ^ w - 1) m e n d (at-most false (m * up e * down d) false (n * up d * down e) h)
 toUnsigned-mono w (fin false m e) (fin true n d) h =
     rw (upTo-zero (2 ^ w - 1) m e d (at-most false (m * up e * down d) true (n * up d * down e) h .0)) zero-le
 
@@ -82,10 +84,12 @@ toSigned-mono h (fin s m e) (inf true) l = absurd l
 toSigned-mono h (fin true m e) (inf false) l = signed-le true (upTo (2 ^ h) m e) false (2 ^ h - 1) zero-le
 toSigned-mono h (fin false m e) (inf false) l = signed-le false (upTo (2 ^ h - 1) m e) false (2 ^ h - 1) (upTo-end (2 ^ h - 1) m e)
 toSigned-mono h (fin true m e) (fin true n d) l =
-    signed-le true (upTo (2 ^ h) m e) true (upTo (2 ^ h) n d) (upTo-rises (2 ^ h) n d m e (at-most true (m * up e * down d) true (n * up d * down e) l))
+    signed-le true (upTo (2 ^ h) m e) true (upTo (2 ^ h) n d)
+    (upTo-rises (2 ^ h) n d m e (at-most true (m * up e * down d) true (n * up d * down e) l))
 toSigned-mono h (fin true m e) (fin false n d) l = signed-le true (upTo (2 ^ h) m e) false (upTo (2 ^ h - 1) n d) zero-le
 toSigned-mono h (fin false m e) (fin false n d) l =
-    signed-le false (upTo (2 ^ h - 1) m e) false (upTo (2 ^ h - 1) n d) (upTo-rises (2 ^ h - 1) m e n d (at-most false (m * up e * down d) false (n * up d * down e) l))
+    signed-le false (upTo (2 ^ h - 1) m e) false (upTo (2 ^ h - 1) n d)
+    (upTo-rises (2 ^ h - 1) m e n d (at-most false (m * up e * down d) false (n * up d * down e) l))
 toSigned-mono h (fin false m e) (fin true n d) l =
     let z = at-most false (m * up e * down d) true (n * up d * down e) l in
     signed-le false (upTo (2 ^ h - 1) m e) true (upTo (2 ^ h) n d) (upTo-zero (2 ^ h - 1) m e d (z .0), upTo-zero (2 ^ h) n d e (z .1))

@@ -20,7 +20,11 @@ pub eqb-ltb : (a b : ℕ) → eqb a b ≡ (not (ltb a b) && not (ltb b a))
 eqb-ltb a b =
     elim (decLt a b) [
       | yes h ↦ rw (lt-ltb a b h, ne-eqb a b (λ e. omega arith))
-      | no h ↦ rw (le-ltb a b (omega arith), ← leb-ltb a b) (elim (ℕ-discrete a b) [ yes e ↦ rw (eq-eqb a b e, le-leb a b (omega arith)) | no e ↦ rw (ne-eqb a b e, lt-leb a b (omega arith)) ])
+      | no h ↦ rw (le-ltb a b (omega arith), ← leb-ltb a b)
+          (elim (ℕ-discrete a b) [
+            | yes e ↦ rw (eq-eqb a b e, le-leb a b (omega arith))
+            | no e ↦ rw (ne-eqb a b e, lt-leb a b (omega arith))
+          ])
     ]
 
 pub le-not-lt : (x y : Float) → T (not (isNan x)) → T (not (isNan y)) → le x y ≡ not (lt y x)
@@ -100,14 +104,6 @@ pub le-refl : (x : Float) → T (not (isNan x)) → T (le x x)
 le-refl x p = ⊎-elim (λ h. h) (λ h. h) (le-total x x p p)
 
 module _ (x y : Float) where
-  pub le-antisym : T (le x y) → T (le y x) → T (eq x y)
-  le-antisym h k =
-      let r = ranks x y y (le-left x y h) (le-right x y h) (le-right x y h) in
-      let a = leb→le (r .i) (r .j) (rw (r .xy .most) at h) in
-      let b = leb→le (r .j) (r .i) (rw (r .yx .most) at k) in
-      let e : r .i ≡ r .j = omega arith in
-      rw (r .xy .same) (eq→eqb e)
-
   turned : T (eq x y) → T (eq y x)
   turned h =
       let l = eq-le x y h in

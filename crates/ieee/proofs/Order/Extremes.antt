@@ -1,12 +1,11 @@
 -- The lesser and the greater of two floats: one of the two, and of two that are no NaN a bound of both. Assumes nothing.
 use mathlib.Core.Path.{_≡_, refl}
-use mathlib.Core.Logic.{_⊎_, inl, inr}
 use mathlib.Core.Bool.{Bool, true, false, not, cond, _||_}
 use lib.Dec.{T}
 use lib.Ieee.{Float, lt, le, isNan}
 use lib.Ieee.Bits.{is-false}
 use Rattle.ieee.specs.Order.{least, greatest}
-use Rattle.ieee.proofs.Order.Comparison.{le-left, le-of-not-lt, le-refl, le-right, le-trans, lt-le}
+use Rattle.ieee.proofs.Order.Comparison.{le-of-not-lt, le-refl, le-right, le-trans, lt-le}
 
 -- ---- what holds of both holds of the one that is taken
 either : (P : Float → Type 0) (b : Bool) (x y : Float) → P x → P y → P (cond b y x)
@@ -20,12 +19,6 @@ least-from P x y p q = either P (isNan x || lt y x) x y p q
 pub greatest-from : (P : Float → Type 0) (x y : Float) → P x → P y → P (greatest x y)
 unfolding greatest
 greatest-from P x y p q = either P (isNan x || lt x y) x y p q
-
-pub least-is : (x y : Float) → (least x y ≡ x) ⊎ (least x y ≡ y)
-least-is x y = least-from (λ z. (z ≡ x) ⊎ (z ≡ y)) x y (inl refl) (inr refl)
-
-pub greatest-is : (x y : Float) → (greatest x y ≡ x) ⊎ (greatest x y ≡ y)
-greatest-is x y = greatest-from (λ z. (z ≡ x) ⊎ (z ≡ y)) x y (inl refl) (inr refl)
 
 -- ---- bounds
 module _ (x y : Float) (p : T (not (isNan x))) (q : T (not (isNan y))) where
@@ -59,12 +52,6 @@ module _ (x y : Float) (p : T (not (isNan x))) (q : T (not (isNan y))) where
 
 -- ---- both rise with x and with y
 module _ (x x′ y y′ : Float) (h : T (le x x′)) (k : T (le y y′)) where
-  pub least-mono : T (le (least x y) (least x′ y′))
-  least-mono =
-      least-from (λ z. T (le (least x y) z)) x′ y′
-      (le-trans (least x y) x x′ (least-left x y (le-left x x′ h) (le-left y y′ k)) h)
-      (le-trans (least x y) y y′ (least-right x y (le-left x x′ h) (le-left y y′ k)) k)
-
   pub greatest-mono : T (le (greatest x y) (greatest x′ y′))
   greatest-mono =
       greatest-from (λ z. T (le z (greatest x′ y′))) x y

@@ -15,7 +15,7 @@ use mir.Syntax.{Width}
 use mir.Val.{SFits, hbits, ofZ, toZ}
 use mir.ValLaws.{toZ-ofZ}
 use Rattle.ieee.specs.Integral.{cut}
-use Rattle.ieee.specs.WholeNumber.{signed}
+use Rattle.ieee.specs.inner.Wholes.{signed}
 use Rattle.ieee.proofs.Numbers.Wholes.{whole-same}
 use Rattle.ieee.proofs.Order.Comparison.{lt-not-le}
 use Rattle.ieee.proofs.Patterns.Nan.{is-nan, ne-self}
@@ -103,7 +103,8 @@ signed-cut h (fin t m e) s a c C v l =
     either false = refl
     either true = refl
 
-pub unsigned-value : (w : ℕ) (x : Float) (s : Bool) (a c : ℕ) → 0 < c → HasValue x s a c → toUnsigned w x ≡ cond s 0 (min (a / c) (2 ^ w - 1))
+pub unsigned-value : (w : ℕ) (x : Float) (s : Bool) (a c : ℕ) → 0 < c → HasValue x s a c
+    → toUnsigned w x ≡ cond s 0 (min (a / c) (2 ^ w - 1))
 unfolding toUnsigned
 unsigned-value w nan s a c C v = absurd v
 unsigned-value w (inf t) s a c C v = absurd v

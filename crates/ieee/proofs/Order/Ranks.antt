@@ -1,4 +1,5 @@
--- Any three floats that are no NaN compare as three natural numbers do, their ranks, whatever the signs, and the infinities too. Assumes nothing.
+-- Any three floats that are no NaN compare as three natural numbers do, their ranks, whatever the signs, and the infinities too.
+-- Assumes nothing.
 use mathlib.Core.Path.{_≡_, refl, sym, _∙_, ap}
 use mathlib.Core.Bool.{Bool, true, false, not, _&&_, Bool·beq, cond, and-true, and-false, or-false, _||_}
 use Prim.Native.Nat.{ℕ, zero, suc, _+_, _-_, _*_, _≤_, _<_}
@@ -47,7 +48,8 @@ module _ (c n : ℕ) (C : 0 < c) (N : 0 < n) where
   unfolding Sized eq
   eq-sized nan y s a t b h k = absurd h
   eq-sized (inf u) nan s a t b h k = absurd k
-  eq-sized (inf u) (inf v) s a t b h k = rw (h .0, k .0, h .1, k .1, eq-eqb n n refl, ne-eqb n 0 (λ e. omega arith)) (sym (or-false (Bool·beq s t)))
+  eq-sized (inf u) (inf v) s a t b h k =
+      rw (h .0, k .0, h .1, k .1, eq-eqb n n refl, ne-eqb n 0 (λ e. omega arith)) (sym (or-false (Bool·beq s t)))
   eq-sized (inf u) (fin v m e) s a t b h k = rw (h .1, ne-eqb n b (λ e. omega arith))
   eq-sized (fin u m e) nan s a t b h k = absurd k
   eq-sized (fin u m e) (inf v) s a t b h k = rw (k .1, ne-eqb a n (λ e. omega arith))
@@ -70,14 +72,18 @@ both-eq : (a b c d : ℕ) → (a ≡ b → c ≡ d) → (c ≡ d → a ≡ b) �
 both-eq a b c d h k = same-test (eqb a b) (eqb c d) (λ t. eq→eqb (h (eqb→eq a b t))) (λ t. eq→eqb (k (eqb→eq c d t)))
 
 both-zero : (a b c d : ℕ) → (a + b ≡ 0 → c ≡ d) → (c ≡ d → a + b ≡ 0) → (eqb a b && eqb a 0) ≡ eqb c d
-both-zero zero b c d h k = ap (λ (t : Bool). t && true) (both-eq 0 b c d (λ e. h (omega arith)) (λ e. omega (arith, k e))) ∙ and-true (eqb c d)
+both-zero zero b c d h k =
+    ap (λ (t : Bool). t && true) (both-eq 0 b c d (λ e. h (omega arith)) (λ e. omega (arith, k e))) ∙ and-true (eqb c d)
 both-zero (suc a) b c d h k = rw (eqb·suc-zero a, and-false (eqb (suc a) b)) (sym (ne-eqb c d (λ e. omega (arith, k e))))
 
 either-leb : (i j : ℕ) → (ltb i j || eqb i j) ≡ leb i j
 either-leb i j =
     elim (decLt i j) [
       | yes h ↦ rw (lt-ltb i j h, le-leb i j (omega arith))
-      | no h ↦ rw (le-ltb i j (omega arith)) (elim (ℕ-discrete i j) [ yes e ↦ rw (eq-eqb i j e, le-leb i j (omega arith)) | no e ↦ rw (ne-eqb i j e, lt-leb i j (omega arith)) ])
+      | no h ↦ rw (le-ltb i j (omega arith)) (elim (ℕ-discrete i j) [
+        | yes e ↦ rw (eq-eqb i j e, le-leb i j (omega arith))
+        | no e ↦ rw (ne-eqb i j e, lt-leb i j (omega arith))
+      ])
     ]
 
 module _ (n a b : ℕ) (A : a ≤ n) (B : b ≤ n) where
@@ -108,8 +114,10 @@ Ranked c n x i = (s : Bool) × (a : ℕ) × (Sized c n x s a) × (a ≤ n) × (r
 compare : (c n : ℕ) → 0 < c → 0 < n → (x y : Float) (i j : ℕ) → Ranked c n x i → Ranked c n y j → Compare x y i j
 unfolding Ranked le
 compare c n C N x y i j p q =
-    let less : lt x y ≡ ltb i j = lt-sized c n C N x y (p .0) (p .1) (q .0) (q .1) (p .2) (q .2) ∙ below-rank n (p .1) (q .1) (p .3) (q .3) (p .0) (q .0) ∙ rw (p .4, q .4) in
-    let same : eq x y ≡ eqb i j = eq-sized c n C N x y (p .0) (p .1) (q .0) (q .1) (p .2) (q .2) ∙ level-rank n (p .1) (q .1) (p .3) (q .3) (p .0) (q .0) ∙ rw (p .4, q .4) in
+    let less : lt x y ≡ ltb i j = lt-sized c n C N x y (p .0) (p .1) (q .0) (q .1) (p .2) (q .2)
+    ∙ below-rank n (p .1) (q .1) (p .3) (q .3) (p .0) (q .0) ∙ rw (p .4, q .4) in
+    let same : eq x y ≡ eqb i j = eq-sized c n C N x y (p .0) (p .1) (q .0) (q .1) (p .2) (q .2)
+    ∙ level-rank n (p .1) (q .1) (p .3) (q .3) (p .0) (q .0) ∙ rw (p .4, q .4) in
     record { less = less; same = same; most = rw (less, same) (either-leb i j) }
 
 ranked : (c n : ℕ) (x : Float) (k : ℕ) → T (not (isNan x)) → c ≡ den x * k → num x * k < n → (i : ℕ) × Ranked c n x i

@@ -1,8 +1,8 @@
 -- What `<=` of two finite floats says of their signs and sizes, by any fractions that the sizes equal. Assumes nothing.
 use mathlib.Core.Path.{_≡_, subst}
 use mathlib.Core.Bool.{Bool, true, false, _||_}
-use Prim.Native.Nat.{ℕ, _+_, _*_, _≤_, _<_, zero-le}
-use native.Mathlib.Nat.{mul-comm, mul-le-mul-right, mul-pos, zero-mul}
+use Prim.Native.Nat.{ℕ, _+_, _*_, _≤_, _<_}
+use native.Mathlib.Nat.{mul-comm, mul-pos}
 use native.Mathlib.Omega.{arith}
 use lib.Dec.{T, leb→le, le→leb}
 use lib.Ieee.{Float, below, level, le}
@@ -21,13 +21,6 @@ pub at-most-self : (s : Bool) (a : ℕ) → AtMost s a s a
 unfolding AtMost
 at-most-self false a = omega arith
 at-most-self true a = omega arith
-
-pub at-most-scaled : (k : ℕ) (s : Bool) (a : ℕ) (t : Bool) (b : ℕ) → AtMost s a t b → AtMost s (a * k) t (b * k)
-unfolding AtMost
-at-most-scaled k false a false b h = mul-le-mul-right k h
-at-most-scaled k false a true b h = (rw (h .0) (zero-mul k), rw (h .1) (zero-mul k))
-at-most-scaled k true a false b h = zero-le
-at-most-scaled k true a true b h = mul-le-mul-right k h
 
 -- ---- as ranks
 pub at-most-ranks : (n : ℕ) (s : Bool) (a : ℕ) (t : Bool) (b : ℕ) → a ≤ n → b ≤ n → rank n s a ≤ rank n t b → AtMost s a t b

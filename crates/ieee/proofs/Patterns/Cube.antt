@@ -12,7 +12,7 @@ use lib.Pow.{pow-pos}
 use lib.Ieee.{binary32, ofBits}
 use lib.Ieee.Exact.{HasValue}
 use Rattle.ieee.specs.Cube.{cubeAbove}
-use Rattle.ieee.specs.Fields.{sized}
+use Rattle.ieee.specs.inner.Fields.{sized}
 use Rattle.ieee.proofs.Values.Cube.{cube-of-inf, cube-of-minus, cube-of-minus-inf, cube-of-nan, cube-sizes, cube-to-inf, cube-to-nan}
 use Rattle.ieee.proofs.Patterns.Fields.{read-inf, read-nan, read-value}
 
@@ -42,10 +42,12 @@ module _ (a b : ℕ) where
   no-cube l h =
       elim (decLt (field a) 255) [
         | yes k ↦
-            sym (cube-of-minus (ofBits binary32 a) (ofBits binary32 b) (size-of a) (2 ^ 149) (value a true (le-leb (2 ^ 31) a (omega arith)) k))
+            sym (cube-of-minus (ofBits binary32 a) (ofBits binary32 b) (size-of a) (2 ^ 149)
+            (value a true (le-leb (2 ^ 31) a (omega arith)) k))
         | no k ↦
             elim (eq-zero-or-pos (a % 2 ^ 23)) [
-              | inl z ↦ rw (read-inf binary32 a (omega arith) z, le-leb (2 ^ 31) a (omega arith)) (sym (cube-of-minus-inf (ofBits binary32 b)))
+              | inl z ↦ rw (read-inf binary32 a (omega arith) z, le-leb (2 ^ 31) a (omega arith))
+                  (sym (cube-of-minus-inf (ofBits binary32 b)))
               | inr p ↦ rw (read-nan binary32 a (omega arith) p) (sym (cube-of-nan (ofBits binary32 b)))
             ]
       ]

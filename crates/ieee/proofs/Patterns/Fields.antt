@@ -7,7 +7,7 @@ use borrow.Author.Tests.{eq-eqb, ne-eqb}
 use lib.Dec.{leb}
 use lib.Ieee.{nan, inf, Format, binary32, binary64, prec, low, hid, ones, top, ofBits, ofFields}
 use lib.Ieee.Exact.{HasValue, odd-sign}
-use Rattle.ieee.specs.Fields.{exp, sig, sized}
+use Rattle.ieee.specs.inner.Fields.{exp, sig, sized}
 
 module _ (f : Format) (s : Bool) where
   fields-value : (x t : ℕ) → x < ones f → HasValue (ofFields f s x t) s (sized f x t) (2 ^ low f)

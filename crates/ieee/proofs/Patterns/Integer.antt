@@ -1,4 +1,5 @@
--- A float as an integer, by its pattern: below 2 ^ k a word with its size, the sign put on; from 2 ^ h on an end of the range. Assumes nothing.
+-- A float as an integer, by its pattern: below 2 ^ k a word with its size, the sign put on; from 2 ^ h on an end of the range.
+-- Assumes nothing.
 use mathlib.Core.Path.{_≡_, sym, _∙_, subst}
 use mathlib.Core.Logic.{inl, inr}
 use mathlib.Core.Bool.{Bool, true, false, not, cond}
@@ -14,9 +15,9 @@ use lib.Ieee.{Float, binary64, isNan, ne, ofBits, toSigned}
 use mir.Syntax.{Width}
 use mir.Val.{hbits, toZ}
 use mir.ValLaws.{toZ-pos}
-use Rattle.ieee.specs.Fields.{sized}
+use Rattle.ieee.specs.inner.Fields.{sized}
 use Rattle.ieee.specs.Integral.{cut}
-use Rattle.ieee.specs.WholeNumber.{signed}
+use Rattle.ieee.specs.inner.Wholes.{signed}
 use Rattle.ieee.proofs.Order.Ranges.{Reaches, reaches-value, signed-cut, signed-end}
 use Rattle.ieee.proofs.Patterns.Fields.{read-inf, read-nan}
 use Rattle.ieee.proofs.Patterns.Integral.{at-least, at-most, field, size-of, value}
@@ -35,13 +36,18 @@ pub shift-size : (e t : ℕ) → 1023 ≤ e → e < 1086 → (2 ^ 52 + t) * 2 ^ 
 shift-size e t h l = placed-size binary64 cut 11 (1086 - e) e t (omega arith) (omega arith)
 
 -- ---- below 2 ^ k, which fits the word
-module _ (w : Width) (k : ℕ) (p : k ≤ hbits w) (q : k < 1024) (x : Float) (b n : ℕ) (is : ofBits binary64 b ≡ x) (h : field binary64 b < 1023 + k)
+module _ (w : Width) (k : ℕ) (p : k ≤ hbits w) (q : k < 1024) (x : Float) (b n : ℕ) (is : ofBits binary64 b ≡ x)
+    (h : field binary64 b < 1023 + k)
     (r : n ≡ size-of binary64 b / 2 ^ 1074) where
   pub few : n < 2 ^ hbits w
-  few = lt-of-lt-of-le (rw r (div-lt-iff-lt-mul (pow-pos 1074) .1 (at-most binary64 k (field binary64 b) (b % 2 ^ 52) (omega arith) h))) (pow-mono p)
+  few =
+      lt-of-lt-of-le (rw r (div-lt-iff-lt-mul (pow-pos 1074) .1
+      (at-most binary64 k (field binary64 b) (b % 2 ^ 52) (omega arith) h))) (pow-mono p)
 
   by-sign : (s : Bool) → leb (2 ^ 63) b ≡ s → signed s n ≡ toSigned (hbits w) x
-  by-sign s g = rw r (sym (signed-cut (hbits w) x s (size-of binary64 b) (2 ^ 1074) (pow-pos 1074) (value binary64 x b is s g (omega arith)) (rw (← r) few)))
+  by-sign s g =
+      rw r (sym (signed-cut (hbits w) x s (size-of binary64 b) (2 ^ 1074) (pow-pos 1074) (value binary64 x b is s g (omega arith))
+      (rw (← r) few)))
 
   pub from-zero-up : b < 2 ^ 63 → toZ w n ≡ toSigned (hbits w) x
   from-zero-up g = toZ-pos w n few ∙ by-sign false (lt-leb (2 ^ 63) b g)
@@ -50,7 +56,8 @@ module _ (w : Width) (k : ℕ) (p : k ≤ hbits w) (q : k < 1024) (x : Float) (b
   below-zero g = rw (toZ-pos w n few) (+ℤ-idl (negℤ (pos n)) ∙ by-sign true (le-leb (2 ^ 63) b g))
 
 -- ---- from 2 ^ h on
-module _ (h : ℕ) (x : Float) (b : ℕ) (is : ofBits binary64 b ≡ x) (l : 1023 + h ≤ field binary64 b) (o : ne x x ≡ false) (s : Bool) (g : leb (2 ^ 63) b ≡ s) where
+module _ (h : ℕ) (x : Float) (b : ℕ) (is : ofBits binary64 b ≡ x) (l : 1023 + h ≤ field binary64 b) (o : ne x x ≡ false) (s : Bool)
+    (g : leb (2 ^ 63) b ≡ s) where
   no-number : field binary64 b ≡ 2047 → Reaches (2 ^ h) s x
   unfolding isNan
   no-number k =
@@ -62,7 +69,8 @@ module _ (h : ℕ) (x : Float) (b : ℕ) (is : ofBits binary64 b ≡ x) (l : 102
   past : Reaches (2 ^ h) s x
   past =
       elim (decLt (field binary64 b) 2047) [
-        | yes m ↦ reaches-value (2 ^ h) x s (size-of binary64 b) (2 ^ 1074) (pow-pos 1074) (value binary64 x b is s g m) (at-least binary64 h (field binary64 b) (b % 2 ^ 52) l)
+        | yes m ↦ reaches-value (2 ^ h) x s (size-of binary64 b) (2 ^ 1074) (pow-pos 1074) (value binary64 x b is s g m)
+            (at-least binary64 h (field binary64 b) (b % 2 ^ 52) l)
         | no m ↦ no-number (omega arith)
       ]
 

@@ -1,19 +1,22 @@
--- `integral` of a float by its pattern: below hid f its size becomes a whole number, and from there on it is whole already. Assumes nothing.
+-- `integral` of a float by its pattern: below hid f its size becomes a whole number, and from there on it is whole already.
+-- Assumes nothing.
 use mathlib.Core.Path.{_≡_, refl, sym, _∙_, subst}
 use mathlib.Core.Logic.{inl, inr}
 use mathlib.Core.Bool.{Bool, true, false, cond}
 use Prim.Native.Nat.{ℕ, zero, suc, _+_, _-_, _*_, _/_, _%_, _^_, _≤_, _<_}
-use native.Mathlib.Nat.{div-lt-iff-lt-mul, eq-zero-or-pos, le-add-right, le-of-eq, le-trans, lt-of-lt-of-le, mod-lt, mul-le-mul-left, mul-le-mul-right, mul-lt-mul-of-pos-right}
+use native.Mathlib.Nat.{div-lt-iff-lt-mul, eq-zero-or-pos, le-add-right, le-of-eq, le-trans, lt-of-lt-of-le, mod-lt, mul-le-mul-left}
+use native.Mathlib.Nat.{mul-le-mul-right, mul-lt-mul-of-pos-right}
 use native.Mathlib.Decide.{decLt}
 use native.Mathlib.Omega.{arith}
 use borrow.Author.Tests.{le-leb, lt-leb}
 use lib.IntN.{pos, negsuc}
 use lib.Dec.{T, leb, le→leb, lit≤}
 use lib.Pow.{pow-add, pow-mono, pow-pos, shl-lt}
-use lib.Ieee.{Float, nan, inf, fin, Format, binary32, binary64, prec, emax, low, up, down, hid, ones, top, round, neg, ofInt, inFloat, fits, ofBits}
+use lib.Ieee.{Float, nan, inf, fin, Format, binary32, binary64, prec, emax, low, up, down, hid, ones, top, round, neg, ofInt, inFloat, fits}
+use lib.Ieee.{ofBits}
 use lib.Ieee.Exact.{HasValue}
 use lib.Ieee.Fits.{down-pos, two}
-use Rattle.ieee.specs.Fields.{exp, sized}
+use Rattle.ieee.specs.inner.Fields.{exp, sized}
 use Rattle.ieee.specs.Integral.{Way, toWhole, integral}
 use Rattle.ieee.proofs.Patterns.Fields.{sig-lt, twice-hid, read-inf, read-nan, read-value}
 use Rattle.ieee.proofs.Patterns.Signs.{round-neg}
@@ -56,7 +59,8 @@ some-field binary64 = lit≤ tt
 
 module _ (f : Format) (k : ℕ) where
   pub at-most : (e t : ℕ) → t < hid f → e < emax f + k → sized f e t < 2 ^ k * 2 ^ low f
-  at-most e t h l = lt-of-lt-of-le (shl-lt (prec f) (exp e) (sig-lt f e t h)) (le-trans (pow-mono (places e l)) (le-of-eq (pow-add 2 k (low f))))
+  at-most e t h l =
+      lt-of-lt-of-le (shl-lt (prec f) (exp e) (sig-lt f e t h)) (le-trans (pow-mono (places e l)) (le-of-eq (pow-add 2 k (low f))))
     where
       places : (e : ℕ) → e < emax f + k → prec f + exp e ≤ k + low f
       places zero l = omega (arith, some-field f)
@@ -76,21 +80,25 @@ field g b = b % top g / hid g
 abbrev pub size-of : Format → ℕ → ℕ
 size-of g b = sized g (field g b) (b % hid g)
 
-pub value : (g : Format) (x : Float) (b : ℕ) → ofBits g b ≡ x → (s : Bool) → leb (top g) b ≡ s → field g b < ones g → HasValue x s (size-of g b) (2 ^ low g)
+pub value : (g : Format) (x : Float) (b : ℕ) → ofBits g b ≡ x → (s : Bool) → leb (top g) b ≡ s → field g b < ones g
+    → HasValue x s (size-of g b) (2 ^ low g)
 value g x b is s h l = rw (← is, ← h) (read-value g b l)
 
-pub small : (g f : Format) (above below : Way) (x : Float) (b : ℕ) → ofBits g b ≡ x → (s : Bool) (n : ℕ) → leb (top g) b ≡ s → field g b < ones g
+pub small : (g f : Format) (above below : Way) (x : Float) (b : ℕ) → ofBits g b ≡ x → (s : Bool) (n : ℕ) → leb (top g) b ≡ s
+    → field g b < ones g
     → n ≡ toWhole (cond s below above) (size-of g b) (2 ^ low g) → round f s n 1 ≡ integral f above below x
 small g f above below x b is s n h l r =
     rw r (sym (integral-at f above below x s (size-of g b) (2 ^ low g) (pow-pos (low g)) (value g x b is s h l)))
 
-pub in-format : (g f : Format) (w : Way) (b n : ℕ) → field g b < emax g + (prec f - 1) → n ≡ toWhole w (size-of g b) (2 ^ low g) → T (inFloat f (pos n))
+pub in-format : (g f : Format) (w : Way) (b n : ℕ) → field g b < emax g + (prec f - 1) → n ≡ toWhole w (size-of g b) (2 ^ low g)
+    → T (inFloat f (pos n))
 unfolding inFloat
 in-format g f w b n h r =
     let l : size-of g b / 2 ^ low g < hid f =
     div-lt-iff-lt-mul (pow-pos (low g)) .1 (at-most g (prec f - 1) (field g b) (b % hid g) (mod-lt b (pow-pos (prec g - 1))) h) in
     let m = whole-le w (size-of g b) (2 ^ low g) (pow-pos (low g)) in
-    le→leb n (2 ^ prec f) (rw r (few (toWhole w (size-of g b) (2 ^ low g)) (size-of g b / 2 ^ low g) (hid f) (2 ^ prec f) m l (twice-hid f)))
+    le→leb n (2 ^ prec f) (rw r (few (toWhole w (size-of g b) (2 ^ low g)) (size-of g b / 2 ^ low g) (hid f) (2 ^ prec f) m l
+    (twice-hid f)))
   where
     few : (n q h p : ℕ) → n ≤ q + 1 → q < h → p ≡ 2 * h → n ≤ p
     few n q h p a b c = omega arith
@@ -101,19 +109,23 @@ module _ (f : Format) (above below : Way) (x : Float) (b : ℕ) (is : ofBits bin
   abbrev way : Way
   way = cond (leb (2 ^ 63) b) below above
 
-  pub from-zero-up : (n : ℕ) → b < 2 ^ 63 → field binary64 b < 1075 → n ≡ toWhole way (size-of binary64 b) (2 ^ 1074) → ofInt f (pos n) ≡ integral f above below x
+  pub from-zero-up : (n : ℕ) → b < 2 ^ 63 → field binary64 b < 1075 → n ≡ toWhole way (size-of binary64 b) (2 ^ 1074)
+      → ofInt f (pos n) ≡ integral f above below x
   unfolding ofInt
   from-zero-up n g h r = let e = lt-leb (2 ^ 63) b g in small binary64 f above below x b is false n e (omega arith) (rw e at r)
 
-  pub below-zero : (n : ℕ) → 2 ^ 63 ≤ b → field binary64 b < 1075 → n ≡ toWhole way (size-of binary64 b) (2 ^ 1074) → neg (ofInt f (pos n)) ≡ integral f above below x
+  pub below-zero : (n : ℕ) → 2 ^ 63 ≤ b → field binary64 b < 1075 → n ≡ toWhole way (size-of binary64 b) (2 ^ 1074)
+      → neg (ofInt f (pos n)) ≡ integral f above below x
   unfolding ofInt
-  below-zero n g h r = let e = le-leb (2 ^ 63) b g in round-neg f false n 1 ∙ small binary64 f above below x b is true n e (omega arith) (rw e at r)
+  below-zero n g h r =
+      let e = le-leb (2 ^ 63) b g in round-neg f false n 1 ∙ small binary64 f above below x b is true n e (omega arith) (rw e at r)
 
   pub whole-already : T (fits f x) → 1022 + prec f ≤ field binary64 b → x ≡ integral f above below x
   whole-already t h =
       elim (decLt (field binary64 b) 2047) [
         | yes l ↦
-            sym (integral-large f above below x (leb (2 ^ 63) b) (size-of binary64 b) (2 ^ 1074) t (pow-pos 1074) (value binary64 x b is (leb (2 ^ 63) b) refl l)
+            sym (integral-large f above below x (leb (2 ^ 63) b) (size-of binary64 b) (2 ^ 1074) t (pow-pos 1074)
+            (value binary64 x b is (leb (2 ^ 63) b) refl l)
             (at-least binary64 (prec f - 1) (field binary64 b) (b % 2 ^ 52) (omega (arith, two f))))
         | no l ↦ subst (λ (v : Float). v ≡ integral f above below v) is (no-number (omega arith))
       ]

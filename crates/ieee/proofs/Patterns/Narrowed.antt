@@ -14,7 +14,7 @@ use lib.Ieee.Exact.{HasValue}
 use lib.Ieee.Fits.{down-pos, inf-fits, nan-fits, round-fits}
 use lib.Ieee.Nearest.{closest}
 use lib.Ieee.Scale.{round-same}
-use Rattle.ieee.specs.Fields.{exp, sig, sized}
+use Rattle.ieee.specs.inner.Fields.{exp, sig, sized}
 use Rattle.ieee.specs.Rounded.{rounded}
 use Rattle.ieee.proofs.Patterns.Fields.{exp-le, read-inf, read-nan, read-value, sig-lt}
 use Rattle.ieee.proofs.Numbers.Basic.{below-pow, cmp-lt, nearest-shift}
@@ -74,11 +74,12 @@ narrow-normal (suc y) t h g l =
 pub narrow-large : (e t : ℕ) → 1151 ≤ e → t < 2 ^ 52 → 0x7f800000 ≡ Narrow e t
 narrow-large zero t h l = absurd (omega arith)
 narrow-large (suc y) t h l =
-    rw (shift-inf binary32 (2 ^ 52 + t) y 1074 29 (suc y - 897) (omega arith) (omega arith) (inr (omega arith)) false (omega arith) (omega arith))
+    rw (shift-inf binary32 (2 ^ 52 + t) y 1074 29 (suc y - 897) (omega arith) (omega arith) (inr (omega arith)) false (omega arith)
+    (omega arith))
     (sym (bits-inf binary32))
 
--- ---- `narrow-normal` on the whole pattern m of a size at once: half of what goes is added, less one where the last digit that stays is even; 29
--- digits go; and the exponent counts from 896 lower
+-- ---- `narrow-normal` on the whole pattern m of a size at once: half of what goes is added, less one where the last digit
+-- that stays is even; 29 digits go; and the exponent counts from 896 lower
 abbrev shortened : ℕ → ℕ
 shortened m = (m + (2 ^ 28 - 1 + m / 2 ^ 29 % 2)) / 2 ^ 29
 
@@ -100,7 +101,8 @@ shortened-normal m h g =
     let j : ℕ = (e - 1) * 2 ^ 22 in
     let split : m ≡ n + 2 * j * 2 ^ 29 = omega arith in
     let places : shortened m ≡ closest n (2 ^ 29) + 2 * j =
-    ap shortened split ∙ evenly-more n j (2 ^ 29) (2 ^ 28 - 1) (omega arith) ∙ ap (λ (z : ℕ). z + 2 * j) (nearest-shift n 29 (omega arith)) in
+    ap shortened split ∙ evenly-more n j (2 ^ 29) (2 ^ 28 - 1) (omega arith)
+    ∙ ap (λ (z : ℕ). z + 2 * j) (nearest-shift n 29 (omega arith)) in
     let from : shortened m - 896 * 2 ^ 23 ≡ (e - 897) * 2 ^ 23 + closest n (2 ^ 29) = omega arith in
     from ∙ narrow-normal e (m % 2 ^ 52) (omega arith) (omega arith) (omega arith)
 
@@ -124,8 +126,10 @@ module _ (b : ℕ) where
       let s = leb (2 ^ 63) b in
       let a = sized binary64 (m / 2 ^ 52) (m % 2 ^ 52) in
       let digits : b % 2 ^ 52 ≡ m % 2 ^ 52 = omega arith in
-      let value = subst (λ (t : ℕ). HasValue (ofBits binary64 b) s (sized binary64 (m / 2 ^ 52) t) (2 ^ 1074)) digits (read-value binary64 b (omega arith)) in
-      rw (sign b h, e, rounded-at binary32 (ofBits binary64 b) s a (2 ^ 1074) (pow-pos 1074) value) (sym (bits-signed binary32 s a (2 ^ 1074)))
+      let value = subst (λ (t : ℕ). HasValue (ofBits binary64 b) s (sized binary64 (m / 2 ^ 52) t) (2 ^ 1074)) digits
+      (read-value binary64 b (omega arith)) in
+      rw (sign b h, e, rounded-at binary32 (ofBits binary64 b) s a (2 ^ 1074) (pow-pos 1074) value)
+      (sym (bits-signed binary32 s a (2 ^ 1074)))
 
   pub narrow-inf : b < 2 ^ 64 → m ≡ 2047 * 2 ^ 52 → Answer (b / 2 ^ 63 * 2 ^ 31 + 0x7f800000)
   unfolding rounded toBits

@@ -5,7 +5,8 @@ use mathlib.Core.Logic.{_⊎_, inl, inr, ⊎-elim}
 use mathlib.Core.Bool.{Bool, false}
 use Prim.Native.Nat.{ℕ, suc, _+_, _-_, _*_, _/_, _^_, _≤_, _<_}
 use native.Mathlib.Decide.{decLt}
-use native.Mathlib.Nat.{add-mul, eq-or-lt-of-le, le-antisymm, le-of-eq, le-of-mul-le-mul-left, le-of-mul-le-mul-right, le-refl, le-trans, mul-div-cancel, mul-le-mul-right, mul-one, zero-add}
+use native.Mathlib.Nat.{add-mul, eq-or-lt-of-le, le-antisymm, le-of-eq, le-of-mul-le-mul-left, le-of-mul-le-mul-right, le-refl, le-trans}
+use native.Mathlib.Nat.{mul-div-cancel, mul-le-mul-right, mul-one, zero-add}
 use native.Mathlib.Omega.{arith}
 use borrow.Author.Tests.{le-ltb}
 use lib.Pow.{pow-add, pow-lt, pow-pos, shl-lt}
@@ -77,7 +78,8 @@ full f q k l h g =
     let last : k ≡ 2 * emax f - 1 = omega arith in
     let most : q ≡ 2 ^ prec f =
     le-antisymm l
-    (le-of-mul-le-mul-right (le-trans (le-of-eq (sym top)) (subst (λ (x : ℕ). overflow f ≤ q * 2 ^ x) last g)) (pow-pos (2 * emax f - 1))) in
+    (le-of-mul-le-mul-right (le-trans (le-of-eq (sym top)) (subst (λ (x : ℕ). overflow f ≤ q * 2 ^ x) last g))
+    (pow-pos (2 * emax f - 1))) in
     let two-more : ones f ≡ k + 2 = omega arith in
     rw (most, pow-half (prec f) (omega arith), two-more) (add-mul k 2 (hid f))
 

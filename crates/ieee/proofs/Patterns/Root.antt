@@ -4,7 +4,8 @@ use mathlib.Core.Logic.{inl, inr}
 use mathlib.Core.Bool.{Bool, true, false}
 use Prim.Native.Nat.{ℕ, zero, suc, _+_, _-_, _*_, _/_, _%_, _^_, _≤_, _<_}
 use native.Mathlib.Decide.{decLt}
-use native.Mathlib.Nat.{eq-zero-or-pos, le-of-eq, le-trans, lt-of-le-of-lt, lt-of-lt-of-le, mod-eq-of-lt, mul-assoc, mul-comm, mul-le-mul-left, mul-le-mul-right, mul-lt-mul-of-pos-right, mul-one, mul-pos}
+use native.Mathlib.Nat.{eq-zero-or-pos, le-of-eq, le-trans, lt-of-le-of-lt, lt-of-lt-of-le, mod-eq-of-lt, mul-assoc, mul-comm}
+use native.Mathlib.Nat.{mul-le-mul-left, mul-le-mul-right, mul-lt-mul-of-pos-right, mul-one, mul-pos}
 use native.Mathlib.Omega.{arith}
 use borrow.Author.Tests.{le-leb, lt-leb}
 use lib.Count.{leading-top, leadingZeros}
@@ -12,7 +13,7 @@ use lib.Dec.{leb, lit≤}
 use lib.Pow.{pow-add, pow-pos}
 use lib.Ieee.{nan, binary64, ofBits, toBits}
 use lib.Ieee.Exact.{HasValue}
-use Rattle.ieee.specs.Fields.{sized}
+use Rattle.ieee.specs.inner.Fields.{sized}
 use Rattle.ieee.specs.Root.{closestRoot, root, rootRound}
 use Rattle.ieee.proofs.Patterns.Back.{write-back}
 use Rattle.ieee.proofs.Patterns.Fields.{read-inf, read-nan, read-value}
@@ -30,7 +31,8 @@ Scaled d w = w / 2 * 2 ^ 52 + closestRoot (d * (1 + w % 2) * 2 ^ 52) 1
 scaled : (a d w : ℕ) → 2 ^ 52 ≤ d → d < 2 ^ 53 → w < 4092 → a * 2 ^ 1074 ≡ d * 2 ^ 52 * 2 ^ w → Scaled d w ≡ Pattern a
 scaled a d w l m W e =
     sym (root-bits binary64 a (d * (1 + w % 2) * 2 ^ 52) (w / 2)
-    (e ∙ rw (← pow-halves w) (regroup d (2 ^ 52) (1 + w % 2) (2 ^ (w / 2) * 2 ^ (w / 2)))) (least (w % 2)) (most (w % 2) (omega arith)) (omega arith))
+    (e ∙ rw (← pow-halves w) (regroup d (2 ^ 52) (1 + w % 2) (2 ^ (w / 2) * 2 ^ (w / 2)))) (least (w % 2))
+    (most (w % 2) (omega arith)) (omega arith))
   where
     regroup : (d p r s : ℕ) → d * p * (r * s) ≡ d * r * p * s
     regroup d p r s = simp (mul-assoc, mul-comm)
@@ -75,7 +77,8 @@ shifted-out t p h =
           most = omega arith;
           from = le-trans (le-of-eq (ap (λ (x : ℕ). 2 ^ x) lo ∙ pow-add 2 j (z - 11))) (mul-le-mul-right (2 ^ (z - 11)) a);
           below =
-              lt-of-lt-of-le (mul-lt-mul-of-pos-right b (pow-pos (z - 11))) (le-of-eq (sym (ap (λ (x : ℕ). 2 ^ x) hi ∙ pow-add 2 (suc j) (z - 11))));
+              lt-of-lt-of-le (mul-lt-mul-of-pos-right b (pow-pos (z - 11)))
+              (le-of-eq (sym (ap (λ (x : ℕ). 2 ^ x) hi ∙ pow-add 2 (suc j) (z - 11))));
         }
 
 pub uncut : {t z : ℕ} → Shifted t z → t * 2 ^ (z - 11) % 2 ^ 64 ≡ t * 2 ^ (z - 11)
@@ -83,7 +86,8 @@ uncut h = mod-eq-of-lt (let x = h .below in omega arith)
 
 pub subnormal-root : (e t z : ℕ) → e ≡ 0 → Shifted t z → Scaled (t * 2 ^ (z - 11) % 2 ^ 64) (1022 - (z - 11)) ≡ Pattern (sized binary64 e t)
 subnormal-root (suc e) t z n h = absurd (omega arith)
-subnormal-root zero t z n h = rw (uncut h) (scaled (t * 2 ^ 0) (t * 2 ^ (z - 11)) (1022 - (z - 11)) (h .from) (h .below) (omega arith) places)
+subnormal-root zero t z n h =
+    rw (uncut h) (scaled (t * 2 ^ 0) (t * 2 ^ (z - 11)) (1022 - (z - 11)) (h .from) (h .below) (omega arith) places)
   where
     places : t * 2 ^ 0 * 2 ^ 1074 ≡ t * 2 ^ (z - 11) * 2 ^ 52 * 2 ^ (1022 - (z - 11))
     places =
@@ -136,7 +140,8 @@ module _ (b : ℕ) where
   no-root l h n =
       elim (decLt e 2047) [
         | yes k ↦
-            root-below binary64 (ofBits binary64 b) (sized binary64 e t) (2 ^ 1074) (size-pos e t n) (value true (le-leb (2 ^ 63) b (omega arith)) k)
+            root-below binary64 (ofBits binary64 b) (sized binary64 e t) (2 ^ 1074) (size-pos e t n)
+            (value true (le-leb (2 ^ 63) b (omega arith)) k)
         | no k ↦
             elim (eq-zero-or-pos t) [
               | inl z ↦ rw (read-inf binary64 b (omega arith) z, le-leb (2 ^ 63) b (omega arith))

@@ -97,29 +97,36 @@ module _ (x y : Float) (s : Bool) (a : ℕ) (t : Bool) (b c : ℕ) (C : 0 < c) (
 
   pub lt-values : lt x y ≡ below s a t b
   unfolding lt
-  lt-values = rw (p .2, q .2) (crossed (λ i j l. below s i t j) (λ i j l r L. below-scaled s t i j r) (p .0) (q .0) (p .1) (q .1) a b c C (p .3) (q .3))
+  lt-values =
+      rw (p .2, q .2) (crossed (λ i j l. below s i t j) (λ i j l r L. below-scaled s t i j r) (p .0) (q .0) (p .1) (q .1) a b c C
+      (p .3) (q .3))
 
   pub eq-values : eq x y ≡ level s a t b
   unfolding eq
-  eq-values = rw (p .2, q .2) (crossed (λ i j l. level s i t j) (λ i j l r L. level-scaled s t i j r) (p .0) (q .0) (p .1) (q .1) a b c C (p .3) (q .3))
+  eq-values =
+      rw (p .2, q .2) (crossed (λ i j l. level s i t j) (λ i j l r L. level-scaled s t i j r) (p .0) (q .0) (p .1) (q .1) a b c C
+      (p .3) (q .3))
 
   pub le-values : le x y ≡ (below s a t b || level s a t b)
   unfolding le
   le-values = rw (lt-values, eq-values)
 
-pub add-values : (f : Format) (x y : Float) (s : Bool) (a : ℕ) (t : Bool) (b c : ℕ) → 0 < c → HasValue x s a c → HasValue y t b c → add f x y ≡ sum f s a t b c
+pub add-values : (f : Format) (x y : Float) (s : Bool) (a : ℕ) (t : Bool) (b c : ℕ) → 0 < c → HasValue x s a c → HasValue y t b c
+    → add f x y ≡ sum f s a t b c
 unfolding add
 add-values f x y s a t b c C h k =
     let p = written x s a c h in
     let q = written y t b c k in
     rw (p .2, q .2) (crossed (λ i j l. sum f s i t j l) (sum-scaled f s t) (p .0) (q .0) (p .1) (q .1) a b c C (p .3) (q .3))
 
-pub sub-values : (f : Format) (x y : Float) (s : Bool) (a : ℕ) (t : Bool) (b c : ℕ) → 0 < c → HasValue x s a c → HasValue y t b c → sub f x y ≡ sum f s a (not t) b c
+pub sub-values : (f : Format) (x y : Float) (s : Bool) (a : ℕ) (t : Bool) (b c : ℕ) → 0 < c → HasValue x s a c → HasValue y t b c
+    → sub f x y ≡ sum f s a (not t) b c
 unfolding sub
 sub-values f x y s a t b c C h k = add-values f x (neg y) s a (not t) b c C h (neg-value y t b c k)
 
 -- ---- of x = ±a / c and y = ±b / d
-module _ (f : Format) (x y : Float) (s : Bool) (a c : ℕ) (t : Bool) (b d : ℕ) (C : 0 < c) (D : 0 < d) (h : HasValue x s a c) (k : HasValue y t b d) where
+module _ (f : Format) (x y : Float) (s : Bool) (a c : ℕ) (t : Bool) (b d : ℕ) (C : 0 < c) (D : 0 < d) (h : HasValue x s a c)
+    (k : HasValue y t b d) where
   pub mul-values : mul f x y ≡ round f (unlike s t) (a * b) (c * d)
   unfolding mul
   mul-values =
@@ -128,7 +135,8 @@ module _ (f : Format) (x y : Float) (s : Bool) (a c : ℕ) (t : Bool) (b d : ℕ
       let m = p .0 * up (p .1) in
       let n = q .0 * up (q .1) in
       rw (p .2, q .2)
-      (round-same f (unlike s t) (m * n) (down (p .1) * down (q .1)) (a * b) (c * d) (mul-pos (down-pos (p .1)) (down-pos (q .1))) (mul-pos C D)
+      (round-same f (unlike s t) (m * n) (down (p .1) * down (q .1)) (a * b) (c * d) (mul-pos (down-pos (p .1)) (down-pos (q .1)))
+      (mul-pos C D)
       (mul-mul-mul-comm m n c d ∙ rw (p .3, q .3) (mul-mul-mul-comm a (down (p .1)) b (down (q .1)))))
 
   pub div-values : 0 < b → div f x y ≡ round f (unlike s t) (a * d) (b * c)

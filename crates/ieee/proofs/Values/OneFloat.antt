@@ -1,8 +1,10 @@
--- A float that its format holds is known by its sign and its size, whatever fraction the size is written as: so `round` leaves it. Assumes nothing.
+-- A float that its format holds is known by its sign and its size, whatever fraction the size is written as: so `round` leaves it.
+-- Assumes nothing.
 use mathlib.Core.Path.{_≡_, refl, sym, ap, _∙_, subst}
 use mathlib.Core.Bool.{Bool, true, false, _&&_, cond}
 use Prim.Native.Nat.{ℕ, zero, suc, _+_, _-_, _*_, _/_, _%_, _^_, _≤_, _<_}
-use native.Mathlib.Nat.{add-comm, le-of-eq, le-trans, lt-of-mul-lt-mul-right, mul-assoc, mul-lt-mul-of-pos-right, mul-one, mul-pos, mul-right-comm, one-mul, zero-mul}
+use native.Mathlib.Nat.{add-comm, le-of-eq, le-trans, lt-of-mul-lt-mul-right, mul-assoc, mul-lt-mul-of-pos-right, mul-one, mul-pos}
+use native.Mathlib.Nat.{mul-right-comm, one-mul, zero-mul}
 use lib.IntN.{ℤ, pos, negsuc}
 use lib.Dec.{T, leb, ltb, eqb, leb→le, ltb→lt, eqb→eq}
 use lib.Pow.{pow-add, pow-pos}
@@ -32,7 +34,8 @@ bits-at f (fin t m e) s a c C h = rw (h .0, units) refl
         div-same (m * up e * 2 ^ low f) (down e) (a * 2 ^ low f) c (down-pos e) C
         (mul-right-comm (m * up e) (2 ^ low f) c ∙ rw (h .1) (mul-right-comm a (down e) (2 ^ low f)))
 
-pub value-unique : (f : Format) (x y : Float) (s : Bool) (a c : ℕ) → 0 < c → T (fits f x) → T (fits f y) → HasValue x s a c → HasValue y s a c → x ≡ y
+pub value-unique : (f : Format) (x y : Float) (s : Bool) (a c : ℕ) → 0 < c → T (fits f x) → T (fits f y) → HasValue x s a c
+    → HasValue y s a c → x ≡ y
 value-unique f x y s a c C p q h k = sym (ofBits-toBits f x p) ∙ rw (bits-at f x s a c C h, ← bits-at f y s a c C k) (ofBits-toBits f y q)
 
 pub value-cross : (x : Float) (s : Bool) (a c : ℕ) → HasValue x s a c → num x * c ≡ a * den x
@@ -46,7 +49,8 @@ Shape f m e = (m < 2 ^ prec f) × (down e ≤ 2 ^ low f) × (m * up e < 2 ^ suc 
 
 shape : (f : Format) (s : Bool) (m : ℕ) (e : ℤ) → T (fits f (fin s m e)) → Shape f m e
 unfolding Shape fits
-shape f s zero e t = (pow-pos (prec f), flat e (eqb→eq (up e * down e) 1 t), rw (zero-mul (up e)) (mul-pos (pow-pos (suc (emax f))) (down-pos e)))
+shape f s zero e t =
+    (pow-pos (prec f), flat e (eqb→eq (up e * down e) 1 t), rw (zero-mul (up e)) (mul-pos (pow-pos (suc (emax f))) (down-pos e)))
   where
     flat : (e : ℤ) → up e * down e ≡ 1 → down e ≤ 2 ^ low f
     flat (pos k) h = pow-pos (low f)

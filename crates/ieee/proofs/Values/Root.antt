@@ -3,7 +3,9 @@ use mathlib.Core.Path.{_≡_, refl, sym, ap, _∙_, subst}
 use mathlib.Core.Logic.{inr}
 use mathlib.Core.Bool.{Bool, true, false, cond, true≢false, false≢true}
 use Prim.Native.Nat.{ℕ, zero, suc, _+_, _-_, _*_, _/_, _%_, _^_, _≤_, _<_}
-use native.Mathlib.Nat.{div-div-eq-div-mul, div-lt-iff-lt-mul, div-one, le-refl, lt-irrefl, lt-of-le-of-lt, lt-of-lt-of-le, mul-assoc, mul-comm, mul-div-cancel, mul-le-mul, mul-le-mul-right, mul-lt-mul-of-pos-right, mul-mul-mul-comm, mul-one, mul-pos, mul-right-comm, one-mul, pow-succ', zero-lt-suc, zero-mul}
+use native.Mathlib.Nat.{div-div-eq-div-mul, div-lt-iff-lt-mul, div-one, le-refl, lt-irrefl, lt-of-le-of-lt, lt-of-lt-of-le, mul-assoc}
+use native.Mathlib.Nat.{mul-comm, mul-div-cancel, mul-le-mul, mul-le-mul-right, mul-lt-mul-of-pos-right, mul-mul-mul-comm, mul-one, mul-pos}
+use native.Mathlib.Nat.{mul-right-comm, one-mul, pow-succ', zero-lt-suc, zero-mul}
 use native.Mathlib.Omega.{arith}
 use lib.Dec.{T, ltb, ltb→lt, lit<}
 use lib.Pow.{pow-add, pow-lt, pow-mono, pow-pos}
@@ -52,7 +54,8 @@ pub square : (d k : ℕ) → 2 ^ d * 2 ^ d * (2 ^ k * 2 ^ k) ≡ 2 ^ (d + k) * 2
 square d k = mul-mul-mul-comm (2 ^ d) (2 ^ d) (2 ^ k) (2 ^ k) ∙ rw (pow-add 2 d k)
 
 -- ---- the pattern, where the square of the root, in units, is N * 4 ^ k, and N's root has all the digits that the format keeps
-module _ (f : Format) (a N k : ℕ) (value : a * 2 ^ low f ≡ N * (2 ^ k * 2 ^ k)) (least : 2 ^ (prec f - 1) * 2 ^ (prec f - 1) ≤ N) (most : N < 2 ^ prec f * 2 ^ prec f) where
+module _ (f : Format) (a N k : ℕ) (value : a * 2 ^ low f ≡ N * (2 ^ k * 2 ^ k)) (least : 2 ^ (prec f - 1) * 2 ^ (prec f - 1) ≤ N)
+    (most : N < 2 ^ prec f * 2 ^ prec f) where
   whole-is : squared f a / 2 ^ low f ≡ N * (2 ^ k * 2 ^ k)
   whole-is = rw (← mul-assoc a (2 ^ low f) (2 ^ low f), mul-div-cancel (a * 2 ^ low f) (pow-pos (low f))) value
 
@@ -76,7 +79,8 @@ module _ (f : Format) (a N k : ℕ) (value : a * 2 ^ low f ≡ N * (2 ^ k * 2 ^ 
   root-bits h =
       let L = 2 ^ low f in
       let K = 2 ^ k * 2 ^ k in
-      let even : squared f a * 1 ≡ N * (L * K) = mul-one (squared f a) ∙ sym (mul-assoc a L L) ∙ rw value (mul-assoc N K L ∙ rw (mul-comm K L)) in
+      let even : squared f a * 1 ≡ N * (L * K) = mul-one (squared f a) ∙ sym (mul-assoc a L L)
+      ∙ rw value (mul-assoc N K L ∙ rw (mul-comm K L)) in
       rw (
         rootRound-is f a L,
         drop-is,

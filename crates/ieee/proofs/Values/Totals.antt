@@ -8,7 +8,7 @@ use borrow.Author.Tests.{lt-ltb, le-ltb}
 use lib.Dec.{T}
 use lib.IntN.{pos, negℤ, _+ℤ_, +ℤ-comm, negℤ-+ℤ, negℤ-negℤ}
 use lib.Ieee.{Format, round, sum}
-use Rattle.ieee.specs.WholeNumber.{signed}
+use Rattle.ieee.specs.inner.Wholes.{signed}
 use Rattle.ieee.proofs.Order.Ranks.{rank}
 
 -- ---- a - b, by which is larger
@@ -33,12 +33,38 @@ pub record Total (f : Format) (s : Bool) (a : ℕ) (t : Bool) (b : ℕ) : Type 0
 
 pub total-of : (f : Format) (s : Bool) (a : ℕ) (t : Bool) (b : ℕ) → Total f s a t b
 unfolding sum
-total-of f false a false b = record { sign = false; size = a + b; is = λ c. refl; total = refl; plus = λ p q. absurd q; placed = λ n l. (omega arith, omega arith) }
-total-of f true a true b = record { sign = true; size = a + b; is = λ c. refl; total = negℤ-+ℤ (pos a) (pos b); plus = λ p q. omega (arith, p tt); placed = λ n l. (omega arith, omega arith) }
+total-of f false a false b =
+    record { sign = false; size = a + b; is = λ c. refl; total = refl; plus = λ p q. absurd q; placed = λ n l. (omega arith, omega arith) }
+total-of f true a true b =
+    record {
+      sign = true;
+      size = a + b;
+      is = λ c. refl;
+      total = negℤ-+ℤ (pos a) (pos b);
+      plus = λ p q. omega (arith, p tt);
+      placed =
+          λ n l. (omega arith, omega arith);
+    }
 total-of f false a true b =
     elim (decLt a b) [
-      | yes h ↦ record { sign = true; size = b - a; is = λ c. rw (lt-ltb a b h); total = sym (minus-ge a b (omega arith)); plus = λ p q. omega arith; placed = λ n l. (omega arith, omega arith) }
-      | no h ↦ record { sign = false; size = a - b; is = λ c. rw (le-ltb a b (omega arith)); total = sym (minus-le a b (omega arith)); plus = λ p q. absurd q; placed = λ n l. (omega arith, omega arith) }
+      | yes h ↦ record {
+        sign = true;
+        size = b - a;
+        is = λ c. rw (lt-ltb a b h);
+        total = sym (minus-ge a b (omega arith));
+        plus =
+            λ p q. omega arith;
+        placed = λ n l. (omega arith, omega arith);
+      }
+      | no h ↦ record {
+        sign = false;
+        size = a - b;
+        is = λ c. rw (le-ltb a b (omega arith));
+        total =
+            sym (minus-le a b (omega arith));
+        plus = λ p q. absurd q;
+        placed = λ n l. (omega arith, omega arith);
+      }
     ]
 total-of f true a false b =
     elim (decLt b a) [

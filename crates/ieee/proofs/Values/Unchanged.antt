@@ -3,9 +3,8 @@ use mathlib.Core.Path.{_≡_, refl, sym, _∙_}
 use mathlib.Core.Bool.{Bool, cond}
 use Prim.Native.Nat.{ℕ}
 use lib.Dec.{T, lit<}
-use lib.Ieee.{Float, nan, inf, fin, Format, binary32, binary64, fits}
+use lib.Ieee.{Float, nan, inf, fin, Format, fits}
 use lib.Ieee.Exact.{HasValue}
-use lib.Ieee.Fits.{fits-widens}
 use Rattle.ieee.specs.Integral.{Way, integral}
 use Rattle.ieee.specs.Rounded.{rounded}
 use Rattle.ieee.proofs.Values.ByValue.{rounded-values}
@@ -19,11 +18,9 @@ rounded-own f nan t = refl
 rounded-own f (inf s) t = refl
 rounded-own f (fin s m e) t = round-own f s m e t
 
--- an `f32` as an `f64`
-pub widened-own : (x : Float) → T (fits binary32 x) → rounded binary64 x ≡ x
-widened-own x t = rounded-own binary64 x (fits-widens x t)
-
 -- x is ±n, a zero of either sign
-pub integral-own : (f : Format) (above below : Way) (x : Float) (s : Bool) (n : ℕ) → T (fits f x) → HasValue x s n 1 → integral f above below x ≡ x
+pub integral-own : (f : Format) (above below : Way) (x : Float) (s : Bool) (n : ℕ) → T (fits f x) → HasValue x s n 1
+    → integral f above below x ≡ x
 integral-own f above below x s n t h =
-    integral-at f above below x s n 1 (lit< tt) h ∙ rw (whole-one (cond s below above) n) (sym (rounded-values f x s n 1 (lit< tt) h) ∙ rounded-own f x t)
+    integral-at f above below x s n 1 (lit< tt) h
+    ∙ rw (whole-one (cond s below above) n) (sym (rounded-values f x s n 1 (lit< tt) h) ∙ rounded-own f x t)

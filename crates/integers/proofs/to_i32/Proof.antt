@@ -18,35 +18,34 @@ use Rattle.integers.proofs.to_i32.Tie as tie
 
 -- x has the pattern b as an `f64`
 is : (c : tie.After-bits64) → ofBits binary64 (c .bits64 .result) ≡ c .before .before .args .x
-is c = rw (c .bits64 .ensures, c .before .f32-to-f64-with-nan .ensures) (read-wide (c .before .before .args .x) (c .before .before .good .0 .1))
+is c = rw (c .bits64 .ensures, c .before .f32-to-f64-with-nan .ensures) (read-wide _ (c .before .before .good .0 .1))
 
 -- the sign is put on
-negative : (c : tie.Else2) → pos 0 -ℤ toZ w32 (c .before .cut-size .result) ≡ toSigned 31 (c .before .before .before .before .before .args .x)
+negative : (c : tie.Else2) → pos 0 -ℤ toZ w32 (c .before .cut-size .result)
+    ≡ toSigned 31 (c .before .before .before .before .before .args .x)
 negative c =
     let called = c .before .before .before in
-    below-zero w32 31 (lit≤ tt) (lit< tt) (called .before .before .args .x) (called .bits64 .result) (c .before .cut-size .result) (is called)
-    (omega arith) (c .before .cut-size .ensures) (c .if2 .left)
+    below-zero w32 31 (lit≤ tt) (lit< tt) _ _ _ (is called) (omega arith) (c .before .cut-size .ensures) (c .if2 .left)
 
 cast-n : tie.Need-cast-n
 cast-n c =
     let called = c .before .before in
     record {
       sfits =
-          few w32 31 (lit≤ tt) (lit< tt) (called .before .before .args .x) (called .bits64 .result) (c .cut-size .result) (is called)
-          (omega arith) (c .cut-size .ensures);
+          few w32 31 (lit≤ tt) (lit< tt) _ _ _ (is called) (omega arith) (c .cut-size .ensures);
     }
 
 sub-result : tie.Need-sub-result
-sub-result c = rw (negative c) (signed-fits w32 (c .before .before .before .before .before .args .x))
+sub-result c = rw (negative c) (signed-fits w32 _)
 
 returns : tie.Need-returns
 returns c =
     let called = c .before .before .before in
-    from-zero-up w32 31 (lit≤ tt) (lit< tt) (called .before .before .args .x) (called .bits64 .result) (c .before .cut-size .result) (is called)
+    from-zero-up w32 31 (lit≤ tt) (lit< tt) _ _ _ (is called)
     (omega arith) (c .before .cut-size .ensures) (c .if2 .taken)
 
 returns-2 : tie.Need-returns-2
-returns-2 c = rw (negative c) (signed-kept w32 (c .before .before .before .before .before .args .x))
+returns-2 c = rw (negative c) (signed-kept w32 _)
 
 returns-3 : tie.Need-returns-3
 returns-3 c = sym (signed-nan 31 (c .before .before .before .before .args .x) (c .if3 .taken))
@@ -55,13 +54,13 @@ returns-4 : tie.Need-returns-4
 returns-4 c =
     let called = c .before .before .before in
     let b = called .bits64 .result in
-    past-end 31 (called .before .before .args .x) b (is called) (omega arith) (c .before .if3 .left) false (lt-leb (2 ^ 63) b (c .if4 .taken))
+    past-end 31 _ b (is called) (omega arith) (c .before .if3 .left) false (lt-leb (2 ^ 63) b (c .if4 .taken))
 
 returns-5 : tie.Need-returns-5
 returns-5 c =
     let called = c .before .before .before in
     let b = called .bits64 .result in
-    past-end 31 (called .before .before .args .x) b (is called) (omega arith) (c .before .if3 .left) true (le-leb (2 ^ 63) b (c .if4 .left))
+    past-end 31 _ b (is called) (omega arith) (c .before .if3 .left) true (le-leb (2 ^ 63) b (c .if4 .left))
 
 pub to-i32-spec : {M : Type 1} → statement M
 to-i32-spec =

@@ -24,16 +24,14 @@ is c = rw (c .bits64 .ensures) (read-back binary64 (c .before .args .x) (c .befo
 negative : (c : tie.Else2) → pos 0 -ℤ toZ w64 (c .before .cut-size .result) ≡ toSigned 63 (c .before .before .before .before .args .x)
 negative c =
     let called = c .before .before .before in
-    below-zero w64 63 (lit≤ tt) (lit< tt) (called .before .args .x) (called .bits64 .result) (c .before .cut-size .result) (is called)
-    (omega arith) (c .before .cut-size .ensures) (c .if2 .left)
+    below-zero w64 63 (lit≤ tt) (lit< tt) _ _ _ (is called) (omega arith) (c .before .cut-size .ensures) (c .if2 .left)
 
 cast-n : tie.Need-cast-n
 cast-n c =
     let called = c .before .before in
     record {
       sfits =
-          few w64 63 (lit≤ tt) (lit< tt) (called .before .args .x) (called .bits64 .result) (c .cut-size .result) (is called)
-          (omega arith) (c .cut-size .ensures);
+          few w64 63 (lit≤ tt) (lit< tt) _ _ _ (is called) (omega arith) (c .cut-size .ensures);
     }
 
 sub-result : tie.Need-sub-result
@@ -42,7 +40,7 @@ sub-result c = rw (negative c) (signed-fits w64 (c .before .before .before .befo
 returns : tie.Need-returns
 returns c =
     let called = c .before .before .before in
-    from-zero-up w64 63 (lit≤ tt) (lit< tt) (called .before .args .x) (called .bits64 .result) (c .before .cut-size .result) (is called)
+    from-zero-up w64 63 (lit≤ tt) (lit< tt) _ _ _ (is called)
     (omega arith) (c .before .cut-size .ensures) (c .if2 .taken)
 
 returns-2 : tie.Need-returns-2
@@ -55,13 +53,13 @@ returns-4 : tie.Need-returns-4
 returns-4 c =
     let called = c .before .before .before in
     let b = called .bits64 .result in
-    past-end 63 (called .before .args .x) b (is called) (omega arith) (c .before .if3 .left) false (lt-leb (2 ^ 63) b (c .if4 .taken))
+    past-end 63 _ b (is called) (omega arith) (c .before .if3 .left) false (lt-leb (2 ^ 63) b (c .if4 .taken))
 
 returns-5 : tie.Need-returns-5
 returns-5 c =
     let called = c .before .before .before in
     let b = called .bits64 .result in
-    past-end 63 (called .before .args .x) b (is called) (omega arith) (c .before .if3 .left) true (le-leb (2 ^ 63) b (c .if4 .left))
+    past-end 63 _ b (is called) (omega arith) (c .before .if3 .left) true (le-leb (2 ^ 63) b (c .if4 .left))
 
 pub to-i64-spec : {M : Type 1} → statement M
 to-i64-spec =

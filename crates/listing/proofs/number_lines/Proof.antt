@@ -1,7 +1,7 @@
 -- `listing::number_lines` meets its contract: the form with its numbers is the lines. Assumes nothing.
 use borrow.Author.Needs.{needs}
 use Rattle.spelling.specs.Text.{hex, bits}
-use Rattle.spelling.specs.Steps.{filledAt, filled}
+use Rattle.spelling.specs.inner.Steps.{filledAt, filled}
 use Rattle.listing.proofs.Lines.{spells-puts, number-lines}
 use Rattle.listing.proofs.number_lines.Statement.{statement}
 use Rattle.listing.proofs.number_lines.Tie as tie

@@ -1,7 +1,7 @@
 -- `listing::prism_line` meets its contract: none, or a line of bits. Assumes nothing.
 use borrow.Author.Needs.{needs}
 use Rattle.spelling.specs.Text.{hex, bits}
-use Rattle.spelling.specs.Steps.{filledAt, filled}
+use Rattle.spelling.specs.inner.Steps.{filledAt, filled}
 use Rattle.listing.proofs.Lines.{spells-puts, prism-none, prism-bits}
 use Rattle.listing.proofs.prism_line.Statement.{statement}
 use Rattle.listing.proofs.prism_line.Tie as tie

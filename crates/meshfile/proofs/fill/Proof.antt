@@ -8,27 +8,31 @@ use Rattle.meshfile.proofs.Gives.{filled}
 use Rattle.meshfile.proofs.fill.Statement.{statement}
 use Rattle.meshfile.proofs.fill.Tie as tie
 
+-- where each call started from
+abbrev start : tie.After-put-floats-arg2 → tie.Start
+start c = c .before .before .before .before .before
+
+abbrev floats-put : tie.After-put-ids-arg2 → tie.After-put-floats
+floats-put c = c .before .before .before .before
+
 slice-aggregate-put-floats : tie.Need-slice-aggregate-put-floats
-slice-aggregate-put-floats c =
-    let s = c .before .before .before .before .before in
-    sym (length-take-le (s .args .p .floats) (s .args .vertices .now) (s .pre .floats-room))
+slice-aggregate-put-floats c = sym (length-take-le _ _ (start c .pre .floats-room))
 
 put-floats-requires : tie.Need-put-floats-requires
-put-floats-requires c κs = simp (length-take, length-drop) (omega (arith, c .before .before .before .before .before .pre))
+put-floats-requires c κs = simp (length-take, length-drop) (omega (arith, start c .pre))
 
 slice-aggregate-put-ids : tie.Need-slice-aggregate-put-ids
-slice-aggregate-put-ids c =
-    let s = c .before .before .before .before .before .before .before .before .before .before in
-    sym (length-take-le (s .args .p .ids) (s .args .ids .now) (s .pre .ids-room))
+slice-aggregate-put-ids c = sym (length-take-le _ _ (start (floats-put c .before) .pre .ids-room))
 
 put-ids-requires : tie.Need-put-ids-requires
-put-ids-requires c κs = simp (length-take, length-drop) (omega (arith, c .before .before .before .before .before .before .before .before .before .before .pre))
+put-ids-requires c κs = simp (length-take, length-drop) (omega (arith, start (floats-put c .before) .pre))
 
 returns : tie.Need-returns
 returns c =
-    let s = c .before .before .before .before .before .before .before .before .before .before .before .before .before .before .before .before .before in
-    filled (s .args .bytes .now) (s .args .p) (s .args .vertices .now) (s .args .ids .now) (s .pre .inside) _ _ _ _ _ (c .before .before .before .word .ensures) (c .before .before .f32-of .ensures)
-    (c .profile-of .ensures) (c .before .before .before .before .before .before .before .before .before .before .before .put-floats .ensures) (c .before .before .before .before .before .before .put-ids .ensures)
+    let ids = c .before .before .before .before .before .before in
+    let floats = floats-put (ids .before) in
+    filled _ _ _ _ (start (floats .before) .pre .inside) _ _ _ _ _ (c .before .before .before .u32-at .ensures)
+    (c .before .before .f32-of .ensures) (c .profile-of .ensures) (floats .put-floats .ensures) (ids .put-ids .ensures)
 
 pub fill-spec : {M : Type 1} → statement M
 fill-spec =

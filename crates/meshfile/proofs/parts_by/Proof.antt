@@ -1,6 +1,6 @@
 -- `meshfile::parts_by` meets its contract: by the ending. Assumes nothing.
 use borrow.Author.Needs.{needs}
-use Rattle.meshfile.specs.Steps.{partsBy}
+use Rattle.meshfile.specs.inner.Steps.{partsBy}
 use Rattle.meshfile.proofs.parts_by.Statement.{statement}
 use Rattle.meshfile.proofs.parts_by.Tie as tie
 

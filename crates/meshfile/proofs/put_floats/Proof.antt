@@ -10,19 +10,22 @@ use Rattle.meshfile.proofs.put_floats.Statement.{statement}
 use Rattle.meshfile.proofs.put_floats.Tie as tie
 
 abbrev Inv-loop : tie.InvT-loop
-Inv-loop bytes vertices₀ i₀ vertices i = (i ≤ length vertices₀) × (length vertices ≡ length vertices₀) × Put (ofBits binary32) bytes i vertices
+Inv-loop bytes vertices₀ i₀ vertices i =
+    (i ≤ length vertices₀) × (length vertices ≡ length vertices₀) × Put (ofBits binary32) bytes i vertices
 
 abbrev μ-loop : tie.MeasureT-loop
 μ-loop bytes vertices₀ i₀ vertices i = length vertices₀ - i
 
 loop-holds : tie.Need-loop-holds Inv-loop μ-loop
-loop-holds c = (omega arith, refl, put-none (ofBits binary32) (c .before .before .args .bytes .now) (c .before .before .args .vertices .now))
+loop-holds c = (omega arith, refl, put-none (ofBits binary32) _ _)
 
 loop-again : tie.Need-loop-again Inv-loop μ-loop
 loop-again c =
     let b = c .before .before .before .before .before .before .args .bytes .now in
     let l = c .before .before .before .loop in
-    (search needs, search needs, rw (c .f32-of .ensures) (put-next (ofBits binary32) b (l .i) (l .vertices) (c .before .word .result) (omega arith) (omega arith) (c .before .word .ensures) (l .inv .2)))
+    let w = c .before .u32-at .ensures in
+    let put = put-next (ofBits binary32) b (l .i) (l .vertices) _ (omega arith) (omega arith) w (l .inv .2) in
+    (search needs, search needs, rw (c .f32-of .ensures) put)
 
 returns : tie.Need-returns Inv-loop μ-loop
 returns c =

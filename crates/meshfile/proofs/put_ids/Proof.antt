@@ -16,13 +16,14 @@ abbrev μ-loop : tie.MeasureT-loop
 μ-loop bytes ids₀ i₀ ids i = length ids₀ - i
 
 loop-holds : tie.Need-loop-holds Inv-loop μ-loop
-loop-holds c = (omega arith, refl, put-none (λ (w : ℕ). w) (c .before .before .args .bytes .now) (c .before .before .args .ids .now))
+loop-holds c = (omega arith, refl, put-none (λ (w : ℕ). w) _ _)
 
 loop-again : tie.Need-loop-again Inv-loop μ-loop
 loop-again c =
     let b = c .before .before .before .before .before .args .bytes .now in
     let l = c .before .before .loop in
-    (search needs, search needs, put-next (λ (w : ℕ). w) b (l .i) (l .ids) (c .word .result) (omega arith) (omega arith) (c .word .ensures) (l .inv .2))
+    let put = put-next (λ (w : ℕ). w) b (l .i) (l .ids) _ (omega arith) (omega arith) (c .u32-at .ensures) (l .inv .2) in
+    (search needs, search needs, put)
 
 returns : tie.Need-returns Inv-loop μ-loop
 returns c =

@@ -1,35 +1,42 @@
 -- `replay::print_line_of` is safe: a file that was read has no more floats and ids than the areas. Assumes nothing.
 use mathlib.Core.Path.{sym}
+use Prim.Native.Nat.{_≤_}
 use native.Mathlib.Omega.{arith}
 use lib.ListN.{length-take}
 use lib.Seq.{length-take-le}
+use Rattle.meshfile.specs.Format.{mostInFile}
 use Rattle.meshfile.proofs.Most.{reads-most}
 use borrow.Author.Needs.{needs}
 use Rattle.replay.proofs.print_line_of.Statement.{statement}
 use Rattle.replay.proofs.print_line_of.Tie as tie
 
+-- no more floats and ids than a file can have
+most : (c : tie.After-found) → let m = c .found .given .0 .0 in (m .floats ≤ mostInFile) × (m .ids ≤ mostInFile)
+most c = reads-most _ _ _ _ _ _ (c .before .before .before .before .read .ensures) _ (c .found .given .1)
+
 array-share-prefix-ids : tie.Need-array-share-prefix-ids
-array-share-prefix-ids c = omega (arith, reads-most _ _ _ _ _ _ (c .before .before .before .before .before .read .ensures) _ (c .before .found .given .1) .1)
+array-share-prefix-ids c = omega (arith, most (c .before) .1)
 
 slice-aggregate-print-ids : tie.Need-slice-aggregate-print-ids
 slice-aggregate-print-ids c = sym (length-take-le _ _ (array-share-prefix-ids (c .before)))
 
 array-share-prefix-vertices : tie.Need-array-share-prefix-vertices
-array-share-prefix-vertices c = omega (arith, reads-most _ _ _ _ _ _ (c .before .before .before .before .before .before .before .read .ensures) _ (c .before .before .before .found .given .1) .0)
+array-share-prefix-vertices c = omega (arith, most (c .before .before .before) .0)
 
 slice-aggregate-print-short : tie.Need-slice-aggregate-print-short
 slice-aggregate-print-short c = sym (length-take-le _ _ (array-share-prefix-vertices (c .before)))
 
 array-share-prefix-ids-2 : tie.Need-array-share-prefix-ids-2
-array-share-prefix-ids-2 c = omega (arith, reads-most _ _ _ _ _ _ (c .before .before .before .before .before .before .before .before .read .ensures) _ (c .before .before .before .before .found .given .1) .1)
+array-share-prefix-ids-2 c = omega (arith, most (c .before .before .before .before) .1)
 
 slice-aggregate-print-short-2 : tie.Need-slice-aggregate-print-short-2
 slice-aggregate-print-short-2 c = sym (length-take-le _ _ (array-share-prefix-ids-2 (c .before)))
 
 print-short-requires : tie.Need-print-short-requires
 print-short-requires c κs =
-    let m = c .before .before .before .before .before .found .given .0 .0 in
-    let areas = c .before .before .before .before .before .before .before .before .before .read .last .1 in
+    let file = c .before .before .before .before .before in
+    let m = file .found .given .0 .0 in
+    let areas = file .before .before .before .before .read .last .1 in
     (omega (arith, length-take (m .floats) (areas .0)), omega (arith, length-take (m .ids) (areas .1 .0)))
 
 pub print-line-of-spec : {M : Type 1} → statement M

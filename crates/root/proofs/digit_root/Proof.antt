@@ -34,7 +34,8 @@ module _ (m a q rest i : ℕ) (t : Turn m a q rest i) where
   n = rest * 4 + a / 2 ^ 62
 
   -- q' and rest' stand for the same digits
-  turn : (q' rest' : ℕ) → q' * q' + rest' ≡ 4 * (q * q) + n → rest' ≤ 2 * q' → q' ≤ 2 * q + 1 → i < 27 → Turn m (a % 2 ^ 62 * 4) q' rest' (i + 1)
+  turn : (q' rest' : ℕ) → q' * q' + rest' ≡ 4 * (q * q) + n → rest' ≤ 2 * q' → q' ≤ 2 * q + 1 → i < 27
+      → Turn m (a % 2 ^ 62 * 4) q' rest' (i + 1)
   turn q' rest' e r l h = record {
     taken = rw (pow-next i, e) (next m a q rest (2 ^ i) (t .taken));
     small = r;
@@ -68,9 +69,6 @@ Inv-loop m a₀ q₀ rest₀ i₀ a q rest i = Turn m a q rest i
 abbrev μ-loop : tie.MeasureT-loop
 μ-loop m a₀ q₀ rest₀ i₀ a q rest i = 27 - i
 
-mul-a : tie.Need-mul-a Inv-loop μ-loop
-mul-a c = omega arith
-
 loop-holds : tie.Need-loop-holds Inv-loop μ-loop
 loop-holds c = record { taken = omega arith; small = omega arith; few = omega arith; turns = omega arith; word = omega arith }
 
@@ -86,9 +84,6 @@ mul-d c = omega (arith, q-lt (c .before .loop .inv))
 add-d : tie.Need-add-d Inv-loop μ-loop
 add-d c = omega (arith, q-lt (c .before .loop .inv))
 
-mul-a-2 : tie.Need-mul-a-2 Inv-loop μ-loop
-mul-a-2 c = omega arith
-
 mul-q : tie.Need-mul-q Inv-loop μ-loop
 mul-q c = omega (arith, q-lt (c .before .before .loop .inv))
 
@@ -97,12 +92,6 @@ add-q c = omega (arith, q-lt (c .before .before .loop .inv))
 
 mul-q-2 : tie.Need-mul-q-2 Inv-loop μ-loop
 mul-q-2 c = omega (arith, q-lt (c .before .before .loop .inv))
-
-add-i : tie.Need-add-i Inv-loop μ-loop
-add-i c = omega arith
-
-loop-less : tie.Need-loop-less Inv-loop μ-loop
-loop-less c = omega arith
 
 loop-again : tie.Need-loop-again Inv-loop μ-loop
 loop-again c =
@@ -125,5 +114,5 @@ returns c =
 pub digit-root-spec : {M : Type 1} → statement M
 digit-root-spec =
     tie.close
-    (tie.spec Inv-loop μ-loop mul-a loop-holds mul-n add-n mul-d add-d mul-a-2 mul-q add-q mul-q-2 add-i loop-less
-    loop-again returns)
+    (tie.spec Inv-loop μ-loop (λ c. omega arith) loop-holds mul-n add-n mul-d add-d (λ c. omega arith) mul-q add-q
+    mul-q-2 (λ c. omega arith) (λ c. omega arith) loop-again returns)

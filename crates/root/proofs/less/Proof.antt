@@ -10,7 +10,8 @@ use mir.Val.{boolByte}
 use Rattle.root.proofs.less.Statement.{statement}
 use Rattle.root.proofs.less.Tie as tie
 
-byte : (a b : ℕ) (t : Bool) → (T t → a < b) → (T (not t) → b ≤ a) → (boolByte t ≤ 1) × (((a < b) × (boolByte t ≡ 1)) ⊎ ((b ≤ a) × (boolByte t ≡ 0)))
+byte : (a b : ℕ) (t : Bool) → (T t → a < b) → (T (not t) → b ≤ a)
+    → (boolByte t ≤ 1) × (((a < b) × (boolByte t ≡ 1)) ⊎ ((b ≤ a) × (boolByte t ≡ 0)))
 byte a b true y n = (omega arith, inl (y tt, refl))
 byte a b false y n = (omega arith, inr (n tt, refl))
 

@@ -48,10 +48,11 @@ squares : {m q t u : ℕ} → Parts m q t u → (q * 2 ^ 26 + t) * (q * 2 ^ 26 +
 squares p = omega arith
 
 parts-at : (c : tie.After-digit-root)
-    → let m = c .before .args .m in let q = c .digit-root .result in Parts m q ((m - q * q) * 2 ^ 26 / (2 * q)) ((m - q * q) * 2 ^ 26 % (2 * q))
+    → let m = c .before .args .m in let q = c .digit-root .result in
+    Parts m q ((m - q * q) * 2 ^ 26 / (2 * q)) ((m - q * q) * 2 ^ 26 % (2 * q))
 parts-at c =
     let m = c .before .args .m in
-    parts-of m (c .digit-root .result) (c .before .pre .0) (c .before .pre .1)
+    parts-of m _ (c .before .pre .0) (c .before .pre .1)
     (subst (λ (q : ℕ). IsRoot m q) (sym (c .digit-root .ensures)) (floorRoot-is m))
 
 mul-n : tie.Need-mul-n
@@ -94,10 +95,13 @@ add-result : tie.Need-add-result
 add-result c = let p = parts-at (c .before) in omega arith
 
 returns : tie.Need-returns
-returns c = let p = parts-at (c .before) in next (c .before .before .args .m * 2 ^ 52) _ _ _ (squares p) (omega (arith, c .if1 .taken)) (omega arith)
+returns c =
+    let p = parts-at (c .before) in next (c .before .before .args .m * 2 ^ 52) _ _ _ (squares p) (omega (arith, c .if1 .taken))
+    (omega arith)
 
 returns-2 : tie.Need-returns-2
-returns-2 c = let p = parts-at (c .before) in same (c .before .before .args .m * 2 ^ 52) _ _ _ (squares p) (omega (arith, c .if1 .left)) (omega arith)
+returns-2 c =
+    let p = parts-at (c .before) in same (c .before .before .args .m * 2 ^ 52) _ _ _ (squares p) (omega (arith, c .if1 .left)) (omega arith)
 
 pub nearest-root-spec : {M : Type 1} → statement M
 nearest-root-spec =

@@ -34,7 +34,7 @@ root-normal-requires : tie.Need-root-normal-requires
 root-normal-requires c κs = inside (toBits binary64 (c .before .before .args .x)) (c .if2 .taken)
 
 float-from-bits-result : tie.Need-float-from-bits-result
-float-from-bits-result c = up-to-inf binary64 (c .root-normal .result) (omega (arith, c .root-normal .ensures .1))
+float-from-bits-result c = up-to-inf binary64 _ (omega (arith, c .root-normal .ensures .1))
 
 returns-2 : tie.Need-returns-2
 returns-2 c =
@@ -44,7 +44,7 @@ returns-2 c =
 returns-3 : tie.Need-returns-3
 returns-3 c =
     let start = c .before .before .before .before in
-    c .f64-of .ensures ∙ back (start .args .x) (c .before .root64-bits .result) (start .good .0 .1) (c .before .root64-bits .ensures)
+    c .f64-of .ensures ∙ back (start .args .x) _ (start .good .0 .1) (c .before .root64-bits .ensures)
 
 pub root64-spec : {M : Type 1} → statement M
 root64-spec =

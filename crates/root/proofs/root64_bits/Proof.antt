@@ -18,7 +18,8 @@ returns : tie.Need-returns
 returns c = c .root-normal .ensures .0
 
 returns-2 : tie.Need-returns-2
-returns-2 c = let start = c .before .before in zero-bits (start .args .b) (start .fits .b .fits) (no-digits (start .args .b) (c .if2 .taken))
+returns-2 c =
+    let start = c .before .before in zero-bits (start .args .b) (start .fits .b .fits) (no-digits (start .args .b) (c .if2 .taken))
 
 returns-4 : tie.Need-returns-4
 returns-4 c = infinity-bits (c .before .before .before .before .args .b) (c .if4 .taken)

@@ -26,7 +26,7 @@ normal-bits b r l h e =
 returns : tie.Need-returns
 returns c =
     let start = c .before .before in
-    (normal-bits (start .args .b) (c .root-scaled .result) (start .pre .0) (start .pre .1) (c .root-scaled .ensures .0), omega (arith, c .root-scaled .ensures .1))
+    (normal-bits (start .args .b) _ (start .pre .0) (start .pre .1) (c .root-scaled .ensures .0), omega (arith, c .root-scaled .ensures .1))
 
 pub root-normal-spec : {M : Type 1} → statement M
 root-normal-spec =

@@ -1,6 +1,6 @@
 -- `root::root_subnormal` meets its contract. Assumes nothing.
 use mathlib.Core.Path.{_≡_, _∙_}
-use Prim.Native.Nat.{ℕ, _+_, _*_, _/_, _%_, _^_, _<_}
+use Prim.Native.Nat.{_/_, _%_, _^_}
 use native.Mathlib.Nat.{mod-eq-of-lt}
 use native.Mathlib.Omega.{arith}
 use lib.Count.{leadingZeros}
@@ -31,7 +31,7 @@ returns c =
     let start = c .before in
     let t = start .args .t in
     let digits : t % 2 ^ 52 ≡ t = mod-eq-of-lt (start .pre .1) in
-    above-bits t (c .root-scaled .result) (omega arith) (λ z. omega arith)
+    above-bits t _ (omega arith) (λ z. omega arith)
     (c .root-scaled .ensures .0 ∙ rw digits (subnormal-root (t % 2 ^ 63 / 2 ^ 52) t (leadingZeros 64 t) (omega arith) (facts start)))
 
 pub root-subnormal-spec : {M : Type 1} → statement M

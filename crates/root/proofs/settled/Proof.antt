@@ -61,7 +61,8 @@ left q k = (k % 4096 + 2) * 2 ^ 44 - (q / 2 ^ 22 * (q % 2 ^ 22) % 2 ^ 21 * 2 ^ 2
 
 -- nothing wraps where k is small
 left-is : (m q k : ℕ) → m < 2 ^ 54 → q < 2 ^ 53 → k < 4096
-    → (k + (q / 2 ^ 22 * (q / 2 ^ 22) + q / 2 ^ 22 * (q % 2 ^ 22) / 2 ^ 21)) % 2 ^ 64 ≡ m * 256 + 2046 → m * 2 ^ 52 + 2 ^ 55 ≡ q * q + left q k
+    → (k + (q / 2 ^ 22 * (q / 2 ^ 22) + q / 2 ^ 22 * (q % 2 ^ 22) / 2 ^ 21)) % 2 ^ 64 ≡ m * 256 + 2046
+    → m * 2 ^ 52 + 2 ^ 55 ≡ q * q + left q k
 left-is m q k M Q K e =
     let p = parts q Q in
     let u = q / 2 ^ 22 in
@@ -104,7 +105,9 @@ near c =
     let all = subst T (sym (c .if1 .taken)) tt in
     let both = and-l (small && above) below all in
     record {
-      is = left-is m q k (called .before .pre .1) (called .before .pre .3) (ltb→lt k 4096 (and-l small above both)) (called .wrapping-sub-u64 .ensures);
+      is =
+          left-is m q k (called .before .pre .1) (called .before .pre .3) (ltb→lt k 4096 (and-l small above both))
+          (called .wrapping-sub-u64 .ensures);
       above = ltb→lt (2 ^ 55 + 2) (r + 3 * q) (and-r small above both);
       below = ltb→lt r (2 ^ 55 + 3 * q) (and-r (small && above) below all);
     }
@@ -112,7 +115,7 @@ near c =
 returns : tie.Need-returns
 returns c =
     let at-if1 = c .before .before in
-    settles _ (at-if1 .before .before .args .q) (2 ^ 55) (rest at-if1) (near at-if1) (omega arith) _ _
+    settles _ _ (2 ^ 55) (rest at-if1) (near at-if1) (omega arith) _ _
     (⊎-elim (λ w. inl (omega arith, w .1)) (λ w. inr (omega arith, w .1)) (c .before .less .ensures .1))
     (⊎-elim (λ w. inl (omega arith, w .1)) (λ w. inr (omega arith, w .1)) (c .less2 .ensures .1))
 

@@ -3,7 +3,7 @@ use mathlib.Core.Logic.{⊎-elim}
 use Prim.Native.Nat.{_≤_, _-_}
 use borrow.Author.Needs.{needs}
 use lib.ListN.{length, drop}
-use Rattle.spelling.specs.Steps.{filled}
+use Rattle.spelling.specs.inner.Steps.{filled}
 use Rattle.spelling.proofs.Left.{Left, left-all, left-less, byte-room, left-byte, left-none}
 use Rattle.spelling.proofs.Turns.{number-left, number-room, form-number, form-byte, form-end}
 use Rattle.spelling.proofs.fill.Statement.{statement}

@@ -7,7 +7,7 @@ use borrow.Author.Tests.{eq-eqb, ne-eqb}
 use lib.Dec.{eqb}
 use lib.ListN.{length, getD, drop}
 use Rattle.ids.proofs.Bits.{byte-small}
-use Rattle.spelling.specs.Steps.{lineOf}
+use Rattle.spelling.specs.inner.Steps.{lineOf}
 use Rattle.spelling.proofs.Left.{Left, left-all, byte-room, left-byte, left-none}
 use Rattle.spelling.proofs.Turns.{line-within, line-put, line-passed, line-end}
 use Rattle.spelling.proofs.put_line.Statement.{statement}

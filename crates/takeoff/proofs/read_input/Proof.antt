@@ -14,36 +14,37 @@ Inv-loop bytes₀ n have₀ bytes have = (length bytes ≡ length bytes₀) × (
 abbrev μ-loop : tie.MeasureT-loop
 μ-loop bytes₀ n have₀ bytes have = length bytes - have
 
+-- after a read: the n bytes stay, and those that are there are counted
+module _ (c : tie.After-read-behind Inv-loop μ-loop) where
+  abbrev start : tie.Start Inv-loop μ-loop
+  start = c .before .before .before .before .before
+
+  abbrev at : tie.At-loop Inv-loop μ-loop
+  at = c .before .before .before
+
+  stays : take (start .args .n) (c .read-behind .last .0) ≡ take (start .args .n) (start .args .bytes .now)
+  stays = sooner _ (at .loop .have) (at .loop .bytes) _ _ (at .loop .inv .1) (c .read-behind .ensures .0) (at .loop .inv .3)
+
+  counted : (start .args .n ≤ at .loop .have) × (at .loop .have ≤ length (c .read-behind .last .0))
+  counted = (at .loop .inv .1, omega (arith, at .loop .inv .2, c .read-behind .kept))
+
 returns : tie.Need-returns Inv-loop μ-loop
-returns c =
-    let s = c .before .before .before .before .before .before .before .before in
-    let l = c .before .before .before .before .before .before .loop in
-    let b = c .before .before .before .read-behind in
-    let stays = sooner (s .args .n) (l .have) (l .bytes) (b .last .0) (s .args .bytes .now) (l .inv .1) (b .ensures .0) (l .inv .3) in
-    (stays, l .inv .1, omega (arith, l .inv .2, b .kept))
+returns c = let read = c .before .before .before in (stays read, counted read)
 
 returns-2 : tie.Need-returns-2 Inv-loop μ-loop
-returns-2 c =
-    let s = c .before .before .before .before .before .before .before .before .before .before in
-    let l = c .before .before .before .before .before .before .before .before .loop in
-    let b = c .before .before .before .before .before .read-behind in
-    let stays = sooner (s .args .n) (l .have) (l .bytes) (b .last .0) (s .args .bytes .now) (l .inv .1) (b .ensures .0) (l .inv .3) in
-    (stays, l .inv .1, omega (arith, l .inv .2, b .kept))
+returns-2 c = let read = c .before .before .before .before .before in (stays read, counted read)
 
 loop-less : tie.Need-loop-less Inv-loop μ-loop
 loop-less c =
-    let s = c .before .before .before .before .before .before .before .before .before .before .before in
-    let l = c .before .before .before .before .before .before .before .before .before .loop in
-    let b = c .before .before .before .before .before .before .read-behind in
-    omega (arith, b .kept, b .ensures .1, c .before .if2 .left, l .inv .2)
+    let read = c .before .before .before .before .before .before in
+    omega (arith, read .read-behind .kept, read .read-behind .ensures .1, c .before .if2 .left, at read .loop .inv .2)
 
 loop-again : tie.Need-loop-again Inv-loop μ-loop
 loop-again c =
-    let s = c .before .before .before .before .before .before .before .before .before .before .before in
-    let l = c .before .before .before .before .before .before .before .before .before .loop in
-    let b = c .before .before .before .before .before .before .read-behind in
-    let stays = sooner (s .args .n) (l .have) (l .bytes) (b .last .0) (s .args .bytes .now) (l .inv .1) (b .ensures .0) (l .inv .3) in
-    (omega (arith, b .kept, l .inv .0), omega (arith, b .ensures .1, l .inv .1), omega (arith, b .ensures .1, b .kept), stays)
+    let read = c .before .before .before .before .before .before in
+    let b = read .read-behind in
+    let l = at read .loop in
+    (omega (arith, b .kept, l .inv .0), omega (arith, b .ensures .1, l .inv .1), omega (arith, b .ensures .1, b .kept), stays read)
 
 returns-3 : tie.Need-returns-3 Inv-loop μ-loop
 returns-3 c =

@@ -8,10 +8,7 @@ returns : tie.Need-returns
 returns c = search flags-refused
 
 returns-2 : tie.Need-returns-2
-returns-2 c =
-    let args = c .before .before .before .before .before .before .before .before .before .before .before .before .before .before .before .before .before .before .before .before .before .before .before .args in
-    filled (args .vertices .now) (args .ids .now) (args .unit) (args .clip) (args .defect) (args .work .now) (args .raster .now) (args .surfaces .now) (args .«record» .now)
-    _ _ _ _ _ (c .before .before .before .before .before .before .before .before .before .before .before .before .before .before .before .before .before .flags-fit .ensures) (c .before .before .before .before .before .before .before .before .before .before .before .before .before .before .before .before .if1 .left) (c .before .before .before .before .before .before .before .before .before .before .before .before .compute .ensures) _ _ _ _ (c .before .before .before .before .answer .given .1) (c .before .before .profile-of .ensures) (c .before .apply-product-flags .ensures) (c .record-words .ensures)
+returns-2 c = search filled
 
 returns-3 : tie.Need-returns-3
 returns-3 c = search refused

@@ -4,9 +4,6 @@ use borrow.Author.Needs.{needs}
 use Rattle.capi.proofs.record_c.prism_bits.Statement.{statement}
 use Rattle.capi.proofs.record_c.prism_bits.Tie as tie
 
-enum-told : tie.Need-enum-told
-enum-told c = search needs
-
 returns : tie.Need-returns
 unfolding prismBits
 returns c = rw (c .enum-told .given .1)
@@ -17,4 +14,4 @@ returns-2 c = rw (c .before .before .prism .given .1) (c .bits32 .ensures)
 
 pub prism-bits-spec : {M : Type 1} → statement M
 prism-bits-spec =
-    tie.close (tie.spec enum-told (λ c. search needs) (λ c κs. search needs) returns returns-2)
+    tie.close (tie.spec (λ c. search needs) (λ c. search needs) (λ c κs. search needs) returns returns-2)

@@ -4,9 +4,6 @@ use borrow.Author.Needs.{needs}
 use Rattle.capi.proofs.record_c.prism_number.Statement.{statement}
 use Rattle.capi.proofs.record_c.prism_number.Tie as tie
 
-enum-told : tie.Need-enum-told
-enum-told c = search needs
-
 returns : tie.Need-returns
 unfolding prismNumber
 returns c = rw (c .enum-told .given .1)
@@ -17,4 +14,4 @@ returns-2 c = rw (c .enum-told2 .given .1)
 
 pub prism-number-spec : {M : Type 1} → statement M
 prism-number-spec =
-    tie.close (tie.spec enum-told (λ c. search needs) returns returns-2)
+    tie.close (tie.spec (λ c. search needs) (λ c. search needs) returns returns-2)

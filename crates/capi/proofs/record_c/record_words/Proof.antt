@@ -8,24 +8,28 @@ use Rattle.capi.proofs.record_c.record_words.Tie as tie
 
 returns : tie.Need-returns
 unfolding wordsOf
-returns c = λ i.
-    c .before .before .before .before .before .before .before .before .before .before .before .before .before .before .before .quality-number .ensures i
-    ∷ byte-bit (c .before .before .before .before .before .before .before .before .before .before .before .before .before .before .before .before .args .q .«volume_reliable») i
-    ∷ c .before .before .before .before .before .before .before .before .before .before .before .before .before .method-number .ensures i
-    ∷ c .before .before .before .before .before .before .before .before .before .before .before .before .profile-number .ensures i
-    ∷ c .before .before .before .before .before .before .before .before .before .before .before .bits32 .ensures i
-    ∷ c .before .before .before .before .before .before .before .before .before .before .bits322 .ensures i
-    ∷ c .before .before .before .before .before .before .before .before .before .bits323 .ensures i
-    ∷ c .before .before .before .before .before .before .before .before .bits324 .ensures i
-    ∷ c .before .before .before .before .before .before .before .bits325 .ensures i
-    ∷ c .before .before .before .before .before .before .bits326 .ensures i
+returns c =
+    let side = c .before .before .before .before .before .before in
+    let profile = side .before .before .before .before .before .before in
+    let quality = profile .before .before .before in
+    λ i.
+    quality .quality-number .ensures i
+    ∷ byte-bit (quality .before .args .q .«volume_reliable») i
+    ∷ profile .before .method-number .ensures i
+    ∷ profile .profile-number .ensures i
+    ∷ side .before .before .before .before .before .bits32 .ensures i
+    ∷ side .before .before .before .before .bits322 .ensures i
+    ∷ side .before .before .before .bits323 .ensures i
+    ∷ side .before .before .bits324 .ensures i
+    ∷ side .before .bits325 .ensures i
+    ∷ side .bits326 .ensures i
     ∷ c .before .before .before .before .before .bits327 .ensures i
     ∷ c .before .before .before .before .bits328 .ensures i
     ∷ c .before .before .before .bits329 .ensures i
     ∷ c .before .before .bits3210 .ensures i
     ∷ c .before .prism-number .ensures i
     ∷ c .prism-bits .ensures i
-    ∷ c .before .before .before .before .before .before .before .before .before .before .before .before .before .before .before .before .args .q .«surface_count»
+    ∷ quality .before .args .q .«surface_count»
     ∷ []
 
 pub record-words-spec : {M : Type 1} → statement M

@@ -1,4 +1,5 @@
--- `patterns::order::second` meets its contract, by its four cases: so only another answer is refused, and no other wording. Assumes nothing.
+-- `patterns::order::second` meets its contract, by its four cases: so only another answer is refused, and no other wording.
+-- Assumes nothing.
 use mathlib.Core.Path.{_≡_, refl}
 use mathlib.Core.Bool.{Bool, true, false}
 use mathlib.Core.Logic.{_⊎_, inl, inr}

@@ -1,4 +1,5 @@
--- `rounding::narrowing::narrow` meets its contract: the short ways by what they make of the pattern, the other by the pattern form. Assumes nothing.
+-- `rounding::narrowing::narrow` meets its contract: the short ways by what they make of the pattern, the other by the pattern form.
+-- Assumes nothing.
 use borrow.Author.Needs.{needs}
 use mathlib.Core.Path.{_≡_, sym, ap, _∙_, subst}
 use mathlib.Core.Bool.{true, _&&_}
@@ -14,7 +15,7 @@ use Rattle.ieee.specs.Rounded.{rounded}
 use Rattle.ieee.proofs.Patterns.Back.{read-back}
 use Rattle.ieee.proofs.Patterns.Nan.{is-nan, ne-self, same-no-nan, up-to-inf}
 use Rattle.ieee.proofs.Patterns.Narrowed.{narrow-finite, narrow-tiny, rounded-fits}
-use Rattle.rounding.specs.Sizes.{narrowSize}
+use Rattle.rounding.specs.inner.Sizes.{narrowSize}
 use Rattle.rounding.proofs.narrowing.narrow.Statement.{statement}
 use Rattle.rounding.proofs.narrowing.narrow.Tie as tie
 
@@ -46,7 +47,8 @@ module _ (start : tie.Start) where
   answer r h = rw (h, read-back binary64 x (start .good .0 .1)) (ofBits-toBits binary32 (rounded binary32 x) (rounded-fits binary32 x))
 
   -- the same from the size of the answer
-  by-size : (r : ℕ) → b % 2 ^ 63 < 1151 * 2 ^ 52 → r ≡ narrowSize (b % 2 ^ 63) → ofBits binary32 (b / 2 ^ 63 * 2 ^ 31 + r) ≡ rounded binary32 x
+  by-size : (r : ℕ) → b % 2 ^ 63 < 1151 * 2 ^ 52 → r ≡ narrowSize (b % 2 ^ 63)
+      → ofBits binary32 (b / 2 ^ 63 * 2 ^ 31 + r) ≡ rounded binary32 x
   by-size r l h = answer (b / 2 ^ 63 * 2 ^ 31 + r) (narrow-finite b r fits (omega arith) h)
 
 returns : tie.Need-returns
@@ -69,7 +71,8 @@ cast-result c = omega (arith, fits (c .before .before .before), c .narrow-normal
 
 float-from-bits-result : tie.Need-float-from-bits-result
 float-from-bits-result c =
-    up-to-inf binary32 (b (c .before .before .before) / 2 ^ 63 * 2 ^ 31 + c .narrow-normal .result) (omega (arith, c .narrow-normal .ensures .1))
+    up-to-inf binary32 (b (c .before .before .before) / 2 ^ 63 * 2 ^ 31 + c .narrow-normal .result)
+    (omega (arith, c .narrow-normal .ensures .1))
 
 cast-result-2 : tie.Need-cast-result-2
 cast-result-2 c = omega (arith, fits (c .before .before .before))
@@ -80,7 +83,7 @@ float-from-bits-result-2 c = up-to-inf binary32 (b (c .before .before .before) /
 returns-2 : tie.Need-returns-2
 returns-2 c =
     let start = c .before .before .before in
-    by-size start (c .narrow-normal .result) (inside (b start % 2 ^ 63) (c .before .if2 .taken) .1) (c .narrow-normal .ensures .0)
+    by-size start _ (inside (b start % 2 ^ 63) (c .before .if2 .taken) .1) (c .narrow-normal .ensures .0)
 
 returns-3 : tie.Need-returns-3
 returns-3 c =
@@ -90,7 +93,7 @@ returns-3 c =
     ∙ by-size start 0 (omega (arith, c .if3 .taken)) (narrow-tiny (m / 2 ^ 52) (m % 2 ^ 52) (omega (arith, c .if3 .taken)) (omega arith))
 
 returns-4 : tie.Need-returns-4
-returns-4 c = c .f32-of .ensures ∙ answer (c .before .before .before .before .before) (c .before .narrow-bits .result) (c .before .narrow-bits .ensures)
+returns-4 c = c .f32-of .ensures ∙ answer (c .before .before .before .before .before) _ (c .before .narrow-bits .ensures)
 
 pub narrow-spec : {M : Type 1} → statement M
 narrow-spec =

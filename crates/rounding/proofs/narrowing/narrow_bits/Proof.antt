@@ -3,7 +3,7 @@ use borrow.Author.Needs.{needs}
 use Prim.Native.Nat.{_/_, _%_, _^_, _<_}
 use native.Mathlib.Omega.{arith}
 use lib.Ieee.{binary32, binary64}
-use Rattle.ieee.specs.Fields.{sized}
+use Rattle.ieee.specs.inner.Fields.{sized}
 use Rattle.ieee.proofs.Patterns.Narrowed.{narrow-finite, narrow-inf, narrow-nan}
 use Rattle.ieee.proofs.Patterns.Signs.{bits-lt}
 use Rattle.rounding.proofs.narrowing.narrow_bits.Statement.{statement}
@@ -23,7 +23,7 @@ cast-result c = omega (arith, size-below c)
 returns : tie.Need-returns
 returns c =
     let start = c .before .before in
-    narrow-finite (start .args .b) (c .narrow-size .result) (start .fits .b .fits) (c .before .if1 .taken) (c .narrow-size .ensures)
+    narrow-finite (start .args .b) _ (start .fits .b .fits) (c .before .if1 .taken) (c .narrow-size .ensures)
 
 returns-2 : tie.Need-returns-2
 returns-2 c = let start = c .before .before in narrow-inf (start .args .b) (start .fits .b .fits) (c .if2 .taken)

@@ -15,7 +15,8 @@ returns-2 : tie.Need-returns-2
 returns-2 c =
     let m = c .before .before .before .args .m in
     c .nearest-shift .ensures
-    ∙ narrow-small (m / 2 ^ 52) (m % 2 ^ 52) (omega (arith, c .before .before .if1 .left)) (omega (arith, c .before .if2 .taken)) (omega arith)
+    ∙ narrow-small (m / 2 ^ 52) (m % 2 ^ 52) (omega (arith, c .before .before .if1 .left)) (omega (arith, c .before .if2 .taken))
+    (omega arith)
 
 returns-4 : tie.Need-returns-4
 returns-4 c =

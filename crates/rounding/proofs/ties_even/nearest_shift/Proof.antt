@@ -22,7 +22,8 @@ divided : (a b d r : ℕ) → b / d ≡ r → a ≡ b → a / d ≡ r
 divided a b d r h e = rw e h
 
 returns : tie.Need-returns
-returns c = let k = c .args .k in divided _ _ _ _ (nearest-shift (c .args .n) k (omega arith)) (omega (arith, one-shl (k - 1) (omega arith)))
+returns c =
+    let k = c .args .k in divided _ _ _ _ (nearest-shift (c .args .n) k (omega arith)) (omega (arith, one-shl (k - 1) (omega arith)))
 
 pub nearest-shift-spec : {M : Type 1} → statement M
 nearest-shift-spec =

@@ -4,7 +4,6 @@ use Prim.Native.Nat.{_-_}
 use native.Mathlib.Omega.{arith}
 use lib.Pow.{pow-mono, pow-pos}
 use Rattle.ieee.proofs.Numbers.Basic.{one-shl}
-use Rattle.ieee.proofs.Patterns.Whole.{half-shift}
 use Rattle.rounding.proofs.whole.shifted.Statement.{statement}
 use Rattle.rounding.proofs.whole.shifted.Tie as tie
 

@@ -4,7 +4,7 @@ use mathlib.Core.Path.{_≡_}
 use native.Mathlib.Omega.{arith}
 use lib.Ieee.{binary32, binary64, ofBits}
 use denote.Floats.{passes}
-use Rattle.rounding.specs.Ways.{wayOf}
+use Rattle.rounding.specs.inner.Ways.{wayOf}
 use Rattle.ieee.proofs.Patterns.Back.{read-wide}
 use Rattle.ieee.proofs.Patterns.Integral.{below-zero, from-zero-up, in-format, whole-already}
 use Rattle.rounding.proofs.whole.whole32.Statement.{statement}
@@ -12,35 +12,32 @@ use Rattle.rounding.proofs.whole.whole32.Tie as tie
 
 -- x has the pattern b as an `f64`
 is : (c : tie.After-bits64) → ofBits binary64 (c .bits64 .result) ≡ c .before .before .args .x
-is c = rw (c .bits64 .ensures, c .before .f32-to-f64-with-nan .ensures) (read-wide (c .before .before .args .x) (c .before .before .good .0 .1))
+is c = rw (c .bits64 .ensures, c .before .f32-to-f64-with-nan .ensures) (read-wide _ (c .before .before .good .0 .1))
 
 int-to-float-n : tie.Need-int-to-float-n
 int-to-float-n c =
     let asked = c .before .before in
-    in-format binary64 binary32 (wayOf (asked .way-at .result)) (asked .before .before .bits64 .result) (c .before .whole-size .result) (omega (arith, asked .before .if1 .left))
-    (c .before .whole-size .ensures)
+    in-format binary64 binary32 (wayOf (asked .way-at .result)) (asked .before .before .bits64 .result) _
+    (omega (arith, asked .before .if1 .left)) (c .before .whole-size .ensures)
 
 returns : tie.Need-returns
 returns c =
     let start = c .before .before .before in
-    whole-already binary32 (wayOf (start .args .above)) (wayOf (start .args .below)) (start .args .x) (c .before .bits64 .result) (is (c .before))
-    (passes _ (start .good .0 .1)) (omega (arith, c .if1 .taken))
+    whole-already binary32 _ _ _ _ (is (c .before)) (passes _ (start .good .0 .1)) (omega (arith, c .if1 .taken))
 
 returns-2 : tie.Need-returns-2
 returns-2 c =
     let asked = c .before .before .before in
     let called = asked .before .before in
-    let start = called .before .before in
-    from-zero-up binary32 (wayOf (start .args .above)) (wayOf (start .args .below)) (start .args .x) (called .bits64 .result) (is called)
-    (c .before .before .whole-size .result) (c .if2 .taken) (omega arith) (rw (← asked .way-at .ensures) (c .before .before .whole-size .ensures))
+    from-zero-up binary32 _ _ _ _ (is called) _ (c .if2 .taken) (omega arith)
+    (rw (← asked .way-at .ensures) (c .before .before .whole-size .ensures))
 
 returns-3 : tie.Need-returns-3
 returns-3 c =
     let asked = c .before .before .before in
     let called = asked .before .before in
-    let start = called .before .before in
-    below-zero binary32 (wayOf (start .args .above)) (wayOf (start .args .below)) (start .args .x) (called .bits64 .result) (is called)
-    (c .before .before .whole-size .result) (c .if2 .left) (omega arith) (rw (← asked .way-at .ensures) (c .before .before .whole-size .ensures))
+    below-zero binary32 _ _ _ _ (is called) _ (c .if2 .left) (omega arith)
+    (rw (← asked .way-at .ensures) (c .before .before .whole-size .ensures))
 
 pub whole32-spec : {M : Type 1} → statement M
 whole32-spec =

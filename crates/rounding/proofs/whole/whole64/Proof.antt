@@ -4,7 +4,7 @@ use mathlib.Core.Path.{_≡_}
 use native.Mathlib.Omega.{arith}
 use lib.Ieee.{binary64, ofBits}
 use denote.Floats.{passes}
-use Rattle.rounding.specs.Ways.{wayOf}
+use Rattle.rounding.specs.inner.Ways.{wayOf}
 use Rattle.ieee.proofs.Patterns.Back.{read-back}
 use Rattle.ieee.proofs.Patterns.Integral.{below-zero, from-zero-up, in-format, whole-already}
 use Rattle.rounding.proofs.whole.whole64.Statement.{statement}
@@ -17,30 +17,26 @@ is c = rw (c .bits64 .ensures) (read-back binary64 (c .before .args .x) (c .befo
 int-to-float-n : tie.Need-int-to-float-n
 int-to-float-n c =
     let asked = c .before .before in
-    in-format binary64 binary64 (wayOf (asked .way-at .result)) (asked .before .before .bits64 .result) (c .before .whole-size .result) (asked .before .if1 .left)
-    (c .before .whole-size .ensures)
+    in-format binary64 binary64 (wayOf (asked .way-at .result)) _ _ (asked .before .if1 .left) (c .before .whole-size .ensures)
 
 returns : tie.Need-returns
 returns c =
     let start = c .before .before in
-    whole-already binary64 (wayOf (start .args .above)) (wayOf (start .args .below)) (start .args .x) (c .before .bits64 .result) (is (c .before))
-    (passes _ (start .good .0 .1)) (c .if1 .taken)
+    whole-already binary64 _ _ _ _ (is (c .before)) (passes _ (start .good .0 .1)) (c .if1 .taken)
 
 returns-2 : tie.Need-returns-2
 returns-2 c =
     let asked = c .before .before .before in
     let called = asked .before .before in
-    let start = called .before in
-    from-zero-up binary64 (wayOf (start .args .above)) (wayOf (start .args .below)) (start .args .x) (called .bits64 .result) (is called)
-    (c .before .before .whole-size .result) (c .if2 .taken) (omega arith) (rw (← asked .way-at .ensures) (c .before .before .whole-size .ensures))
+    from-zero-up binary64 _ _ _ _ (is called) _ (c .if2 .taken) (omega arith)
+    (rw (← asked .way-at .ensures) (c .before .before .whole-size .ensures))
 
 returns-3 : tie.Need-returns-3
 returns-3 c =
     let asked = c .before .before .before in
     let called = asked .before .before in
-    let start = called .before in
-    below-zero binary64 (wayOf (start .args .above)) (wayOf (start .args .below)) (start .args .x) (called .bits64 .result) (is called)
-    (c .before .before .whole-size .result) (c .if2 .left) (omega arith) (rw (← asked .way-at .ensures) (c .before .before .whole-size .ensures))
+    below-zero binary64 _ _ _ _ (is called) _ (c .if2 .left) (omega arith)
+    (rw (← asked .way-at .ensures) (c .before .before .whole-size .ensures))
 
 pub whole64-spec : {M : Type 1} → statement M
 whole64-spec =

@@ -1,6 +1,6 @@
 -- `rounding::whole::whole_size` meets its contract. Assumes nothing.
 use borrow.Author.Needs.{needs}
-use Rattle.rounding.specs.Ways.{wayOf}
+use Rattle.rounding.specs.inner.Ways.{wayOf}
 use Rattle.ieee.proofs.Patterns.Whole.{cut-size, tiny-size}
 use Rattle.rounding.proofs.whole.whole_size.Statement.{statement}
 use Rattle.rounding.proofs.whole.whole_size.Tie as tie
@@ -8,7 +8,8 @@ use Rattle.rounding.proofs.whole.whole_size.Tie as tie
 returns : tie.Need-returns
 returns c =
     let start = c .before .before in
-    rw (c .shifted .ensures) (tiny-size (wayOf (start .args .way)) (start .args .e) (start .args .t) (c .before .if1 .taken) (start .pre .1))
+    rw (c .shifted .ensures) (tiny-size (wayOf (start .args .way)) (start .args .e) (start .args .t) (c .before .if1 .taken)
+    (start .pre .1))
 
 returns-2 : tie.Need-returns-2
 returns-2 c =

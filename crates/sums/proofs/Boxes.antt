@@ -8,7 +8,7 @@ use lib.ListN.{getD}
 use lib.Ieee.{Float, nan, inf, fin, isNan, lt}
 use Rattle.ieee.specs.Order.{least, greatest}
 use Rattle.vertices.specs.Vertices.{coordinate}
-use Rattle.sums.specs.declared.Bounds.{Bounds}
+use Rattle.sums.specs.declared.bounds.Bounds.{Bounds}
 use Rattle.sums.specs.Box.{boxTo, lowest, highest}
 
 -- where vertex v has its x
@@ -55,3 +55,24 @@ highest-number vs axis zero = refl
 highest-number vs axis (suc n) =
     let h = highest-number vs axis n in
     rw h (one-of (lt (highest vs axis n) (coordinate vs axis n)) (highest vs axis n) (coordinate vs axis n) (more-number (highest vs axis n) (coordinate vs axis n)) h)
+
+pub record Numbers (b : Bounds) : Type 0 where
+  pub xmin : isNan (b .xmin) ≡ false
+  pub ymin : isNan (b .ymin) ≡ false
+  pub zmin : isNan (b .zmin) ≡ false
+  pub xmax : isNan (b .xmax) ≡ false
+  pub ymax : isNan (b .ymax) ≡ false
+  pub zmax : isNan (b .zmax) ≡ false
+
+pub bounds-numbers : (vs : List Float) (v : ℕ) (b : Bounds) → b ≡ boxTo vs v → Numbers b
+unfolding boxTo
+bounds-numbers vs v b e =
+    rw e
+    (record {
+      xmin = lowest-number vs 0 v;
+      ymin = lowest-number vs 1 v;
+      zmin = lowest-number vs 2 v;
+      xmax = highest-number vs 0 v;
+      ymax = highest-number vs 1 v;
+      zmax = highest-number vs 2 v;
+    })

@@ -17,9 +17,9 @@ use Rattle.ieee.specs.Single.{_⊖_, _⊗_, nought, extent}
 use Rattle.ieee.proofs.Order.Comparison.{le-trans}
 use Rattle.ieee.proofs.Order.Extremes.{least-from, least-left, least-right, greatest-from}
 use Rattle.vertices.specs.Vertices.{vertexCount, coordinate}
-use Rattle.sums.specs.declared.Bounds.{Bounds}
+use Rattle.sums.specs.declared.bounds.Bounds.{Bounds}
 use Rattle.sums.specs.Box.{lowest, highest, boxTo, box, boxVolume}
-use Rattle.sums.specs.Fine.{fine, allFine, FineBox}
+use Rattle.sums.specs.Fine.{fine, allFine}
 use Rattle.sums.proofs.Within.{Within, within-le, within-magnitude, within-mul, within-number, within-sub}
 
 -- ---- one coordinate
@@ -106,6 +106,15 @@ module _ (vs : List Float) (h : T (allFine vs)) (axis : ℕ) (a : axis < 3) wher
         | yes g ↦ le-trans (least x y) x (coordinate vs axis v) (least-left x y x-number y-number) (lowest-le n v (omega arith) g)
         | no g ↦ let e : v ≡ n = omega arith in rw e (least-right x y x-number y-number)
       ]
+
+-- the six numbers of a box are fine
+pub record FineBox (b : Bounds) : Type 0 where
+  pub xmin : T (fine (b .xmin))
+  pub ymin : T (fine (b .ymin))
+  pub zmin : T (fine (b .zmin))
+  pub xmax : T (fine (b .xmax))
+  pub ymax : T (fine (b .ymax))
+  pub zmax : T (fine (b .zmax))
 
 box-to-fine : (vs : List Float) (n : ℕ) → T (allFine vs) → n < vertexCount vs → FineBox (boxTo vs (suc n))
 unfolding boxTo

@@ -12,38 +12,41 @@ use Rattle.ieee.proofs.Patterns.Back.{read-back}
 use Rattle.ids.specs.Triangles.{Triangle}
 use Rattle.vertices.specs.Vertices.{vertexCount, cornersInRange}
 use Rattle.vertices.proofs.Range.{corners-below}
-use Rattle.sums.specs.declared.Crossed.{Crossed}
-use Rattle.sums.specs.declared.Part.{Part}
-use Rattle.sums.specs.Facet.{at, dot, normal, size, tetra, facetOf, partOf, rebased, part}
-use Rattle.sums.specs.Prepared.{facetBy, partBy, withRoot, partIn, Prepares}
+use Rattle.sums.specs.declared.triangle.Prepared.{Prepared}
+use Rattle.sums.specs.Facet.{at, dot, normal, size, tetra, facetOf, outOfRange, partOf, rebased, part}
+use Rattle.sums.specs.inner.Prepared.{facetBy, partBy, HasRoot, withRoot, partIn, noTriangle}
 
 -- ---- on its way
--- one that adds nothing: the root of 0 is 0
-pub prepares-nothing : (x y z v : Float) → Prepares Part.OutOfRange (record { «in_range» = false; square = 0; length = ofBits binary64 0; nx = x; ny = y; nz = z; volume = v })
-unfolding partBy
-prepares-nothing x y z v = record { part = refl; rooted = rw (zero-bits binary64) (sym (examples .root-0)) }
 
--- a root is that of the float that its radicand's pattern has
-pub root-by-pattern : (d : Float) (b : ℕ) → fits binary64 d ≡ true → b ≡ toBits binary64 d → root binary64 d ≡ root binary64 (ofBits binary64 b)
-root-by-pattern d b F e = ap (root binary64) (sym (ap (ofBits binary64) e ∙ read-back binary64 d F))
-
-pub prepares-crossed : (r : Crossed) (b : ℕ) (l : Float) → b ≡ toBits binary64 (r .square) → l ≡ root binary64 (r .square) → l ≡ root binary64 (ofBits binary64 b)
-    → Prepares (partIn r) (record { «in_range» = r .«in_range»; square = b; length = l; nx = r .nx; ny = r .ny; nz = r .nz; volume = r .volume })
-unfolding partIn withRoot partBy facetBy
-prepares-crossed r b l b-is l-is l-by = record { part = rw l-is; rooted = l-by }
-
-pub crossed-none : (d x y z v : Float) → partIn (record { «in_range» = false; square = d; nx = x; ny = y; nz = z; volume = v }) ≡ Part.OutOfRange
-unfolding partIn withRoot partBy
-crossed-none d x y z v = refl
+-- floats with one pattern have one root
+pub root-by-pattern : (x y : Float) → fits binary64 x ≡ true → fits binary64 y ≡ true → toBits binary64 x ≡ toBits binary64 y
+    → root binary64 x ≡ root binary64 y
+root-by-pattern x y F G e = ap (root binary64) (sym (read-back binary64 x F) ∙ ap (ofBits binary64) e ∙ read-back binary64 y G)
 
 -- by the cross product n and its square d
-pub crossed-corners : (t : List (List Float)) (n : List Float) (d v : Float) → n ≡ normal t → d ≡ dot n n → v ≡ tetra t
-    → partIn (record { «in_range» = true; square = d; nx = at n 0; ny = at n 1; nz = at n 2; volume = v }) ≡ partOf t
-unfolding partIn withRoot partBy facetBy partOf facetOf size
-crossed-corners t n d v n-is d-is v-is = rw (d-is, n-is, v-is)
+pub crossed-corners : (t : List (List Float)) (n : List Float) (d l v : Float) → n ≡ normal t → d ≡ dot n n → v ≡ tetra t
+    → partIn (record { «in_range» = true; square = d; length = l; nx = at n 0; ny = at n 1; nz = at n 2; volume = v }) ≡ partOf t
+unfolding withRoot partBy facetBy partOf facetOf size
+crossed-corners t n d l v n-is d-is v-is = rw (d-is, n-is, v-is)
+
+pub no-part : partBy noTriangle ≡ outOfRange
+unfolding partBy
+no-part = refl
+
+pub no-part-yet : partIn noTriangle ≡ outOfRange
+unfolding withRoot partBy
+no-part-yet = refl
+
+-- the root of 0 is 0
+pub no-length : HasRoot noTriangle
+no-length = rw (zero-bits binary64) (sym (examples .root-0))
+
+pub has-root : (r : Prepared) → HasRoot (withRoot r)
+unfolding withRoot
+has-root r = refl
 
 -- ---- by the corners
-pub part-out : (vs o : List Float) (t : Triangle) → cornersInRange vs t ≡ false → Part.OutOfRange ≡ part vs o t
+pub part-out : (vs o : List Float) (t : Triangle) → cornersInRange vs t ≡ false → outOfRange ≡ part vs o t
 unfolding part
 part-out vs o t e = rw e
 

@@ -3,8 +3,8 @@ use mathlib.Core.Path.{_≡_}
 use mathlib.Core.Bool.{true, false}
 use lib.Ieee.{Float, lt, neg}
 use Rattle.ieee.specs.Magnitude.{magnitude}
-use Rattle.sums.specs.declared.Slope.{Slope}
-use Rattle.sums.specs.declared.Thresholds.{Thresholds}
+use Rattle.sums.specs.declared.totals.Slope.{Slope}
+use Rattle.sums.specs.declared.totals.Thresholds.{Thresholds}
 use Rattle.sums.specs.Totals.{slopeOf}
 
 module _ (p : Thresholds) (z : Float) where

@@ -1,7 +1,7 @@
 -- What a used triangle adds is found of three corners from 0 to 2^34, where the mesh passes refusal 4: coordinates and box are within 2^33, and the
 -- origin is the least of them. Their sides are within 2^35, their cross product within 2^71. Assumes nothing.
 use mathlib.Core.Path.{_≡_, refl}
-use mathlib.Core.Bool.{Bool, true, false}
+use mathlib.Core.Bool.{Bool, true, false, cond}
 use mathlib.Core.List.{List}
 use Prim.Native.Nat.{ℕ, suc, _+_, _^_, _≤_, _<_}
 use native.Mathlib.Omega.{arith}
@@ -11,10 +11,9 @@ use lib.Ieee.{Float, binary64, emax, lt}
 use Rattle.ieee.specs.Double.{_⊞_, _⊟_, _⊠_}
 use Rattle.ids.specs.Triangles.{Triangle}
 use Rattle.vertices.specs.Vertices.{vertexCount, coordinate, cornersInRange}
-use Rattle.sums.specs.declared.Facet.{Facet}
-use Rattle.sums.specs.declared.Part.{Part}
+use Rattle.sums.specs.declared.triangle.Facet.{Facet}
 use Rattle.sums.specs.Box.{lowest, boxTo, box, origin}
-use Rattle.sums.specs.Facet.{at, minus, cross, dot, corner, corners, normal, size, shortest, facetOf, unlessSliver, partOf, rebased, ifInRange, part}
+use Rattle.sums.specs.Facet.{at, minus, cross, dot, corner, corners, normal, size, shortest, facetOf, Part, outOfRange, sliver, used, partOf, rebased, part}
 use Rattle.sums.specs.Fine.{allFine, fine}
 use Rattle.sums.proofs.FineBoxes.{box-fine, coordinate-fine, fine-within, lowest-le}
 use Rattle.sums.proofs.Parts.{corners-are}
@@ -101,21 +100,21 @@ rebased-octant vs v h l =
 
 -- what all facets of such corners have, a used one has
 module _ (P : Facet → Type 0) (has : (t : List (List Float)) → Small t → P (facetOf t (normal t) (size (normal t)))) where
-  used-has : (t : List (List Float)) (f : Facet) → Small t → partOf t ≡ Part.Used f → P f
+  used-has : (t : List (List Float)) (f : Facet) → Small t → partOf t ≡ used f → P f
   unfolding partOf
   used-has t f p e = go (lt (size (normal t)) shortest) e
     where
-      go : (b : Bool) → unlessSliver b (facetOf t (normal t) (size (normal t))) ≡ Part.Used f → P f
+      go : (b : Bool) → cond b sliver (used (facetOf t (normal t) (size (normal t)))) ≡ used f → P f
       go true e = let no : _≡_ {A = ℕ} 0 1 = cc in absurd (omega arith)
       go false e =
           let same : facetOf t (normal t) (size (normal t)) ≡ f = cc in
           rw (← same) (has t p)
 
-  pub part-has : (vs : List Float) (t : Triangle) (f : Facet) → T (allFine vs) → part vs (origin (box vs)) t ≡ Part.Used f → P f
+  pub part-has : (vs : List Float) (t : Triangle) (f : Facet) → T (allFine vs) → part vs (origin (box vs)) t ≡ used f → P f
   unfolding part
   part-has vs t f h e = go (cornersInRange vs t) refl e
     where
-      go : (b : Bool) → cornersInRange vs t ≡ b → ifInRange b (partOf (corners vs (origin (box vs)) t)) ≡ Part.Used f → P f
+      go : (b : Bool) → cornersInRange vs t ≡ b → cond b (partOf (corners vs (origin (box vs)) t)) outOfRange ≡ used f → P f
       go false r e = let no : _≡_ {A = ℕ} 0 1 = cc in absurd (omega arith)
       go true r e =
           let in-range = corners-are vs t r in

@@ -6,7 +6,7 @@ use lib.Ieee.{Float, binary32, ofBits}
 use Rattle.ieee.specs.Single.{extent}
 use Rattle.raster.specs.declared.Axis.{Axis}
 use Rattle.raster.specs.Footprint.{axisNumber}
-use Rattle.sums.specs.declared.Bounds.{Bounds}
+use Rattle.sums.specs.declared.bounds.Bounds.{Bounds}
 use Rattle.volume.specs.Best.{prismOn, orLess, orNone, prism}
 
 pub prism-is : (vs : List Float) (ids : List ℕ) (b : Bounds) (cube ez pz ey py ex px m n o r : Float)

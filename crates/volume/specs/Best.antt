@@ -7,7 +7,7 @@ use Rattle.ieee.specs.Cube.{cubeAbove}
 use Rattle.ieee.specs.Order.{least}
 use Rattle.ieee.specs.Single.{_⊗_, nought, extent}
 use Rattle.raster.specs.Footprint.{footprint}
-use Rattle.sums.specs.declared.Bounds.{Bounds}
+use Rattle.sums.specs.declared.bounds.Bounds.{Bounds}
 use Rattle.verdict.specs.declared.Quality.{Quality}
 use Rattle.volume.specs.declared.Best.{Best}
 use Rattle.volume.specs.declared.Method.{Method}

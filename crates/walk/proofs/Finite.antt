@@ -12,13 +12,12 @@ use lib.Ieee.Scale.{finite}
 use Rattle.ieee.specs.Single.{_⊕_, nought}
 use Rattle.ieee.proofs.Order.Differences.{zero-bits}
 use Rattle.ids.specs.Triangles.{triangle}
-use Rattle.sums.specs.declared.Facet.{Facet}
-use Rattle.sums.specs.declared.Part.{Part}
-use Rattle.sums.specs.declared.Slope.{Slope}
-use Rattle.sums.specs.declared.Thresholds.{Thresholds}
-use Rattle.sums.specs.declared.Totals.{Totals}
+use Rattle.sums.specs.declared.triangle.Facet.{Facet}
+use Rattle.sums.specs.declared.totals.Slope.{Slope}
+use Rattle.sums.specs.declared.totals.Thresholds.{Thresholds}
+use Rattle.sums.specs.declared.totals.Totals.{Totals}
 use Rattle.sums.specs.Box.{box, origin}
-use Rattle.sums.specs.Facet.{part}
+use Rattle.sums.specs.Facet.{Part, outOfRange, sliver, used, part}
 use Rattle.sums.specs.Fine.{allFine}
 use Rattle.sums.specs.Totals.{noTotals, onSlope, slopeOf, withFacet, withPart, totalsTo}
 use Rattle.sums.proofs.Areas.{Adds, part-within}
@@ -89,10 +88,42 @@ module _ (n : ℕ) (N : suc n ≤ 32768) where
       more x v = within-next binary32 72 n (lit≤ tt) N x a v A
 
       go : (s : Slope) → TotalsWithin (suc n) (suc n) (onSlope s a t)
-      go Slope.Top = record { surface = w .surface; volume6 = w .volume6; top = more (t .top) (w .top); bottom = still (t .bottom) (w .bottom); side = still (t .side) (w .side); inclined = still (t .inclined) (w .inclined) }
-      go Slope.Bottom = record { surface = w .surface; volume6 = w .volume6; top = still (t .top) (w .top); bottom = more (t .bottom) (w .bottom); side = still (t .side) (w .side); inclined = still (t .inclined) (w .inclined) }
-      go Slope.Side = record { surface = w .surface; volume6 = w .volume6; top = still (t .top) (w .top); bottom = still (t .bottom) (w .bottom); side = more (t .side) (w .side); inclined = still (t .inclined) (w .inclined) }
-      go Slope.Inclined = record { surface = w .surface; volume6 = w .volume6; top = still (t .top) (w .top); bottom = still (t .bottom) (w .bottom); side = still (t .side) (w .side); inclined = more (t .inclined) (w .inclined) }
+      go Slope.Top =
+          record {
+            surface = w .surface;
+            volume6 = w .volume6;
+            top = more (t .top) (w .top);
+            bottom = still (t .bottom) (w .bottom);
+            side = still (t .side) (w .side);
+            inclined = still (t .inclined) (w .inclined);
+          }
+      go Slope.Bottom =
+          record {
+            surface = w .surface;
+            volume6 = w .volume6;
+            top = still (t .top) (w .top);
+            bottom = more (t .bottom) (w .bottom);
+            side = still (t .side) (w .side);
+            inclined = still (t .inclined) (w .inclined);
+          }
+      go Slope.Side =
+          record {
+            surface = w .surface;
+            volume6 = w .volume6;
+            top = still (t .top) (w .top);
+            bottom = still (t .bottom) (w .bottom);
+            side = more (t .side) (w .side);
+            inclined = still (t .inclined) (w .inclined);
+          }
+      go Slope.Inclined =
+          record {
+            surface = w .surface;
+            volume6 = w .volume6;
+            top = still (t .top) (w .top);
+            bottom = still (t .bottom) (w .bottom);
+            side = still (t .side) (w .side);
+            inclined = more (t .inclined) (w .inclined);
+          }
 
   facet-next : (p : Thresholds) (t : Totals) (f : Facet) → Adds f → TotalsWithin n n t → TotalsWithin (suc n) (suc n) (withFacet p t f)
   unfolding withFacet
@@ -107,11 +138,11 @@ module _ (n : ℕ) (N : suc n ≤ 32768) where
         inclined = w .inclined;
       })
 
-  part-next : (p : Thresholds) (t : Totals) (q : Part) → ((f : Facet) → q ≡ Part.Used f → Adds f) → TotalsWithin n n t → TotalsWithin (suc n) (suc n) (withPart p t q)
+  part-next : (p : Thresholds) (t : Totals) (q : Part) → ((f : Facet) → q ≡ used f → Adds f) → TotalsWithin n n t → TotalsWithin (suc n) (suc n) (withPart p t q)
   unfolding withPart
-  part-next p t Part.OutOfRange a w = totals-still n t w
-  part-next p t Part.Sliver a w = totals-still n t w
-  part-next p t (Part.Used f) a w = facet-next p t f (a f refl) w
+  part-next p t outOfRange a w = totals-still n t w
+  part-next p t sliver a w = totals-still n t w
+  part-next p t (used f) a w = facet-next p t f (a f refl) w
 
 pub totals-within : (vs : List Float) (p : Thresholds) (ids : List ℕ) (n : ℕ) → T (allFine vs) → n ≤ 32768 → TotalsWithin n n (totalsTo vs (origin (box vs)) p ids n)
 unfolding totalsTo
@@ -136,11 +167,11 @@ totals-finite vs p ids n fine N =
 abbrev pub Times : ℕ → Float → Type 0
 Times n x = Within (n * 2 ^ 72) x
 
-surface-next : (n : ℕ) → suc n ≤ 32768 → (bs : List Bucket) (q : Part) → ((f : Facet) → q ≡ Part.Used f → Adds f) → AllAreas (Times n) bs → AllAreas (Times (suc n)) (withSurface bs q)
+surface-next : (n : ℕ) → suc n ≤ 32768 → (bs : List Bucket) (q : Part) → ((f : Facet) → q ≡ used f → Adds f) → AllAreas (Times n) bs → AllAreas (Times (suc n)) (withSurface bs q)
 unfolding withSurface
-surface-next n N bs Part.OutOfRange a w = areas-still (Times n) (Times (suc n)) (within-still 72 n) bs w
-surface-next n N bs Part.Sliver a w = areas-still (Times n) (Times (suc n)) (within-still 72 n) bs w
-surface-next n N bs (Part.Used f) a w =
+surface-next n N bs outOfRange a w = areas-still (Times n) (Times (suc n)) (within-still 72 n) bs w
+surface-next n N bs sliver a w = areas-still (Times n) (Times (suc n)) (within-still 72 n) bs w
+surface-next n N bs (used f) a w =
     let more : (x : Float) → Times n x → Times (suc n) (x ⊕ f .area32) = λ x v. within-next binary32 72 n (lit≤ tt) N x (f .area32) v (a f refl .area32) in
     put-all (Times n) (Times (suc n)) (within-still 72 n) (keyOf (f .nx) (f .ny) (f .nz)) (f .area32) more
     (more nought (within-most (0 * 2 ^ 72) (n * 2 ^ 72) nought (omega arith) (within-none 72 binary32))) bs w

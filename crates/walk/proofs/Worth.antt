@@ -9,10 +9,9 @@ use lib.Ieee.{Float, nan, inf, fin, binary32}
 use lib.Ieee.Positive.{positive}
 use Rattle.ieee.specs.Single.{_⊗_, nought}
 use Rattle.ids.specs.Triangles.{triangle}
-use Rattle.sums.specs.declared.Facet.{Facet}
-use Rattle.sums.specs.declared.Part.{Part}
+use Rattle.sums.specs.declared.triangle.Facet.{Facet}
 use Rattle.sums.specs.Box.{box, origin}
-use Rattle.sums.specs.Facet.{part, plus}
+use Rattle.sums.specs.Facet.{Part, outOfRange, sliver, used, part, plus}
 use Rattle.sums.specs.Fine.{allFine}
 use Rattle.sums.proofs.Areas.{part-plus}
 use Rattle.sums.proofs.Plus.{plus-add, plus-mul, plus-zero}
@@ -27,9 +26,9 @@ use Rattle.walk.specs.Walk.{withSurface, bucketsTo, sumWith, sumFor, has
 
 area-with : (k : Key) (bs : List Bucket) (p : Part) → areaFor k (withSurface bs p) ≡ sumWith k (areaFor k bs) p
 unfolding withSurface sumWith
-area-with k bs Part.OutOfRange = refl
-area-with k bs Part.Sliver = refl
-area-with k bs (Part.Used f) = area-put k (keyOf (f .nx) (f .ny) (f .nz)) (f .area32) bs
+area-with k bs outOfRange = refl
+area-with k bs sliver = refl
+area-with k bs (used f) = area-put k (keyOf (f .nx) (f .ny) (f .nz)) (f .area32) bs
 
 pub buckets-sums : (vs o : List Float) (ids : List ℕ) (k : Key) (n : ℕ) → areaFor k (bucketsTo vs o ids n) ≡ sumFor vs o ids k n
 unfolding bucketsTo sumFor areaFor
@@ -39,9 +38,9 @@ buckets-sums vs o ids k (suc n) =
 
 has-with : (k : Key) (bs : List Bucket) (p : Part) → hasKey k (withSurface bs p) ≡ (hasPart k p || hasKey k bs)
 unfolding withSurface hasPart
-has-with k bs Part.OutOfRange = refl
-has-with k bs Part.Sliver = refl
-has-with k bs (Part.Used f) = has-put (keyOf (f .nx) (f .ny) (f .nz)) k (f .area32) bs
+has-with k bs outOfRange = refl
+has-with k bs sliver = refl
+has-with k bs (used f) = has-put (keyOf (f .nx) (f .ny) (f .nz)) k (f .area32) bs
 
 pub buckets-keys : (vs o : List Float) (ids : List ℕ) (k : Key) (n : ℕ) → hasKey k (bucketsTo vs o ids n) ≡ keyAmong vs o ids k n
 unfolding bucketsTo keyAmong hasKey
@@ -51,9 +50,9 @@ buckets-keys vs o ids k (suc n) =
 
 apart-with : (bs : List Bucket) (p : Part) → Apart bs → Apart (withSurface bs p)
 unfolding withSurface
-apart-with bs Part.OutOfRange h = h
-apart-with bs Part.Sliver h = h
-apart-with bs (Part.Used f) h = apart-put (keyOf (f .nx) (f .ny) (f .nz)) (f .area32) bs h
+apart-with bs outOfRange h = h
+apart-with bs sliver h = h
+apart-with bs (used f) h = apart-put (keyOf (f .nx) (f .ny) (f .nz)) (f .area32) bs h
 
 pub buckets-apart : (vs o : List Float) (ids : List ℕ) (n : ℕ) → Apart (bucketsTo vs o ids n)
 unfolding bucketsTo Apart
@@ -65,11 +64,11 @@ buckets-apart vs o ids (suc n) = apart-with (bucketsTo vs o ids n) (part vs o (t
 abbrev Plus : Float → Type 0
 Plus x = T (plus x)
 
-plus-with : (bs : List Bucket) (p : Part) → ((f : Facet) → p ≡ Part.Used f → Plus (f .area32)) → AllAreas Plus bs → AllAreas Plus (withSurface bs p)
+plus-with : (bs : List Bucket) (p : Part) → ((f : Facet) → p ≡ used f → Plus (f .area32)) → AllAreas Plus bs → AllAreas Plus (withSurface bs p)
 unfolding withSurface
-plus-with bs Part.OutOfRange g h = h
-plus-with bs Part.Sliver g h = h
-plus-with bs (Part.Used f) g h =
+plus-with bs outOfRange g h = h
+plus-with bs sliver g h = h
+plus-with bs (used f) g h =
     let a = g f refl in
     put-all Plus Plus (λ x p. p) (keyOf (f .nx) (f .ny) (f .nz)) (f .area32) (λ x p. plus-add binary32 x (f .area32) p a) (plus-add binary32 nought (f .area32) (plus-zero binary32) a) bs h
 

@@ -1,4 +1,5 @@
--- The box of one vertex more is the box with that vertex: each bound is the lesser or the greater of itself and the coordinate, and never a NaN. Assumes nothing.
+-- The box of one vertex more is the box with that vertex: each bound is the lesser or the greater of itself and the coordinate, and never a
+-- NaN. Assumes nothing.
 use mathlib.Core.Path.{_≡_, refl}
 use mathlib.Core.Bool.{Bool, true, false, cond, false≢true}
 use mathlib.Core.List.{List}
@@ -16,8 +17,10 @@ pub first-axis : (v : ℕ) → 3 * v + 0 ≡ 3 * v
 first-axis v = omega arith
 
 pub box-next : (vs : List Float) (v : ℕ) (b : Bounds) {x y z x′ y′ z′ : Float} → b ≡ boxTo vs v
-    → x ≡ least (b .xmin) (getD vs (3 * v) nan) → y ≡ least (b .ymin) (getD vs (3 * v + 1) nan) → z ≡ least (b .zmin) (getD vs (3 * v + 2) nan)
-    → x′ ≡ greatest (b .xmax) (getD vs (3 * v) nan) → y′ ≡ greatest (b .ymax) (getD vs (3 * v + 1) nan) → z′ ≡ greatest (b .zmax) (getD vs (3 * v + 2) nan)
+    → x ≡ least (b .xmin) (getD vs (3 * v) nan) → y ≡ least (b .ymin) (getD vs (3 * v + 1) nan)
+    → z ≡ least (b .zmin) (getD vs (3 * v + 2) nan)
+    → x′ ≡ greatest (b .xmax) (getD vs (3 * v) nan) → y′ ≡ greatest (b .ymax) (getD vs (3 * v + 1) nan)
+    → z′ ≡ greatest (b .zmax) (getD vs (3 * v + 2) nan)
     → record { xmin = x; ymin = y; zmin = z; xmax = x′; ymax = y′; zmax = z′ } ≡ boxTo vs (suc v)
 unfolding boxTo lowest highest
 box-next vs v b p x-is y-is z-is x′-is y′-is z′-is = rw (x-is, y-is, z-is, x′-is, y′-is, z′-is, p, first-axis v)
@@ -47,14 +50,16 @@ unfolding lowest least isNan
 lowest-number vs axis zero = refl
 lowest-number vs axis (suc n) =
     let h = lowest-number vs axis n in
-    rw h (one-of (lt (coordinate vs axis n) (lowest vs axis n)) (lowest vs axis n) (coordinate vs axis n) (less-number (lowest vs axis n) (coordinate vs axis n)) h)
+    rw h (one-of (lt (coordinate vs axis n) (lowest vs axis n)) (lowest vs axis n) (coordinate vs axis n)
+    (less-number (lowest vs axis n) (coordinate vs axis n)) h)
 
 pub highest-number : (vs : List Float) (axis n : ℕ) → isNan (highest vs axis n) ≡ false
 unfolding highest greatest isNan
 highest-number vs axis zero = refl
 highest-number vs axis (suc n) =
     let h = highest-number vs axis n in
-    rw h (one-of (lt (highest vs axis n) (coordinate vs axis n)) (highest vs axis n) (coordinate vs axis n) (more-number (highest vs axis n) (coordinate vs axis n)) h)
+    rw h (one-of (lt (highest vs axis n) (coordinate vs axis n)) (highest vs axis n) (coordinate vs axis n)
+    (more-number (highest vs axis n) (coordinate vs axis n)) h)
 
 pub record Numbers (b : Bounds) : Type 0 where
   pub xmin : isNan (b .xmin) ≡ false

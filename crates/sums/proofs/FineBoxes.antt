@@ -1,4 +1,5 @@
--- A mesh that passes refusal 4 has a box of such numbers, once it has a vertex: each is one of its coordinates, and the least are below none. Its volume is up to 2^114. Assumes nothing.
+-- A mesh that passes refusal 4 has a box of such numbers, once it has a vertex: each is one of its coordinates, and the least are below
+-- none. Its volume is up to 2^114. Assumes nothing.
 use mathlib.Core.Path.{_≡_, refl}
 use mathlib.Core.Bool.{true, false, not}
 use mathlib.Core.List.{List, [], _∷_}
@@ -31,7 +32,8 @@ pub fine-within : (x : Float) → T (fine x) → Within (2 ^ 33) x
 unfolding magnitude le
 fine-within nan h = absurd h
 fine-within (inf s) h = within-magnitude (2 ^ 33) (inf s) (within-le (2 ^ 33) (inf false) (ofBits binary32 0x5000_0000) tt bound-value h)
-fine-within (fin s m e) h = within-magnitude (2 ^ 33) (fin s m e) (within-le (2 ^ 33) (fin false m e) (ofBits binary32 0x5000_0000) tt bound-value h)
+fine-within (fin s m e) h =
+    within-magnitude (2 ^ 33) (fin s m e) (within-le (2 ^ 33) (fin false m e) (ofBits binary32 0x5000_0000) tt bound-value h)
 
 pub fine-finite : (x : Float) → T (fine x) → T (finite x)
 fine-finite x h = fine-within x h .finite-is
@@ -75,23 +77,27 @@ module _ (vs : List Float) (h : T (allFine vs)) (axis : ℕ) (a : axis < 3) wher
   lowest-fine zero l =
       let c = coordinate-fine vs axis 0 h a l in rw (least-first (coordinate vs axis 0) (fine-finite (coordinate vs axis 0) c)) c
   lowest-fine (suc n) l =
-      least-from (λ z. T (fine z)) (lowest vs axis (suc n)) (coordinate vs axis (suc n)) (lowest-fine n (omega arith)) (coordinate-fine vs axis (suc n) h a l)
+      least-from (λ z. T (fine z)) (lowest vs axis (suc n)) (coordinate vs axis (suc n)) (lowest-fine n (omega arith))
+      (coordinate-fine vs axis (suc n) h a l)
 
   highest-fine : (n : ℕ) → n < vertexCount vs → T (fine (highest vs axis (suc n)))
   unfolding highest
   highest-fine zero l =
       let c = coordinate-fine vs axis 0 h a l in rw (greatest-first (coordinate vs axis 0) (fine-finite (coordinate vs axis 0) c)) c
   highest-fine (suc n) l =
-      greatest-from (λ z. T (fine z)) (highest vs axis (suc n)) (coordinate vs axis (suc n)) (highest-fine n (omega arith)) (coordinate-fine vs axis (suc n) h a l)
+      greatest-from (λ z. T (fine z)) (highest vs axis (suc n)) (coordinate vs axis (suc n)) (highest-fine n (omega arith))
+      (coordinate-fine vs axis (suc n) h a l)
 
   coordinate-number : (v : ℕ) → v < vertexCount vs → T (not (isNan (coordinate vs axis v)))
-  coordinate-number v l = within-number (2 ^ 33) (coordinate vs axis v) (fine-within (coordinate vs axis v) (coordinate-fine vs axis v h a l))
+  coordinate-number v l =
+      within-number (2 ^ 33) (coordinate vs axis v) (fine-within (coordinate vs axis v) (coordinate-fine vs axis v h a l))
 
   lowest-number : (n : ℕ) → n ≤ vertexCount vs → T (not (isNan (lowest vs axis n)))
   unfolding lowest isNan
   lowest-number zero l = tt
   lowest-number (suc n) l =
-      least-from (λ z. T (not (isNan z))) (lowest vs axis n) (coordinate vs axis n) (lowest-number n (omega arith)) (coordinate-number n (omega arith))
+      least-from (λ z. T (not (isNan z))) (lowest vs axis n) (coordinate vs axis n) (lowest-number n (omega arith))
+      (coordinate-number n (omega arith))
 
   -- no coordinate is below the least
   pub lowest-le : (n v : ℕ) → n ≤ vertexCount vs → v < n → T (le (lowest vs axis n) (coordinate vs axis v))
@@ -148,5 +154,6 @@ box-volume-within b cube p w =
     let z = extent (b .zmin) (b .zmax) in
     within-mul binary32 102 12 (x ⊗ y ⊗ z) cube (lit≤ tt)
     (within-mul binary32 68 34 (x ⊗ y) z (lit≤ tt)
-    (within-mul binary32 34 34 x y (lit≤ tt) (extent-within (b .xmin) (b .xmax) (p .xmin) (p .xmax)) (extent-within (b .ymin) (b .ymax) (p .ymin) (p .ymax)))
+    (within-mul binary32 34 34 x y (lit≤ tt) (extent-within (b .xmin) (b .xmax) (p .xmin) (p .xmax))
+    (extent-within (b .ymin) (b .ymax) (p .ymin) (p .ymax)))
     (extent-within (b .zmin) (b .zmax) (p .zmin) (p .zmax))) w

@@ -56,7 +56,8 @@ unfolding part
 part-in vs o t p q r e at-a at-b at-c = rw (e, at-a, at-b, at-c)
 
 -- the corners of a triangle in range are vertices
-pub corners-are : (vs : List Float) (t : Triangle) → cornersInRange vs t ≡ true → (t .a < vertexCount vs) × (t .b < vertexCount vs) × (t .c < vertexCount vs)
+pub corners-are : (vs : List Float) (t : Triangle) → cornersInRange vs t ≡ true
+    → (t .a < vertexCount vs) × (t .b < vertexCount vs) × (t .c < vertexCount vs)
 corners-are vs t e =
     let below = corners-below vs t e in
     let a = below .0 in

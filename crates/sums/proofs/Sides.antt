@@ -1,4 +1,5 @@
--- Floats up to a whole number on one side of zero: sums, products by what is not below zero, and differences keep to it, whatever they do on the other side. Assumes nothing.
+-- Floats up to a whole number on one side of zero: sums, products by what is not below zero, and differences keep to it, whatever they do
+-- on the other side. Assumes nothing.
 use mathlib.Core.Path.{_≡_, refl, sym, _∙_, ap, subst}
 use mathlib.Core.Bool.{Bool, true, false, not}
 use Prim.Native.Nat.{ℕ, _+_, _*_, _≤_, _<_, zero-le}
@@ -67,7 +68,8 @@ side-round f b v s t a c C h = record { most = λ e. within-value f b v t a c C 
 
 -- ---- sums
 -- in ranks, which stand n higher: z with the sign s is ±a and ±b together
-sizes : (s t u : Bool) (n z a b p q : ℕ) → z ≤ n → a + b ≤ n → rank n s z + n ≡ rank n t a + rank n u b → (t ≡ s → a ≤ p) → (u ≡ s → b ≤ q) → z ≤ p + q
+sizes : (s t u : Bool) (n z a b p q : ℕ) → z ≤ n → a + b ≤ n → rank n s z + n ≡ rank n t a + rank n u b → (t ≡ s → a ≤ p)
+    → (u ≡ s → b ≤ q) → z ≤ p + q
 sizes false false false n z a b p q Z N e h k = omega (arith, h refl, k refl)
 sizes false false true n z a b p q Z N e h k = omega (arith, h refl)
 sizes false true false n z a b p q Z N e h k = omega (arith, k refl)
@@ -78,7 +80,8 @@ sizes true true false n z a b p q Z N e h k = omega (arith, h refl)
 sizes true true true n z a b p q Z N e h k = omega (arith, h refl, k refl)
 
 module _ (f : Format) (s : Bool) (p q : ℕ) (v : Value f (p + q)) where
-  side-total : (t u : Bool) (a b c d : ℕ) → 0 < c → 0 < d → (t ≡ s → a ≤ p * c) → (u ≡ s → b ≤ q * d) → Side s (p + q) (sum f t (a * d) u (b * c) (c * d))
+  side-total : (t u : Bool) (a b c d : ℕ) → 0 < c → 0 < d → (t ≡ s → a ≤ p * c) → (u ≡ s → b ≤ q * d)
+      → Side s (p + q) (sum f t (a * d) u (b * c) (c * d))
   side-total t u a b c d C D h k =
       let r = total-of f t (a * d) u (b * c) in
       let n = a * d + b * c in
@@ -86,7 +89,8 @@ module _ (f : Format) (s : Bool) (p q : ℕ) (v : Value f (p + q)) where
       rw (r .is (c * d))
       (side-round f (p + q) v s (r .sign) (r .size) (c * d) (mul-pos C D)
       (λ e. regroup (r .size) (sizes s t u n (r .size) (a * d) (b * c) (p * c * d) (q * d * c) (at-n .0) (omega arith)
-      (subst (λ (w : Bool). rank n w (r .size) + n ≡ rank n t (a * d) + rank n u (b * c)) e (at-n .1)) (λ g. mul-le-mul-right d (h g)) (λ g. mul-le-mul-right c (k g)))))
+      (subst (λ (w : Bool). rank n w (r .size) + n ≡ rank n t (a * d) + rank n u (b * c)) e (at-n .1))
+      (λ g. mul-le-mul-right d (h g)) (λ g. mul-le-mul-right c (k g)))))
     where
       regroup : (z : ℕ) → z ≤ p * c * d + q * d * c → z ≤ (p + q) * (c * d)
       regroup z l = omega arith
@@ -97,7 +101,8 @@ module _ (f : Format) (s : Bool) (p q : ℕ) (v : Value f (p + q)) where
   side-add (inf t) y X Y v w = absurd X
   side-add (fin t m e) nan X Y v w = absurd Y
   side-add (fin t m e) (inf u) X Y v w = absurd Y
-  side-add (fin t m e) (fin u n d) X Y v w = side-total t u (m * up e) (n * up d) (down e) (down d) (down-pos e) (down-pos d) (v .most) (w .most)
+  side-add (fin t m e) (fin u n d) X Y v w =
+      side-total t u (m * up e) (n * up d) (down e) (down d) (down-pos e) (down-pos d) (v .most) (w .most)
 
 -- ---- a product by x, which is not below zero
 module _ (f : Format) (s : Bool) (p q : ℕ) (v : Value f (p * q)) where
@@ -117,7 +122,8 @@ module _ (f : Format) (s : Bool) (p q : ℕ) (v : Value f (p * q)) where
       none : (a b c z : ℕ) → a ≤ 0 * c → a * b ≤ z
       none a b c z h = let e : a ≡ 0 = omega arith in rw e (omega arith)
 
-      go : (t u : Bool) (a b c d : ℕ) → (t ≡ true → a ≤ 0 * c) → (t ≡ false → a ≤ p * c) → (u ≡ s → b ≤ q * d) → unlike t u ≡ s → a * b ≤ p * q * (c * d)
+      go : (t u : Bool) (a b c d : ℕ) → (t ≡ true → a ≤ 0 * c) → (t ≡ false → a ≤ p * c) → (u ≡ s → b ≤ q * d) → unlike t u ≡ s
+          → a * b ≤ p * q * (c * d)
       go true u a b c d l h w e = none a b c (p * q * (c * d)) (l refl)
       go false true a b c d l h w e = regroup a b c d (h refl) (w e)
       go false false a b c d l h w e = regroup a b c d (h refl) (w e)
@@ -144,14 +150,19 @@ module _ (f : Format) (t : Bool) (m : ℕ) (e : ℤ) (u : Bool) (n : ℕ) (d : �
   abbrev b : ℕ
   b = n * up d * down e
 
-  by-ranks : (s : Bool) → ((z : ℕ) → z ≤ a + b → rank (a + b) s z + (a + b) ≡ rank (a + b) t a + rank (a + b) (not u) b → z ≤ 0) → Side s 0 (sub f (fin t m e) (fin u n d))
+  by-ranks : (s : Bool) → ((z : ℕ) → z ≤ a + b → rank (a + b) s z + (a + b) ≡ rank (a + b) t a + rank (a + b) (not u) b → z ≤ 0)
+      → Side s 0 (sub f (fin t m e) (fin u n d))
   unfolding sub add neg
   by-ranks s none =
       let r = total-of f t a (not u) b in
       let at-n = r .placed (a + b) (omega arith) in
       rw (r .is (down e * down d))
       (side-round f 0 (zero-value f) s (r .sign) (r .size) (down e * down d) (mul-pos (down-pos e) (down-pos d))
-      (λ g. omega (arith, none (r .size) (at-n .0) (subst (λ (w : Bool). rank (a + b) w (r .size) + (a + b) ≡ rank (a + b) t a + rank (a + b) (not u) b) g (at-n .1)))))
+      (λ g. omega (
+        arith,
+        none (r .size) (at-n .0) (subst
+            (λ (w : Bool). rank (a + b) w (r .size) + (a + b) ≡ rank (a + b) t a + rank (a + b) (not u) b) g (at-n .1)),
+      )))
 
   lesser : T (le (fin t m e) (fin u n d)) → Side false 0 (sub f (fin t m e) (fin u n d))
   unfolding le

@@ -16,10 +16,12 @@ module _ (p : Thresholds) (z : Float) where
   unfolding slopeOf
   slope-bottom above below = rw (above, below)
 
-  pub slope-side : {m : Float} → lt (p .top) z ≡ false → lt z (neg (p .top)) ≡ false → m ≡ magnitude z → lt m (p .side) ≡ true → Slope.Side ≡ slopeOf p z
+  pub slope-side : {m : Float} → lt (p .top) z ≡ false → lt z (neg (p .top)) ≡ false → m ≡ magnitude z → lt m (p .side) ≡ true
+      → Slope.Side ≡ slopeOf p z
   unfolding slopeOf
   slope-side above below m-is small = rw (above, below, ← m-is, small)
 
-  pub slope-inclined : {m : Float} → lt (p .top) z ≡ false → lt z (neg (p .top)) ≡ false → m ≡ magnitude z → lt m (p .side) ≡ false → Slope.Inclined ≡ slopeOf p z
+  pub slope-inclined : {m : Float} → lt (p .top) z ≡ false → lt z (neg (p .top)) ≡ false → m ≡ magnitude z → lt m (p .side) ≡ false
+      → Slope.Inclined ≡ slopeOf p z
   unfolding slopeOf
   slope-inclined above below m-is small = rw (above, below, ← m-is, small)

@@ -50,13 +50,16 @@ module _ (u : Float) (low : T (le leastUnit u)) (high : T (le u mostUnit)) where
   square-below = mul-mono binary32 u mostUnit u mostUnit unit-positive most-positive unit-positive most-positive high high
 
   pub square-positive : T (positive (u ⊗ u))
-  square-positive = between (leastUnit ⊗ leastUnit) (u ⊗ u) (mostUnit ⊗ mostUnit) (squares-positive .0) (squares-positive .1) square-above square-below
+  square-positive =
+      between (leastUnit ⊗ leastUnit) (u ⊗ u) (mostUnit ⊗ mostUnit) (squares-positive .0) (squares-positive .1) square-above square-below
 
   pub cube-positive : T (positive (u ⊗ u ⊗ u))
   cube-positive =
       between (leastUnit ⊗ leastUnit ⊗ leastUnit) (u ⊗ u ⊗ u) (mostUnit ⊗ mostUnit ⊗ mostUnit) (cubes-positive .0) (cubes-positive .1)
-      (mul-mono binary32 (leastUnit ⊗ leastUnit) (u ⊗ u) leastUnit u (squares-positive .0) square-positive least-positive unit-positive square-above low)
-      (mul-mono binary32 (u ⊗ u) (mostUnit ⊗ mostUnit) u mostUnit square-positive (squares-positive .1) unit-positive most-positive square-below high)
+      (mul-mono binary32 (leastUnit ⊗ leastUnit) (u ⊗ u) leastUnit u
+      (squares-positive .0) square-positive least-positive unit-positive square-above low)
+      (mul-mono binary32 (u ⊗ u) (mostUnit ⊗ mostUnit) u mostUnit square-positive
+      (squares-positive .1) unit-positive most-positive square-below high)
 
   pub unit-within : Within (2 ^ 4) u
   unfolding ofBits

@@ -31,44 +31,17 @@ thresholds = record { top = ofBits binary32 0x3f70_a3d7; side = ofBits binary32 
 abbrev pub noTotals : Totals
 noTotals = record { surface = nought64; volume6 = nought64; top = nought; bottom = nought; side = nought; inclined = nought }
 
+-- with other areas by slope
+abbrev pub bySlope : Totals → Float → Float → Float → Float → Totals
+bySlope s top bottom side inclined =
+    record { surface = s .surface; volume6 = s .volume6; top = top; bottom = bottom; side = side; inclined = inclined }
+
 -- with an area on a slope
 unfoldable pub onSlope : Slope → Float → Totals → Totals
-onSlope Slope.Top a s =
-    record {
-      surface = s .surface;
-      volume6 = s .volume6;
-      top = s .top ⊕ a;
-      bottom = s .bottom;
-      side = s .side;
-      inclined = s .inclined;
-    }
-onSlope Slope.Bottom a s =
-    record {
-      surface = s .surface;
-      volume6 = s .volume6;
-      top = s .top;
-      bottom = s .bottom ⊕ a;
-      side = s .side;
-      inclined = s .inclined;
-    }
-onSlope Slope.Side a s =
-    record {
-      surface = s .surface;
-      volume6 = s .volume6;
-      top = s .top;
-      bottom = s .bottom;
-      side = s .side ⊕ a;
-      inclined = s .inclined;
-    }
-onSlope Slope.Inclined a s =
-    record {
-      surface = s .surface;
-      volume6 = s .volume6;
-      top = s .top;
-      bottom = s .bottom;
-      side = s .side;
-      inclined = s .inclined ⊕ a;
-    }
+onSlope Slope.Top a s = bySlope s (s .top ⊕ a) (s .bottom) (s .side) (s .inclined)
+onSlope Slope.Bottom a s = bySlope s (s .top) (s .bottom ⊕ a) (s .side) (s .inclined)
+onSlope Slope.Side a s = bySlope s (s .top) (s .bottom) (s .side ⊕ a) (s .inclined)
+onSlope Slope.Inclined a s = bySlope s (s .top) (s .bottom) (s .side) (s .inclined ⊕ a)
 
 -- with a facet's area, volume term and slope
 unfoldable pub withFacet : Thresholds → Totals → Facet → Totals

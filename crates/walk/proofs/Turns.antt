@@ -37,7 +37,8 @@ module _ (m : ℕ) (pair : Thresholds) (p : Prepared) (s : State) where
   unfolding partBy withPart withSurface
   takes-sliver e h = rw (e, h) (record { totals = refl; puts = λ w bs l g. (sym l, g) })
 
-  pub takes-used : (f : Facet) (r : State) → p .«in_range» ≡ true → lt (p .length) shortest ≡ false → f ≡ facetBy p → Takes m pair (used f) s r
+  pub takes-used : (f : Facet) (r : State) → p .«in_range» ≡ true → lt (p .length) shortest ≡ false → f ≡ facetBy p
+      → Takes m pair (used f) s r
       → Takes m pair (partBy p) s r
   unfolding partBy facetBy
   takes-used f r e h f-is t = rw (e, h) (rw f-is at t)
@@ -85,7 +86,8 @@ module _ (g : Given) where
       let e : suc n - 1 ≡ n = omega arith in
       taken-next n s r (subst (λ (k : ℕ). Taken g k s) e a) (rw h at b)
 
-  pub underway-none : (t : List ℕ) (a : Totals) (p q : Prepared) → t ≡ replicate (5 * count g) 0 → a ≡ noTotals → p ≡ noTriangle → q ≡ noTriangle
+  pub underway-none : (t : List ℕ) (a : Totals) (p q : Prepared) → t ≡ replicate (5 * count g) 0 → a ≡ noTotals → p ≡ noTriangle
+      → q ≡ noTriangle
       → Underway g 0 (state t (g .area) (record { totals = a; rows = 0 })) p q
   unfolding Awaits totalsTo bucketsTo
   underway-none t a p q e h p-is q-is =
@@ -97,7 +99,8 @@ module _ (g : Given) where
         taken = record { totals = refl; rows = refl; means = gathered-none (count g) (g .area) };
       })
 
-  pub underway-next : (n : ℕ) (s r : State) (p p′ q q′ : Prepared) → n ≤ count g + 1 → Underway g n s p q → Takes (count g) (g .pair) (partBy p) s r
+  pub underway-next : (n : ℕ) (s r : State) (p p′ q q′ : Prepared) → n ≤ count g + 1 → Underway g n s p q
+      → Takes (count g) (g .pair) (partBy p) s r
       → p′ ≡ withRoot q → (n < count g → partIn q′ ≡ partAt g n) → Underway g (n + 1) r p′ q′
   unfolding Awaits
   underway-next n s r p p′ q q′ h a b e f =
@@ -115,7 +118,8 @@ module _ (g : Given) where
       })
 
   -- there is room for a row more
-  pub ready : (n : ℕ) (s : State) → count g ≤ 32768 → length (s .index) ≡ 5 * count g → 4 * count g ≤ length (s .rows) → n < count g → Taken g n s
+  pub ready : (n : ℕ) (s : State) → count g ≤ 32768 → length (s .index) ≡ 5 * count g → 4 * count g ≤ length (s .rows) → n < count g
+      → Taken g n s
       → Ready (count g) (s .sums .rows) (s .index) (s .rows)
   ready n s small words room left a =
       record {
@@ -128,4 +132,5 @@ module _ (g : Given) where
 
   -- the walk as a whole
   pub walks : (s : State) → Taken g (count g) s → Walks (g .vs) (g .o) (g .pair) (g .ids) (g .area) (s .sums) (s .rows)
-  walks s a = record { totals = a .totals; count = a .rows; few = omega (arith, a .rows, buckets-le g (count g)); surfaces = a .means .filled }
+  walks s a =
+      record { totals = a .totals; count = a .rows; few = omega (arith, a .rows, buckets-le g (count g)); surfaces = a .means .filled }

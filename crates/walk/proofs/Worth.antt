@@ -1,4 +1,5 @@
--- What the rows are worth: each key has one row, its area is the sum of the areas of its triangles in their order, and there is a row for each key of a
+-- What the rows are worth: each key has one row, its area is the sum of the areas of its triangles in their order, and there is a row for
+-- each key of a
 -- used triangle and no other. On a mesh that passes refusal 4 every row can be put in order.
 use mathlib.Core.Path.{_≡_, refl, _∙_, ap}
 use mathlib.Core.Bool.{Bool, true, _&&_, _||_}
@@ -34,7 +35,8 @@ pub buckets-sums : (vs o : List Float) (ids : List ℕ) (k : Key) (n : ℕ) → 
 unfolding bucketsTo sumFor areaFor
 buckets-sums vs o ids k zero = refl
 buckets-sums vs o ids k (suc n) =
-    area-with k (bucketsTo vs o ids n) (part vs o (triangle ids n)) ∙ ap (λ (s : Float). sumWith k s (part vs o (triangle ids n))) (buckets-sums vs o ids k n)
+    area-with k (bucketsTo vs o ids n) (part vs o (triangle ids n))
+    ∙ ap (λ (s : Float). sumWith k s (part vs o (triangle ids n))) (buckets-sums vs o ids k n)
 
 has-with : (k : Key) (bs : List Bucket) (p : Part) → hasKey k (withSurface bs p) ≡ (hasPart k p || hasKey k bs)
 unfolding withSurface hasPart
@@ -46,7 +48,8 @@ pub buckets-keys : (vs o : List Float) (ids : List ℕ) (k : Key) (n : ℕ) → 
 unfolding bucketsTo keyAmong hasKey
 buckets-keys vs o ids k zero = refl
 buckets-keys vs o ids k (suc n) =
-    has-with k (bucketsTo vs o ids n) (part vs o (triangle ids n)) ∙ ap (λ (b : Bool). hasPart k (part vs o (triangle ids n)) || b) (buckets-keys vs o ids k n)
+    has-with k (bucketsTo vs o ids n) (part vs o (triangle ids n))
+    ∙ ap (λ (b : Bool). hasPart k (part vs o (triangle ids n)) || b) (buckets-keys vs o ids k n)
 
 apart-with : (bs : List Bucket) (p : Part) → Apart bs → Apart (withSurface bs p)
 unfolding withSurface
@@ -64,19 +67,22 @@ buckets-apart vs o ids (suc n) = apart-with (bucketsTo vs o ids n) (part vs o (t
 abbrev Plus : Float → Type 0
 Plus x = T (plus x)
 
-plus-with : (bs : List Bucket) (p : Part) → ((f : Facet) → p ≡ used f → Plus (f .area32)) → AllAreas Plus bs → AllAreas Plus (withSurface bs p)
+plus-with : (bs : List Bucket) (p : Part) → ((f : Facet) → p ≡ used f → Plus (f .area32)) → AllAreas Plus bs
+    → AllAreas Plus (withSurface bs p)
 unfolding withSurface
 plus-with bs outOfRange g h = h
 plus-with bs sliver g h = h
 plus-with bs (used f) g h =
     let a = g f refl in
-    put-all Plus Plus (λ x p. p) (keyOf (f .nx) (f .ny) (f .nz)) (f .area32) (λ x p. plus-add binary32 x (f .area32) p a) (plus-add binary32 nought (f .area32) (plus-zero binary32) a) bs h
+    put-all Plus Plus (λ x p. p) (keyOf (f .nx) (f .ny) (f .nz)) (f .area32) (λ x p. plus-add binary32 x (f .area32) p a)
+    (plus-add binary32 nought (f .area32) (plus-zero binary32) a) bs h
 
 buckets-plus : (vs : List Float) (ids : List ℕ) → T (allFine vs) → (n : ℕ) → AllAreas Plus (bucketsTo vs (origin (box vs)) ids n)
 unfolding bucketsTo AllAreas
 buckets-plus vs ids fine zero = tt
 buckets-plus vs ids fine (suc n) =
-    plus-with (bucketsTo vs (origin (box vs)) ids n) (part vs (origin (box vs)) (triangle ids n)) (λ f e. part-plus vs (triangle ids n) f fine e) (buckets-plus vs ids fine n)
+    plus-with (bucketsTo vs (origin (box vs)) ids n) (part vs (origin (box vs)) (triangle ids n))
+    (λ f e. part-plus vs (triangle ids n) f fine e) (buckets-plus vs ids fine n)
 
 plus-plain : (x : Float) → T (plus x) → T (plain x)
 unfolding plain
@@ -92,8 +98,11 @@ rows-plain : (by : Float) → T (positive by) → (bs : List Bucket) → AllArea
 unfolding allPlain plainRow scaled rows AllAreas
 rows-plain by h [] a = tt
 rows-plain by h (b ∷ bs) a =
-    five (plain (b .area ⊗ by)) (plain (tenth (b .key .x))) (plain (tenth (b .key .y))) (plain (tenth (b .key .z))) (allPlain (scaled by (rows bs)))
-    (plus-plain (b .area ⊗ by) (plus-mul binary32 (b .area) by (a .0) h)) (tenth-plain (b .key .x)) (tenth-plain (b .key .y)) (tenth-plain (b .key .z)) (rows-plain by h bs (a .1))
+    five (plain (b .area ⊗ by)) (plain (tenth (b .key .x))) (plain (tenth (b .key .y))) (plain (tenth (b .key .z)))
+    (allPlain (scaled by (rows bs)))
+    (plus-plain (b .area ⊗ by) (plus-mul binary32 (b .area) by (a .0) h)) (tenth-plain (b .key .x)) (tenth-plain (b .key .y))
+    (tenth-plain (b .key .z)) (rows-plain by h bs (a .1))
 
-pub buckets-plain : (vs : List Float) (ids : List ℕ) (by : Float) (n : ℕ) → T (allFine vs) → T (positive by) → T (allPlain (scaled by (rows (bucketsTo vs (origin (box vs)) ids n))))
+pub buckets-plain : (vs : List Float) (ids : List ℕ) (by : Float) (n : ℕ) → T (allFine vs) → T (positive by)
+    → T (allPlain (scaled by (rows (bucketsTo vs (origin (box vs)) ids n))))
 buckets-plain vs ids by n fine h = rows-plain by h (bucketsTo vs (origin (box vs)) ids n) (buckets-plus vs ids fine n)

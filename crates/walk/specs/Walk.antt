@@ -20,7 +20,8 @@ unfoldable pub bucketsTo : List Float → List Float → List ℕ → ℕ → Li
 bucketsTo vs o ids zero = []
 bucketsTo vs o ids (suc n) = withSurface (bucketsTo vs o ids n) (part vs o (triangle ids n))
 
--- ---- what that is worth: each key's area is the sum of its triangles' areas, and the keys are those of some triangle (`buckets-sums`, `buckets-keys`)
+-- ---- what that is worth: each key's area is the sum of its triangles' areas, and the keys are those of some triangle (`buckets-sums`,
+-- `buckets-keys`)
 
 unfoldable pub sumWith : Key → Float → Part → Float
 sumWith k s outOfRange = s

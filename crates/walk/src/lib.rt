@@ -63,7 +63,8 @@ fn take(
 }
 
 // All triangles, the index words being zero before. In one turn a triangle gets its cross product, the one in front of it its root, and the
-// one in front of that is taken: the three have nothing to do with each other, so that a processor looks for a row while it works at a root.
+// one in front of that is taken: the three have nothing to do with each other, so that a processor looks for a row while it works at a
+// root.
 fn take_all(
     vertices: &[f32],
     indices: &[u32],

@@ -1,4 +1,5 @@
--- `walk::take_all` meets its contract: after t turns one triangle has its cross product, the one in front of it its length, and all in front
+-- `walk::take_all` meets its contract: after t turns one triangle has its cross product, the one in front of it its length, and all in
+-- front
 -- of that are taken. Assumes nothing.
 use mathlib.Core.Path.{_≡_, subst, _∙_, refl}
 use lib.ListN.{length}
@@ -67,7 +68,8 @@ loop-again c =
       omega arith,
       took .take .kept .1 .1 .1 .0 ∙ i .1,
       took .take .kept .1 .1 .1 .1 .0 ∙ i .2,
-      underway-next (the at) _ (here at) _ _ _ _ _ (omega arith) (i .3) (took .take .ensures) (rooted .with-root .ensures) (crossed .cross-at .ensures),
+      underway-next (the at) _ (here at) _ _ _ _ _ (omega arith) (i .3) (took .take .ensures) (rooted .with-root .ensures)
+          (crossed .cross-at .ensures),
     )
 
 returns : tie.Need-returns Inv-loop μ-loop

@@ -18,8 +18,11 @@ returns c = λ h. absurd (omega (arith, h))
 
 -- the triangle that the ids name
 module _ (c : tie.After-corners-in-range) where
+  abbrev some : tie.Else1
+  some = c .before .before .before .before
+
   abbrev st : tie.Start
-  st = c .before .before .before .before .before .before .before
+  st = some .before .before .before
 
   abbrev vs : List Float
   vs = st .args .vertices .now
@@ -33,7 +36,8 @@ module _ (c : tie.Else2) where
   unfolding triangle
   fits-in = sym (c .before .corners-in-range .ensures) ∙ not-false (c .before .corners-in-range .result) (c .if2 .left)
 
-  vertices-are : (tri (c .before) .a < vertexCount (vs (c .before))) × (tri (c .before) .b < vertexCount (vs (c .before))) × (tri (c .before) .c < vertexCount (vs (c .before)))
+  vertices-are : (tri (c .before) .a < vertexCount (vs (c .before))) × (tri (c .before) .b < vertexCount (vs (c .before)))
+      × (tri (c .before) .c < vertexCount (vs (c .before)))
   vertices-are = corners-are (vs (c .before)) (tri (c .before)) fits-in
 
 returns-2 : tie.Need-returns-2
@@ -58,7 +62,8 @@ unfolding triangle
 corner-requires-2 c κs = (vertices-are (c .before) .1, st (c .before .before) .pre .1)
 
 cast-corner-3 : tie.Need-cast-corner-3
-cast-corner-3 c = omega (arith, c .before .before .before .before .shared-slice-known5 .given (3 * st (c .before .before .before) .args .t + 2))
+cast-corner-3 c =
+    omega (arith, c .before .before .before .before .shared-slice-known5 .given (3 * st (c .before .before .before) .args .t + 2))
 
 corner-requires-3 : tie.Need-corner-requires-3
 unfolding triangle
@@ -73,7 +78,8 @@ returns-3 c =
     let in-range = first .before in
     let asked = in-range .before in
     λ h. c .cross-corners .ensures
-    ∙ part-in (vs asked) (st asked .args .origin) (tri asked) _ _ _ (fits-in in-range) (first .corner .ensures) (second .corner2 .ensures) (third .corner3 .ensures)
+    ∙ part-in (vs asked) (st asked .args .origin) (tri asked) _ _ _ (fits-in in-range) (first .corner .ensures)
+    (second .corner2 .ensures) (third .corner3 .ensures)
 
 pub cross-at-spec : {M : Type 1} → statement M
 cross-at-spec =

@@ -6,7 +6,13 @@ use Rattle.sums.proofs.triangle.facet_by.Tie as tie
 
 returns : tie.Need-returns
 unfolding facetBy
-returns c = rw (c .before .before .before .before .before .before .narrow .ensures, c .before .before .before .before .narrow2 .ensures, c .before .before .narrow3 .ensures, c .narrow4 .ensures)
+returns c =
+    rw (
+      c .before .before .before .before .before .before .narrow .ensures,
+      c .before .before .before .before .narrow2 .ensures,
+      c .before .before .narrow3 .ensures,
+      c .narrow4 .ensures,
+    )
 
 pub facet-by-spec : {M : Type 1} → statement M
 facet-by-spec =

@@ -1,14 +1,18 @@
 -- A triangle's part by what is prepared of it and by what its corners are found to be. Assumes nothing.
-use mathlib.Core.Path.{_≡_, refl, sym, _∙_, ap}
-use mathlib.Core.Bool.{true, false}
+use mathlib.Core.Path.{_≡_, refl, sym, subst}
+use mathlib.Core.Bool.{true, false, _&&_}
 use mathlib.Core.List.{List, [], _∷_}
-use Prim.Native.Nat.{ℕ, _<_}
+use Prim.Native.Nat.{_*_, _<_}
+use native.Mathlib.Nat.{mul-pos}
 use native.Mathlib.Omega.{arith}
-use lib.Ieee.{Float, binary64, fits, ofBits, toBits}
-use Rattle.ieee.specs.Root.{root}
+use lib.Dec.{T, eqb, eqb→eq, ltb→lt}
+use lib.IntN.{pos}
+use lib.Ieee.{Float, nan, inf, fin, binary64, up, down, lt, eq, fits}
+use lib.Ieee.Fits.{and-l, and-r, down-pos}
+use Rattle.ieee.specs.Double.{nought64}
 use Rattle.ieee.proofs.Examples.{examples}
 use Rattle.ieee.proofs.Order.Differences.{zero-bits}
-use Rattle.ieee.proofs.Patterns.Back.{read-back}
+use Rattle.ieee.proofs.Values.OneFloat.{value-unique}
 use Rattle.ids.specs.Triangles.{Triangle}
 use Rattle.vertices.specs.Vertices.{vertexCount, cornersInRange}
 use Rattle.vertices.proofs.Range.{corners-below}
@@ -18,10 +22,33 @@ use Rattle.sums.specs.inner.Prepared.{facetBy, partBy, HasRoot, withRoot
 
 -- ---- on its way
 
--- floats with one pattern have one root
-pub root-by-pattern : (x y : Float) → fits binary64 x ≡ true → fits binary64 y ≡ true → toBits binary64 x ≡ toBits binary64 y
-    → root binary64 x ≡ root binary64 y
-root-by-pattern x y F G e = ap (root binary64) (sym (read-back binary64 x F) ∙ ap (ofBits binary64) e ∙ read-back binary64 y G)
+-- above zero, equal floats are one
+above : (x y : Float) → T (fits binary64 x) → T (fits binary64 y) → T (eq x y) → T (lt (fin false 0 (pos 0)) x) → x ≡ y
+unfolding eq lt
+above nan y F G e l = absurd e
+above (inf s) nan F G e l = absurd e
+above (inf s) (fin t n d) F G e l = absurd e
+above (inf true) (inf t) F G e l = absurd l
+above (inf false) (inf true) F G e l = absurd e
+above (inf false) (inf false) F G e l = refl
+above (fin s m d) nan F G e l = absurd e
+above (fin s m d) (inf t) F G e l = absurd e
+above (fin true m d) (fin t n g) F G e l = absurd l
+above (fin false m d) (fin true n g) F G e l =
+    let none : m * up d * down g ≡ 0 = eqb→eq _ _ (and-r (eqb (m * up d * down g) (n * up g * down d)) _ e) in
+    let more : 0 < m * up d = omega (arith, ltb→lt (0 * up (pos 0) * down d) (m * up d * down (pos 0)) l) in
+    let some : 0 < m * up d * down g = mul-pos more (down-pos g) in
+    absurd (omega arith)
+above (fin false m d) (fin false n g) F G e l =
+    let same : m * up d * down g ≡ n * up g * down d = eqb→eq _ _ (and-l (eqb (m * up d * down g) (n * up g * down d)) _ e) in
+    value-unique binary64 (fin false m d) (fin false n g) false (m * up d * down g) (down d * down g)
+    (mul-pos (down-pos d) (down-pos g)) F G
+    (refl, omega arith) (refl, rw same (omega arith))
+
+pub equal-above : (x y : Float) → T (fits binary64 x) → T (fits binary64 y) → T (eq x y && lt nought64 x) → x ≡ y
+equal-above x y F G h =
+    let l = and-r (eq x y) (lt nought64 x) h in
+    above x y F G (and-l (eq x y) (lt nought64 x) h) (subst (λ (z : Float). T (lt z x)) (zero-bits binary64) l)
 
 -- by the cross product n and its square d
 pub crossed-corners : (t : List (List Float)) (n : List Float) (d l v : Float) → n ≡ normal t → d ≡ dot n n → v ≡ tetra t

@@ -154,14 +154,13 @@ pub fn cross_at(vertices: &[f32], indices: &[u32], origin: [f64; 3], t: usize) -
     cross_corners([p, q, r])
 }
 
-// The root of a square. The two triangles of a flat rectangle have one square, so the root is often known.
+// The root of a square. The two triangles of a flat rectangle have one square, so the root is often known. Only zeros are equal and not the
+// same.
 fn length_of(square: f64, last: f64, length: f64) -> f64
     requires { ⌜ length ≡ root binary64 last ⌝ }
     ensures { λ r. ⌜ r ≡ root binary64 square ⌝ }
 {
-    let b = floats::bits64(square);
-    let known = floats::bits64(last);
-    if b == known {
+    if (square == last) & (0.0 < square) {
         length
     } else {
         floats::root64(square)

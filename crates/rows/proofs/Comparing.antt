@@ -1,19 +1,17 @@
 -- `precedes` puts plain rows in a strict order: one way only, and what is behind is behind all further ones; two rows of binary32 of which
--- neither
--- precedes the other are one. Three rows compare as three natural numbers, made of the ranks of their floats. Assumes nothing.
-use mathlib.Core.Path.{_≡_, refl, sym, ap, _∙_}
-use mathlib.Core.Bool.{Bool, true, false, not, _&&_, _||_, false≢true, Bool·not-not}
-use Prim.Native.Nat.{ℕ, zero, suc, _+_, _-_, _*_, _≤_, _<_}
-use native.Mathlib.Decide.{decLt}
-use native.Mathlib.Nat.{mul-le-mul-right, mul-pos}
+-- neither precedes the other are one. Assumes nothing.
+use mathlib.Core.Path.{_≡_, refl, sym, ap, _∙_, subst}
+use mathlib.Core.Bool.{Bool, true, false, not, _&&_, _||_, false≢true}
+use Prim.Native.Nat.{ℕ, zero, suc, _+_, _*_}
+use native.Mathlib.Nat.{mul-pos}
 use native.Mathlib.Omega.{arith}
-use borrow.Author.Tests.{lt-ltb, le-ltb, ltb-false}
-use lib.Dec.{T, ltb}
+use borrow.Author.Tests.{ltb-false}
+use lib.Dec.{T}
 use lib.IntN.{ℤ}
-use lib.Ieee.{Float, nan, inf, fin, up, down, below, binary32, lt, isNan, fits}
+use lib.Ieee.{Float, nan, inf, fin, up, down, below, binary32, lt, le, isNan, fits}
+use lib.Ieee.Bits.{is-true}
 use lib.Ieee.Fits.{and-l, and-r, up-pos, down-pos}
-use Rattle.ieee.proofs.Order.Ranks.{Compare, ranks, both-lt}
-use Rattle.ieee.proofs.Order.Comparison.{leb-ltb, lt-asym, lt-not-le}
+use Rattle.ieee.proofs.Order.Comparison.{le-lt-trans, le-of-not-lt, le-trans, lt-asym, lt-le-trans, lt-not-le}
 use Rattle.ieee.proofs.Values.OneFloat.{value-unique}
 use Rattle.rows.specs.declared.PlanarSurface.{PlanarSurface}
 use Rattle.rows.specs.Rows.{thenBy, precedes, plain, plainRow}
@@ -52,7 +50,13 @@ precedes-self r = go (precedes r r) refl
     go true h = precedes-asym r r h
     go false h = h
 
--- ---- three rows as three numbers
+-- ---- what is behind is behind all further ones
+
+-- three things by one test: is y less than x, x than y, z than y, y than z, z than x, x than z?
+record Three (yx xy zy yz zx xz : Bool) : Type 0 where
+  none : yx ≡ false → zy ≡ false → zx ≡ false
+  first : xy ≡ true → zy ≡ false → xz ≡ true
+  second : yx ≡ false → yz ≡ true → xz ≡ true
 
 plain-number : (x : Float) → T (plain x) → T (not (isNan x))
 unfolding plain isNan
@@ -60,97 +64,29 @@ plain-number nan h = absurd h
 plain-number (inf s) h = tt
 plain-number (fin s m e) h = tt
 
--- tests on three things that go as on three numbers, both ways
-record Three (xy yx yz zy xz zx : Bool) : Type 0 where
-  i : ℕ
-  j : ℕ
-  k : ℕ
-  i-j : xy ≡ ltb i j
-  j-i : yx ≡ ltb j i
-  j-k : yz ≡ ltb j k
-  k-j : zy ≡ ltb k j
-  i-k : xz ≡ ltb i k
-  k-i : zx ≡ ltb k i
-
-back : (x y : Float) (i j : ℕ) → T (not (isNan x)) → T (not (isNan y)) → Compare x y i j → lt y x ≡ ltb j i
-back x y i j p q c = lt-not-le x y p q ∙ ap not (c .most ∙ leb-ltb i j) ∙ Bool·not-not (ltb j i)
-
-three : (x y z : Float) → T (plain x) → T (plain y) → T (plain z) → Three (lt x y) (lt y x) (lt y z) (lt z y) (lt x z) (lt z x)
+three : (x y z : Float) → T (plain x) → T (plain y) → T (plain z) → Three (lt y x) (lt x y) (lt z y) (lt y z) (lt z x) (lt x z)
 three x y z a b c =
     let p = plain-number x a in
     let q = plain-number y b in
-    let o = plain-number z c in
-    let r = ranks x y z p q o in
+    let r = plain-number z c in
     record {
-      i = r .i;
-      j = r .j;
-      k = r .k;
-      i-j = r .xy .less;
-      j-i = r .yx .less;
-      j-k = r .yz .less;
-      k-j = back y z (r .j) (r .k) q o (r .yz);
-      i-k = r .xz .less;
-      k-i = back x z (r .i) (r .k) p o (r .xz);
-    }
-
--- first by i, then by i′, both below n: by i * n + i′
-lex : (n i j i′ j′ : ℕ) → i′ < n → j′ < n → thenBy (ltb i j) (ltb j i) (ltb i′ j′) ≡ ltb (i * n + i′) (j * n + j′)
-lex n i j i′ j′ p q = go (decLt i j) (decLt j i) (decLt i′ j′)
-  where
-    go : Dec (i < j) → Dec (j < i) → Dec (i′ < j′) → thenBy (ltb i j) (ltb j i) (ltb i′ j′) ≡ ltb (i * n + i′) (j * n + j′)
-    go (yes h) d e =
-        let m : (i + 1) * n ≤ j * n = mul-le-mul-right n (omega arith) in
-        rw (lt-ltb i j h, lt-ltb (i * n + i′) (j * n + j′) (omega arith))
-    go (no h) (yes d) e =
-        let m : (j + 1) * n ≤ i * n = mul-le-mul-right n (omega arith) in
-        rw (le-ltb i j (omega arith), lt-ltb j i d, le-ltb (i * n + i′) (j * n + j′) (omega arith))
-    go (no h) (no d) (yes e) =
-        let m : i ≡ j = omega arith in
-        rw (le-ltb i j (omega arith), le-ltb j i (omega arith), lt-ltb i′ j′ e, m, lt-ltb (j * n + i′) (j * n + j′) (omega arith))
-    go (no h) (no d) (no e) =
-        let m : i ≡ j = omega arith in
-        rw (
-          le-ltb i j (omega arith),
-          le-ltb j i (omega arith),
-          le-ltb i′ j′ (omega arith),
-          m,
-          le-ltb (j * n + i′) (j * n + j′) (omega arith),
-        )
-
-three-then : (xy yx yz zy xz zx p q r s t u : Bool) → Three xy yx yz zy xz zx → Three p q r s t u
-    → Three (thenBy xy yx p) (thenBy yx xy q) (thenBy yz zy r) (thenBy zy yz s) (thenBy xz zx t) (thenBy zx xz u)
-three-then xy yx yz zy xz zx p q r s t u a b =
-    let n = suc (b .i + b .j + b .k) in
-    let x : b .i < n = omega arith in
-    let y : b .j < n = omega arith in
-    let z : b .k < n = omega arith in
-    record {
-      i = a .i * n + b .i;
-      j = a .j * n + b .j;
-      k = a .k * n + b .k;
-      i-j = rw (a .i-j, a .j-i, b .i-j) (lex n (a .i) (a .j) (b .i) (b .j) x y);
-      j-i = rw (a .i-j, a .j-i, b .j-i) (lex n (a .j) (a .i) (b .j) (b .i) y x);
-      j-k = rw (a .j-k, a .k-j, b .j-k) (lex n (a .j) (a .k) (b .j) (b .k) y z);
-      k-j = rw (a .j-k, a .k-j, b .k-j) (lex n (a .k) (a .j) (b .k) (b .j) z y);
-      i-k = rw (a .i-k, a .k-i, b .i-k) (lex n (a .i) (a .k) (b .i) (b .k) x z);
-      k-i = rw (a .i-k, a .k-i, b .k-i) (lex n (a .k) (a .i) (b .k) (b .i) z x);
+      none = λ h k. lt-not-le x z p r ∙ ap not (is-true (le x z) (le-trans x y z (le-of-not-lt x y p q h) (le-of-not-lt y z q r k)));
+      first = λ h k. is-true (lt x z) (lt-le-trans x y z (subst T (sym h) tt) (le-of-not-lt y z q r k));
+      second = λ h k. is-true (lt x z) (le-lt-trans x y z (le-of-not-lt x y p q h) (subst T (sym k) tt));
     }
 
 -- the other way round
-reversed : (xy yx yz zy xz zx : Bool) → Three xy yx yz zy xz zx → Three yx xy zy yz zx xz
-reversed xy yx yz zy xz zx a =
-    let n = a .i + a .j + a .k in
-    record {
-      i = n - a .i;
-      j = n - a .j;
-      k = n - a .k;
-      i-j = a .j-i ∙ both-lt (a .j) (a .i) (n - a .i) (n - a .j) (λ h. omega arith) (λ h. omega arith);
-      j-i = a .i-j ∙ both-lt (a .i) (a .j) (n - a .j) (n - a .i) (λ h. omega arith) (λ h. omega arith);
-      j-k = a .k-j ∙ both-lt (a .k) (a .j) (n - a .j) (n - a .k) (λ h. omega arith) (λ h. omega arith);
-      k-j = a .j-k ∙ both-lt (a .j) (a .k) (n - a .k) (n - a .j) (λ h. omega arith) (λ h. omega arith);
-      i-k = a .k-i ∙ both-lt (a .k) (a .i) (n - a .i) (n - a .k) (λ h. omega arith) (λ h. omega arith);
-      k-i = a .i-k ∙ both-lt (a .i) (a .k) (n - a .k) (n - a .i) (λ h. omega arith) (λ h. omega arith);
-    }
+reversed : {yx xy zy yz zx xz : Bool} → Three yx xy zy yz zx xz → Three zy yz yx xy zx xz
+reversed t = record { none = λ h k. t .none k h; first = λ h k. t .second k h; second = λ h k. t .first k h }
+
+behind-then : (yx xy zy yz zx xz p q r : Bool) → Three yx xy zy yz zx xz → (p ≡ false → q ≡ false → r ≡ false)
+    → thenBy yx xy p ≡ false → thenBy zy yz q ≡ false → thenBy zx xz r ≡ false
+behind-then true xy zy yz zx xz p q r t f h k = absurd (false≢true (sym h))
+behind-then false xy true yz zx xz p q r t f h k = absurd (false≢true (sym k))
+behind-then false true false yz zx xz p q r t f h k = rw (t .none refl refl, t .first refl refl)
+behind-then false false false true zx xz p q r t f h k = rw (t .none refl refl, t .second refl refl)
+behind-then false false false false zx true p q r t f h k = rw (t .none refl refl)
+behind-then false false false false zx false p q r t f h k = rw (t .none refl refl) (f h k)
 
 -- a test of floats that a row's four pass
 record Each (p : Float → Bool) (r : PlanarSurface) : Type 0 where
@@ -176,22 +112,18 @@ parts r h = each plain r h
 floats : (r : PlanarSurface) → T (single r) → Each (fits binary32) r
 floats r h = each (fits binary32) r h
 
-three-rows : (r s t : PlanarSurface) → Each plain r → Each plain s → Each plain t
-    → Three (precedes r s) (precedes s r) (precedes s t) (precedes t s) (precedes r t) (precedes t r)
+pub behind-trans : (r s t : PlanarSurface) → T (plainRow r) → T (plainRow s) → T (plainRow t) → precedes s r ≡ false → precedes t s ≡ false
+    → precedes t r ≡ false
 unfolding precedes
-three-rows r s t a b c =
-    three-then _ _ _ _ _ _ _ _ _ _ _ _ (reversed _ _ _ _ _ _ (three (r .area) (s .area) (t .area) (a .area) (b .area) (c .area)))
-    (three-then _ _ _ _ _ _ _ _ _ _ _ _ (three (r .nx) (s .nx) (t .nx) (a .nx) (b .nx) (c .nx))
-    (three-then _ _ _ _ _ _ _ _ _ _ _ _ (three (r .ny) (s .ny) (t .ny) (a .ny) (b .ny) (c .ny))
-    (three (r .nz) (s .nz) (t .nz) (a .nz) (b .nz) (c .nz))))
-
-pub behind-trans : (r s t : PlanarSurface) → T (plainRow r) → T (plainRow s) → T (plainRow t) → precedes s r ≡ false
-    → precedes t s ≡ false → precedes t r ≡ false
-behind-trans r s t a b c h k =
-    let n = three-rows r s t (parts r a) (parts s b) (parts t c) in
-    let p = ltb-false (n .j) (n .i) (sym (n .j-i) ∙ h) in
-    let q = ltb-false (n .k) (n .j) (sym (n .k-j) ∙ k) in
-    n .k-i ∙ le-ltb (n .k) (n .i) (omega arith)
+behind-trans r s t p q o =
+    let a = parts r p in
+    let b = parts s q in
+    let c = parts t o in
+    let nx = three (r .nx) (s .nx) (t .nx) (a .nx) (b .nx) (c .nx) in
+    let ny = three (r .ny) (s .ny) (t .ny) (a .ny) (b .ny) (c .ny) in
+    let nz = three (r .nz) (s .nz) (t .nz) (a .nz) (b .nz) (c .nz) in
+    behind-then _ _ _ _ _ _ _ _ _ (reversed (three (t .area) (s .area) (r .area) (c .area) (b .area) (a .area)))
+    (behind-then _ _ _ _ _ _ _ _ _ nx (behind-then _ _ _ _ _ _ _ _ _ ny (nz .none)))
 
 -- ---- where neither is less they are the same
 

@@ -1,6 +1,5 @@
 -- The theorems of `sorted`: it is in order, it has the same rows, and of plain rows of binary32 no other list has both. Two lists in order
--- with the same
--- counts have the same first row, since by the counts neither first row precedes the other; and so on. Assumes nothing.
+-- with the same counts have the same first row, since by the counts neither first row precedes the other; and so on. Assumes nothing.
 use mathlib.Core.Path.{_≡_, refl, sym, ap, _∙_, subst}
 use mathlib.Core.Bool.{Bool, true, false, not, _&&_, cond, false≢true}
 use mathlib.Core.List.{List, [], _∷_}

@@ -21,6 +21,7 @@ use Rattle.vertices.specs.Vertices.{vertexCount, coordinate}
 use Rattle.sums.specs.declared.bounds.Bounds.{Bounds}
 use Rattle.sums.specs.Box.{lowest, highest, boxTo, box, boxVolume}
 use Rattle.sums.specs.Fine.{fine, allFine}
+use Rattle.sums.proofs.Boxes.{lowest-number}
 use Rattle.sums.proofs.Within.{Within, within-le, within-magnitude, within-mul, within-number, within-sub}
 
 -- ---- one coordinate
@@ -44,15 +45,9 @@ fine-at [] i h l = absurd (omega arith)
 fine-at (x ∷ vs) zero h l = and-l (fine x) (allFine vs) h
 fine-at (x ∷ vs) (suc i) h l = fine-at vs i (and-r (fine x) (allFine vs) h) (omega arith)
 
-finite-number : (x : Float) → T (finite x) → T (not (isNan x))
-unfolding isNan
-finite-number nan h = absurd h
-finite-number (inf s) h = absurd h
-finite-number (fin s m e) h = tt
-
 -- a float of such a list is no NaN
 pub number-at : (vs : List Float) (i : ℕ) → T (allFine vs) → i < length vs → T (not (isNan (getD vs i nan)))
-number-at vs i h l = finite-number (getD vs i nan) (fine-finite (getD vs i nan) (fine-at vs i h l))
+number-at vs i h l = within-number (2 ^ 33) (getD vs i nan) (fine-within (getD vs i nan) (fine-at vs i h l))
 
 pub coordinate-fine : (vs : List Float) (axis v : ℕ) → T (allFine vs) → axis < 3 → v < vertexCount vs → T (fine (coordinate vs axis v))
 coordinate-fine vs axis v h a l = fine-at vs (3 * v + axis) h (omega arith)
@@ -88,17 +83,6 @@ module _ (vs : List Float) (h : T (allFine vs)) (axis : ℕ) (a : axis < 3) wher
       greatest-from (λ z. T (fine z)) (highest vs axis (suc n)) (coordinate vs axis (suc n)) (highest-fine n (omega arith))
       (coordinate-fine vs axis (suc n) h a l)
 
-  coordinate-number : (v : ℕ) → v < vertexCount vs → T (not (isNan (coordinate vs axis v)))
-  coordinate-number v l =
-      within-number (2 ^ 33) (coordinate vs axis v) (fine-within (coordinate vs axis v) (coordinate-fine vs axis v h a l))
-
-  lowest-number : (n : ℕ) → n ≤ vertexCount vs → T (not (isNan (lowest vs axis n)))
-  unfolding lowest isNan
-  lowest-number zero l = tt
-  lowest-number (suc n) l =
-      least-from (λ z. T (not (isNan z))) (lowest vs axis n) (coordinate vs axis n) (lowest-number n (omega arith))
-      (coordinate-number n (omega arith))
-
   -- no coordinate is below the least
   pub lowest-le : (n v : ℕ) → n ≤ vertexCount vs → v < n → T (le (lowest vs axis n) (coordinate vs axis v))
   unfolding lowest
@@ -106,8 +90,8 @@ module _ (vs : List Float) (h : T (allFine vs)) (axis : ℕ) (a : axis < 3) wher
   lowest-le (suc n) v l k =
       let x = lowest vs axis n in
       let y = coordinate vs axis n in
-      let x-number = lowest-number n (omega arith) in
-      let y-number = coordinate-number n (omega arith) in
+      let x-number : T (not (isNan x)) = rw (lowest-number vs axis n) tt in
+      let y-number = number-at vs (3 * n + axis) h (omega arith) in
       elim (decLt v n) [
         | yes g ↦ le-trans (least x y) x (coordinate vs axis v) (least-left x y x-number y-number) (lowest-le n v (omega arith) g)
         | no g ↦ let e : v ≡ n = omega arith in rw e (least-right x y x-number y-number)

@@ -1,6 +1,5 @@
--- The laws behind the sums: the box vertex by vertex, a triangle's part by its corners, and of a mesh that passes the refusals that its box
--- is
--- finite, its areas are numbers from zero up, what a triangle adds is bounded, and the unit's powers are above zero and bounded.
+-- The laws behind the sums: the box vertex by vertex, a triangle's part by its corners, and of a mesh that passes the refusals that its
+-- box is finite, its areas are numbers from zero up, what a triangle adds is bounded, and the unit's powers are above zero and bounded.
 mod Boxes
 pub mod Parts
 mod Slopes

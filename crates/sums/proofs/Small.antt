@@ -1,6 +1,5 @@
--- What a used triangle adds is found of three corners from 0 to 2^34, where the mesh passes refusal 4: coordinates and box are within 2^33,
--- and the
--- origin is the least of them. Their sides are within 2^35, their cross product within 2^71. Assumes nothing.
+-- What a used triangle adds is found of three corners from 0 to 2^34, where the mesh passes refusal 4: coordinates and box are within
+-- 2^33, and the origin is the least of them. Their sides are within 2^35, their cross product within 2^71. Assumes nothing.
 use mathlib.Core.Path.{_≡_, refl}
 use mathlib.Core.Bool.{Bool, true, false, cond}
 use mathlib.Core.List.{List}

@@ -1,7 +1,6 @@
 -- The volume term of a triangle with corners from 0 to 2^34 is within 2^103, not only 3 * 2^102: of the three components of the cross
--- product of two
--- such corners one is not above zero and one is not below, since the products that they are differences of are the same six numbers.
--- Assumes nothing.
+-- product of two such corners one is not above zero and one is not below, since the products that they are differences of are the same six
+-- numbers. Assumes nothing.
 use mathlib.Core.Path.{_≡_, refl, sym}
 use mathlib.Core.Logic.{_⊎_, inl, inr, ⊎-elim}
 use mathlib.Core.Bool.{Bool, true, false, false≢true}

@@ -1,6 +1,5 @@
 -- No sum of a mesh of the domain overflows (01): what one triangle adds is within 2^72, or 2^103 for the volume term, so n of them are
--- within n times that, which
--- is a value of the format up to 32,768. Assumes nothing.
+-- within n times that, which is a value of the format up to 32,768. Assumes nothing.
 use mathlib.Core.Path.{_≡_, refl}
 use Prim.Native.Nat.{ℕ, zero, suc, _+_, _*_, _^_, _≤_, _<_}
 use native.Mathlib.Nat.{lt-of-le-of-lt, mul-le-mul-right}

@@ -1,6 +1,5 @@
 -- What the rows are worth: each key has one row, its area is the sum of the areas of its triangles in their order, and there is a row for
--- each key of a
--- used triangle and no other. On a mesh that passes refusal 4 every row can be put in order.
+-- each key of a used triangle and no other. On a mesh that passes refusal 4 every row can be put in order.
 use mathlib.Core.Path.{_≡_, refl, _∙_, ap}
 use mathlib.Core.Bool.{Bool, true, _&&_, _||_}
 use Prim.Native.Nat.{ℕ, zero, suc}

@@ -1,6 +1,5 @@
 -- `walk::take_all` meets its contract: after t turns one triangle has its cross product, the one in front of it its length, and all in
--- front
--- of that are taken. Assumes nothing.
+-- front of that are taken. Assumes nothing.
 use mathlib.Core.Path.{_≡_, subst, _∙_, refl}
 use lib.ListN.{length}
 use Prim.Native.Nat.{ℕ, _+_, _-_, _≤_}

@@ -12,7 +12,7 @@ use Rattle.vertices.specs.Vertices.{inRange, cornersInRange, coordinate}
 use Rattle.sums.specs.declared.bounds.Bounds.{Bounds}
 use Rattle.sums.specs.declared.totals.Thresholds.{Thresholds}
 use Rattle.sums.specs.Box.{origin}
-use Rattle.sums.specs.Facet.{outOfRange, rebased, corners, partOf, part}
+use Rattle.sums.specs.Facet.{outOfRange, rebased, rebasedCorners, partOf, part}
 use Rattle.sums.specs.Totals.{totalsTo}
 use Rattle.walk.specs.Walk.{bucketsTo}
 use Rattle.place.specs.Moved.{Moved}
@@ -35,8 +35,8 @@ module _ (dx dy dz : ℤ) (vs vs′ : List Float) (m : Moved dx dy dz vs vs′) 
   same-part t = rw (m .lengths) (go (inRange vs (t .a)) (inRange vs (t .b)) (inRange vs (t .c)) (ltb→lt _ _) (ltb→lt _ _) (ltb→lt _ _))
     where
       go : (p q r : Bool) → (T p → 3 * t .a + 2 < length vs) → (T q → 3 * t .b + 2 < length vs) → (T r → 3 * t .c + 2 < length vs)
-          → cond (p && (q && r)) (partOf (corners vs′ (origin b′) t)) outOfRange
-          ≡ cond (p && (q && r)) (partOf (corners vs (origin b) t)) outOfRange
+          → cond (p && (q && r)) (partOf (rebasedCorners vs′ (origin b′) t)) outOfRange
+          ≡ cond (p && (q && r)) (partOf (rebasedCorners vs (origin b) t)) outOfRange
       go false q r f g h = refl
       go true false r f g h = refl
       go true true false f g h = refl

@@ -14,8 +14,8 @@ use lib.Ieee.Fits.{and-l, and-r, up-pos, down-pos}
 use Rattle.ieee.proofs.Order.Comparison.{le-lt-trans, le-of-not-lt, le-trans, lt-asym, lt-le-trans, lt-not-le}
 use Rattle.ieee.proofs.Values.OneFloat.{value-unique}
 use Rattle.rows.specs.declared.PlanarSurface.{PlanarSurface}
-use Rattle.rows.specs.Rows.{thenBy, precedes, plain, plainRow}
-use Rattle.rows.specs.Sorting.{single}
+use Rattle.rows.specs.Rows.{thenBy, precedes, plainFloat, plainRow}
+use Rattle.rows.specs.Sorting.{singleRow}
 
 -- ---- by the first alone, or by the rest
 
@@ -58,13 +58,14 @@ record Three (yx xy zy yz zx xz : Bool) : Type 0 where
   first : xy ≡ true → zy ≡ false → xz ≡ true
   second : yx ≡ false → yz ≡ true → xz ≡ true
 
-plain-number : (x : Float) → T (plain x) → T (not (isNan x))
-unfolding plain isNan
+plain-number : (x : Float) → T (plainFloat x) → T (not (isNan x))
+unfolding plainFloat isNan
 plain-number nan h = absurd h
 plain-number (inf s) h = tt
 plain-number (fin s m e) h = tt
 
-three : (x y z : Float) → T (plain x) → T (plain y) → T (plain z) → Three (lt y x) (lt x y) (lt z y) (lt y z) (lt z x) (lt x z)
+three : (x y z : Float) → T (plainFloat x) → T (plainFloat y) → T (plainFloat z)
+    → Three (lt y x) (lt x y) (lt z y) (lt y z) (lt z x) (lt x z)
 three x y z a b c =
     let p = plain-number x a in
     let q = plain-number y b in
@@ -105,11 +106,11 @@ each p r h =
     let g = and-r x (y && z) f in
     record { area = and-l a (x && (y && z)) h; nx = and-l x (y && z) f; ny = and-l y z g; nz = and-r y z g }
 
-parts : (r : PlanarSurface) → T (plainRow r) → Each plain r
+parts : (r : PlanarSurface) → T (plainRow r) → Each plainFloat r
 unfolding plainRow
-parts r h = each plain r h
+parts r h = each plainFloat r h
 
-floats : (r : PlanarSurface) → T (single r) → Each (fits binary32) r
+floats : (r : PlanarSurface) → T (singleRow r) → Each (fits binary32) r
 floats r h = each (fits binary32) r h
 
 pub behind-trans : (r s t : PlanarSurface) → T (plainRow r) → T (plainRow s) → T (plainRow t) → precedes s r ≡ false → precedes t s ≡ false
@@ -127,8 +128,8 @@ behind-trans r s t p q o =
 
 -- ---- where neither is less they are the same
 
-plain-signed : (s : Bool) (m : ℕ) (e : ℤ) → T (plain (fin s m e)) → m ≡ 0 → s ≡ false
-unfolding plain
+plain-signed : (s : Bool) (m : ℕ) (e : ℤ) → T (plainFloat (fin s m e)) → m ≡ 0 → s ≡ false
+unfolding plainFloat
 plain-signed false m e h z = refl
 plain-signed true zero e h z = absurd h
 plain-signed true (suc m) e h z = absurd (omega arith)
@@ -143,7 +144,7 @@ same-sign s m e n d h p q =
     value-unique binary32 (fin s m e) (fin s n d) s (m * up e * down d) (down e * down d) (mul-pos (down-pos e) (down-pos d)) p q
     (refl, omega arith) (refl, rw h (omega arith))
 
-two-fins : (s : Bool) (m : ℕ) (e : ℤ) (t : Bool) (n : ℕ) (d : ℤ) → T (plain (fin s m e)) → T (plain (fin t n d))
+two-fins : (s : Bool) (m : ℕ) (e : ℤ) (t : Bool) (n : ℕ) (d : ℤ) → T (plainFloat (fin s m e)) → T (plainFloat (fin t n d))
     → T (fits binary32 (fin s m e)) → T (fits binary32 (fin t n d))
     → below s (m * up e * down d) t (n * up d * down e) ≡ false → below t (n * up d * down e) s (m * up e * down d) ≡ false
     → fin s m e ≡ fin t n d
@@ -162,8 +163,9 @@ two-fins true m e false n d a b p q h k =
     let u = ltb-false 0 (m * up e * down d + n * up d * down e) h in
     absurd (false≢true (sym (plain-signed true m e a (no-factor m e d (omega arith)))))
 
-one-float : (x y : Float) → T (plain x) → T (plain y) → T (fits binary32 x) → T (fits binary32 y) → lt x y ≡ false → lt y x ≡ false → x ≡ y
-unfolding lt plain
+one-float : (x y : Float) → T (plainFloat x) → T (plainFloat y) → T (fits binary32 x) → T (fits binary32 y) → lt x y ≡ false
+    → lt y x ≡ false → x ≡ y
+unfolding lt plainFloat
 one-float nan y a b p q h k = absurd a
 one-float (inf s) nan a b p q h k = absurd b
 one-float (inf s) (inf t) a b p q h k = ap inf (signs s t h k)
@@ -189,7 +191,7 @@ even true q r r′ h k = absurd (false≢true (sym h))
 even false true r r′ h k = absurd (false≢true (sym k))
 even false false r r′ h k = record { up = refl; down = refl; on = h; back = k }
 
-pub one-row : (r s : PlanarSurface) → T (plainRow r) → T (plainRow s) → T (single r) → T (single s) → precedes r s ≡ false
+pub one-row : (r s : PlanarSurface) → T (plainRow r) → T (plainRow s) → T (singleRow r) → T (singleRow s) → precedes r s ≡ false
     → precedes s r ≡ false → r ≡ s
 unfolding precedes
 one-row r s p q f g h k =

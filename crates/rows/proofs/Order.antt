@@ -11,7 +11,7 @@ use lib.Ieee.Fits.{and-i, and-l, and-r}
 use lib.ListN.{length}
 use Rattle.rows.specs.declared.PlanarSurface.{PlanarSurface}
 use Rattle.rows.specs.Rows.{precedes, inserted, sorted, plainRow, allPlain}
-use Rattle.rows.specs.Sorting.{passing, SameRows, Behind, InOrder, single, allSingle, SortedInOrder, SortedSame, SortedOne}
+use Rattle.rows.specs.Sorting.{passing, SameRows, Behind, InOrder, singleRow, allSingle, SortedInOrder, SortedSame, SortedOne}
 use Rattle.rows.specs.inner.Passes.{Rising}
 use Rattle.rows.proofs.Counts.{one, none-first, none-both, none-at}
 use Rattle.rows.proofs.Comparing.{precedes-asym, precedes-self, behind-trans, one-row}
@@ -78,15 +78,15 @@ plain-same = all-same plainRow allPlain refl (λ r l. refl)
 
 pub single-same : (l m : List PlanarSurface) → SameRows l m → T (allSingle l) → T (allSingle m)
 unfolding allSingle
-single-same = all-same single allSingle refl (λ r l. refl)
+single-same = all-same singleRow allSingle refl (λ r l. refl)
 
 plain-parts : (r : PlanarSurface) (l : List PlanarSurface) → T (allPlain (r ∷ l)) → T (plainRow r) × T (allPlain l)
 unfolding allPlain
 plain-parts r l h = (and-l (plainRow r) (allPlain l) h, and-r (plainRow r) (allPlain l) h)
 
-single-parts : (r : PlanarSurface) (l : List PlanarSurface) → T (allSingle (r ∷ l)) → T (single r) × T (allSingle l)
+single-parts : (r : PlanarSurface) (l : List PlanarSurface) → T (allSingle (r ∷ l)) → T (singleRow r) × T (allSingle l)
 unfolding allSingle
-single-parts r l h = (and-l (single r) (allSingle l) h, and-r (single r) (allSingle l) h)
+single-parts r l h = (and-l (singleRow r) (allSingle l) h, and-r (singleRow r) (allSingle l) h)
 
 -- ---- in order, row by row: none of the rest precedes the first
 

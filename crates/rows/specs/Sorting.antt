@@ -42,12 +42,12 @@ InOrder l = (i j : ℕ) → i < j → j < length l → Behind l j i
 -- ---- the theorems
 
 -- the row's floats are of binary32, as all floats of a lent f32 slice are
-abbrev pub single : PlanarSurface → Bool
-single r = fits binary32 (r .area) && (fits binary32 (r .nx) && (fits binary32 (r .ny) && fits binary32 (r .nz)))
+abbrev pub singleRow : PlanarSurface → Bool
+singleRow r = fits binary32 (r .area) && (fits binary32 (r .nx) && (fits binary32 (r .ny) && fits binary32 (r .nz)))
 
 unfoldable pub allSingle : List PlanarSurface → Bool
 allSingle [] = true
-allSingle (r ∷ rs) = single r && allSingle rs
+allSingle (r ∷ rs) = singleRow r && allSingle rs
 
 abbrev pub SortedInOrder : Type 0
 SortedInOrder = (l : List PlanarSurface) → T (allPlain l) → InOrder (sorted l)

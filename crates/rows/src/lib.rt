@@ -7,7 +7,7 @@ ghost use lib.ListN.{length, set};
 ghost use Rattle.rows.specs.Rows.{flatten, rowsOf, thenBy, precedes as precedesOf, sorted, scaled, scaledRow};
 ghost use Rattle.rows.specs.Rows.{largest as largestOf, smallest as smallestOf, lessAbove, allPlain};
 ghost use Rattle.rows.specs.Sorting.{rowAt};
-ghost use Rattle.rows.specs.inner.Passes.{Inside, Few, swapped, Keeps, Rising, Settled};
+ghost use Rattle.rows.specs.inner.Passes.{Inside, Few, swapped, Keeps, Rising, AfterPass};
 
 // One planar surface: the summed area of the triangles with one key, and the key's direction.
 pub struct PlanarSurface {
@@ -169,7 +169,7 @@ fn quick(rows: &mut [f32], a: usize, b: usize, turns: usize) -> bool
 // Row i goes back by gaps, past the rows that it precedes; those in front of it are in order.
 fn settle(rows: &mut [f32], i: usize, gap: usize)
     requires { ⌜ Inside i (now rows) × (0 < gap) × Rising gap i (rowsOf (now rows)) ⌝ }
-    ensures { λ _. ⌜ Settled gap (i + 1) (now (rows .entry)) (now (rows .exit)) ⌝ }
+    ensures { λ _. ⌜ AfterPass gap (i + 1) (now (rows .entry)) (now (rows .exit)) ⌝ }
 {
     let mut j = i;
     while j >= gap {
@@ -183,7 +183,7 @@ fn settle(rows: &mut [f32], i: usize, gap: usize)
 
 fn insertion(rows: &mut [f32], n: usize, gap: usize)
     requires { ⌜ (0 < gap) × Few n (now rows) ⌝ }
-    ensures { λ _. ⌜ Settled gap n (now (rows .entry)) (now (rows .exit)) ⌝ }
+    ensures { λ _. ⌜ AfterPass gap n (now (rows .entry)) (now (rows .exit)) ⌝ }
 {
     let mut next = 0;
     while next < n {

@@ -13,7 +13,8 @@ use Rattle.ids.specs.Triangles.{Triangle}
 use Rattle.vertices.specs.Vertices.{vertexCount, coordinate, cornersInRange}
 use Rattle.sums.specs.declared.triangle.Facet.{Facet}
 use Rattle.sums.specs.Box.{lowest, boxTo, box, origin}
-use Rattle.sums.specs.Facet.{at, minus, cross, dot, corner, corners, normal, size, shortest, facetOf, Part, outOfRange, sliver, used}
+use Rattle.sums.specs.Facet.{at, minus, cross, dot, corner, rebasedCorners, normal, size, shortest, facetOf, Part, outOfRange, sliver}
+use Rattle.sums.specs.Facet.{used}
 use Rattle.sums.specs.Facet.{partOf, rebased, part}
 use Rattle.sums.specs.Fine.{allFine, fine}
 use Rattle.sums.proofs.FineBoxes.{box-fine, coordinate-fine, fine-within, lowest-le}
@@ -121,11 +122,11 @@ module _ (P : Facet → Type 0) (has : (t : List (List Float)) → Small t → P
   unfolding part
   part-has vs t f h e = go (cornersInRange vs t) refl e
     where
-      go : (b : Bool) → cornersInRange vs t ≡ b → cond b (partOf (corners vs (origin (box vs)) t)) outOfRange ≡ used f → P f
+      go : (b : Bool) → cornersInRange vs t ≡ b → cond b (partOf (rebasedCorners vs (origin (box vs)) t)) outOfRange ≡ used f → P f
       go false r e = let no : _≡_ {A = ℕ} 0 1 = cc in absurd (omega arith)
       go true r e =
           let in-range = corners-are vs t r in
-          used-has (corners vs (origin (box vs)) t) f
+          used-has (rebasedCorners vs (origin (box vs)) t) f
           (record {
             a = rebased-octant vs (t .a) h (in-range .0);
             b = rebased-octant vs (t .b) h (in-range .1);

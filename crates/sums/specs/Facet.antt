@@ -78,12 +78,12 @@ partOf t = cond (lt (size (normal t)) shortest) sliver (used (facetOf t (normal 
 unfoldable pub rebased : List Float → List Float → ℕ → List Float
 rebased vs o v = (coordinate vs 0 v ⊟ at o 0) ∷ (coordinate vs 1 v ⊟ at o 1) ∷ (coordinate vs 2 v ⊟ at o 2) ∷ []
 
-abbrev pub corners : List Float → List Float → Triangle → List (List Float)
-corners vs o t = rebased vs o (t .a) ∷ rebased vs o (t .b) ∷ rebased vs o (t .c) ∷ []
+abbrev pub rebasedCorners : List Float → List Float → Triangle → List (List Float)
+rebasedCorners vs o t = rebased vs o (t .a) ∷ rebased vs o (t .b) ∷ rebased vs o (t .c) ∷ []
 
 -- its part: out of range, a sliver, or used
 unfoldable pub part : List Float → List Float → Triangle → Part
-part vs o t = cond (cornersInRange vs t) (partOf (corners vs o t)) outOfRange
+part vs o t = cond (cornersInRange vs t) (partOf (rebasedCorners vs o t)) outOfRange
 
 -- ---- what every area is: a number that is not below zero, nor -0
 abbrev pub plus : Float → Bool

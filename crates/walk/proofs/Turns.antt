@@ -22,7 +22,7 @@ use Rattle.surfaces.proofs.Gathering.{gathered-none}
 use Rattle.surfaces.proofs.Keys.{length-put-le}
 use Rattle.walk.specs.declared.Sums.{Sums}
 use Rattle.walk.specs.Walk.{withSurface, bucketsTo}
-use Rattle.walk.specs.inner.Steps.{Given, count, partAt, bucketsOf, State, state, Takes, Taken, Awaits, Underway}
+use Rattle.walk.specs.inner.Steps.{Given, trianglesIn, partAt, bucketsOf, State, state, Takes, Taken, Awaits, Underway}
 use Rattle.walk.specs.inner.Walks.{Walks}
 
 -- ---- a part is taken
@@ -66,27 +66,27 @@ buckets-le g (suc n) = omega (arith, buckets-le g n, part-le (bucketsOf g n) (pa
 -- ---- one triangle gets its cross product, the one in front of it its root, and the one in front of that is taken
 
 module _ (g : Given) where
-  taken-next : (n : ℕ) (s r : State) → Taken g n s → Takes (count g) (g .pair) (partAt g n) s r → Taken g (suc n) r
+  taken-next : (n : ℕ) (s r : State) → Taken g n s → Takes (trianglesIn g) (g .pair) (partAt g n) s r → Taken g (suc n) r
   unfolding totalsTo bucketsTo
   taken-next n s r a b =
       let p = b .puts (g .area) (bucketsOf g n) (sym (a .rows)) (a .means) in
       record { totals = b .totals ∙ ap (λ x. withPart (g .pair) x (partAt g n)) (a .totals); rows = p .0; means = p .1 }
 
   -- a turn on which nothing is taken
-  taken-still : (n : ℕ) (s r : State) → Taken g n s → Takes (count g) (g .pair) outOfRange s r → Taken g n r
+  taken-still : (n : ℕ) (s r : State) → Taken g n s → Takes (trianglesIn g) (g .pair) outOfRange s r → Taken g n r
   unfolding withPart withSurface
   taken-still n s r a b =
       let p = b .puts (g .area) (bucketsOf g n) (sym (a .rows)) (a .means) in
       record { totals = b .totals ∙ a .totals; rows = p .0; means = p .1 }
 
-  taken-awaited : (n : ℕ) (s r : State) (p : Part) → Awaits g n p → Taken g (n - 1) s → Takes (count g) (g .pair) p s r → Taken g n r
+  taken-awaited : (n : ℕ) (s r : State) (p : Part) → Awaits g n p → Taken g (n - 1) s → Takes (trianglesIn g) (g .pair) p s r → Taken g n r
   unfolding Awaits
   taken-awaited zero s r p h a b = taken-still 0 s r a (rw h at b)
   taken-awaited (suc n) s r p h a b =
       let e : suc n - 1 ≡ n = omega arith in
       taken-next n s r (subst (λ (k : ℕ). Taken g k s) e a) (rw h at b)
 
-  pub underway-none : (t : List ℕ) (a : Totals) (p q : Prepared) → t ≡ replicate (5 * count g) 0 → a ≡ noTotals → p ≡ noTriangle
+  pub underway-none : (t : List ℕ) (a : Totals) (p q : Prepared) → t ≡ replicate (5 * trianglesIn g) 0 → a ≡ noTotals → p ≡ noTriangle
       → q ≡ noTriangle
       → Underway g 0 (state t (g .area) (record { totals = a; rows = 0 })) p q
   unfolding Awaits totalsTo bucketsTo
@@ -96,12 +96,12 @@ module _ (g : Given) where
         rooted = no-length;
         crossed = λ _. no-part-yet;
         prepared = λ _. no-part;
-        taken = record { totals = refl; rows = refl; means = gathered-none (count g) (g .area) };
+        taken = record { totals = refl; rows = refl; means = gathered-none (trianglesIn g) (g .area) };
       })
 
-  pub underway-next : (n : ℕ) (s r : State) (p p′ q q′ : Prepared) → n ≤ count g + 1 → Underway g n s p q
-      → Takes (count g) (g .pair) (partBy p) s r
-      → p′ ≡ withRoot q → (n < count g → partIn q′ ≡ partAt g n) → Underway g (n + 1) r p′ q′
+  pub underway-next : (n : ℕ) (s r : State) (p p′ q q′ : Prepared) → n ≤ trianglesIn g + 1 → Underway g n s p q
+      → Takes (trianglesIn g) (g .pair) (partBy p) s r
+      → p′ ≡ withRoot q → (n < trianglesIn g → partIn q′ ≡ partAt g n) → Underway g (n + 1) r p′ q′
   unfolding Awaits
   underway-next n s r p p′ q q′ h a b e f =
       let before : n - 2 ≡ n - 1 - 1 = omega arith in
@@ -118,9 +118,10 @@ module _ (g : Given) where
       })
 
   -- there is room for a row more
-  pub ready : (n : ℕ) (s : State) → count g ≤ 32768 → length (s .index) ≡ 5 * count g → 4 * count g ≤ length (s .rows) → n < count g
+  pub ready : (n : ℕ) (s : State) → trianglesIn g ≤ 32768 → length (s .index) ≡ 5 * trianglesIn g
+      → 4 * trianglesIn g ≤ length (s .rows) → n < trianglesIn g
       → Taken g n s
-      → Ready (count g) (s .sums .rows) (s .index) (s .rows)
+      → Ready (trianglesIn g) (s .sums .rows) (s .index) (s .rows)
   ready n s small words room left a =
       record {
         small = small;
@@ -131,6 +132,12 @@ module _ (g : Given) where
       }
 
   -- the walk as a whole
-  pub walks : (s : State) → Taken g (count g) s → Walks (g .vs) (g .o) (g .pair) (g .ids) (g .area) (s .sums) (s .rows)
+  pub walks : (s : State) → Taken g (trianglesIn g) s → Walks (g .vs) (g .o) (g .pair) (g .ids) (g .area) (s .sums) (s .rows)
   walks s a =
-      record { totals = a .totals; count = a .rows; few = omega (arith, a .rows, buckets-le g (count g)); surfaces = a .means .filled }
+      record {
+        totals = a .totals;
+        count = a .rows;
+        few = omega (arith, a .rows, buckets-le g (trianglesIn g));
+        surfaces =
+            a .means .filled;
+      }

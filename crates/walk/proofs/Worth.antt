@@ -15,7 +15,7 @@ use Rattle.sums.specs.Facet.{Part, outOfRange, sliver, used, part, plus}
 use Rattle.sums.specs.Fine.{allFine}
 use Rattle.sums.proofs.Areas.{part-plus}
 use Rattle.sums.proofs.Plus.{plus-add, plus-mul, plus-zero}
-use Rattle.rows.specs.Rows.{plain, plainRow, allPlain, scaled}
+use Rattle.rows.specs.Rows.{plainFloat, plainRow, allPlain, scaled}
 use Rattle.surfaces.specs.declared.Key.{Key}
 use Rattle.surfaces.specs.Surfaces.{Bucket, keyOf, areaFor, hasKey, Apart, AllAreas, tenth, rows}
 use Rattle.surfaces.proofs.Keys.{area-put, has-put, apart-put, put-all}
@@ -83,8 +83,8 @@ buckets-plus vs ids fine (suc n) =
     plus-with (bucketsTo vs (origin (box vs)) ids n) (part vs (origin (box vs)) (triangle ids n))
     (λ f e. part-plus vs (triangle ids n) f fine e) (buckets-plus vs ids fine n)
 
-plus-plain : (x : Float) → T (plus x) → T (plain x)
-unfolding plain
+plus-plain : (x : Float) → T (plus x) → T (plainFloat x)
+unfolding plainFloat
 plus-plain nan h = absurd h
 plus-plain (inf s) h = tt
 plus-plain (fin s zero e) h = h
@@ -97,7 +97,7 @@ rows-plain : (by : Float) → T (positive by) → (bs : List Bucket) → AllArea
 unfolding allPlain plainRow scaled rows AllAreas
 rows-plain by h [] a = tt
 rows-plain by h (b ∷ bs) a =
-    five (plain (b .area ⊗ by)) (plain (tenth (b .key .x))) (plain (tenth (b .key .y))) (plain (tenth (b .key .z)))
+    five (plainFloat (b .area ⊗ by)) (plainFloat (tenth (b .key .x))) (plainFloat (tenth (b .key .y))) (plainFloat (tenth (b .key .z)))
     (allPlain (scaled by (rows bs)))
     (plus-plain (b .area ⊗ by) (plus-mul binary32 (b .area) by (a .0) h)) (tenth-plain (b .key .x)) (tenth-plain (b .key .y))
     (tenth-plain (b .key .z)) (rows-plain by h bs (a .1))

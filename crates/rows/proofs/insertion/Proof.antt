@@ -4,13 +4,13 @@ use Prim.Native.Nat.{_-_, _≤_}
 use native.Mathlib.Omega.{arith}
 use borrow.Author.Needs.{needs}
 use lib.ListN.{length}
-use Rattle.rows.specs.inner.Passes.{Settled}
+use Rattle.rows.specs.inner.Passes.{AfterPass}
 use Rattle.rows.proofs.Counts.{same-rows, same-then}
 use Rattle.rows.proofs.insertion.Statement.{statement}
 use Rattle.rows.proofs.insertion.Tie as tie
 
 abbrev Inv-loop : tie.InvT-loop
-Inv-loop rows₀ n gap next₀ rows next = (next ≤ n) × (length rows ≡ length rows₀) × Settled gap next rows₀ rows
+Inv-loop rows₀ n gap next₀ rows next = (next ≤ n) × (length rows ≡ length rows₀) × AfterPass gap next rows₀ rows
 
 abbrev μ-loop : tie.MeasureT-loop
 μ-loop rows₀ n gap next₀ rows next = n - next

@@ -29,6 +29,6 @@ abbrev pub Rising : ℕ → ℕ → List PlanarSurface → Type 0
 Rising gap n l = (k : ℕ) → k + gap < n → Behind l (k + gap) k
 
 -- the same rows, and the first n of them rising
-pub record Settled (gap n : ℕ) (t u : List Float) : Type 0 where
+pub record AfterPass (gap n : ℕ) (t u : List Float) : Type 0 where
   pub same : Keeps t u
   pub rising : Rising gap n (rowsOf u)

@@ -3,7 +3,7 @@
 use mathlib.Core.Path.{_≡_, subst, _∙_, refl}
 use lib.ListN.{length}
 use Prim.Native.Nat.{ℕ, _+_, _-_, _≤_}
-use Rattle.walk.specs.inner.Steps.{Given, given, count, State, state, Taken, Underway}
+use Rattle.walk.specs.inner.Steps.{Given, given, trianglesIn, State, state, Taken, Underway}
 use Rattle.walk.proofs.Turns.{underway-none, underway-next, ready}
 use borrow.Author.Needs.{needs}
 use native.Mathlib.Omega.{arith}
@@ -74,7 +74,7 @@ loop-again c =
 returns : tie.Need-returns Inv-loop μ-loop
 returns c =
     let at = c .before in
-    let e : at .loop .t - 2 ≡ count (the at) = omega (arith, at .loop .inv .0) in
+    let e : at .loop .t - 2 ≡ trianglesIn (the at) = omega (arith, at .loop .inv .0) in
     subst (λ (k : ℕ). Taken (the at) k (here at)) e (at .loop .inv .3 .taken)
 
 pub take-all-spec : {M : Type 1} → statement M

@@ -28,8 +28,8 @@ pub record Given : Type 0 where
 abbrev pub given : List Float → List Float → Thresholds → List ℕ → List Float → Given
 given vs o pair ids area = record { vs = vs; o = o; pair = pair; ids = ids; area = area }
 
-abbrev pub count : Given → ℕ
-count g = triangleCount (g .ids)
+abbrev pub trianglesIn : Given → ℕ
+trianglesIn g = triangleCount (g .ids)
 
 abbrev pub partAt : Given → ℕ → Part
 partAt g n = part (g .vs) (g .o) (triangle (g .ids) n)
@@ -60,7 +60,7 @@ pub record Takes (m : ℕ) (pair : Thresholds) (p : Part) (s r : State) : Type 0
 pub record Taken (g : Given) (n : ℕ) (s : State) : Type 0 where
   pub totals : s .sums .totals ≡ totalsTo (g .vs) (g .o) (g .pair) (g .ids) n
   pub rows : s .sums .rows ≡ length (bucketsOf g n)
-  pub means : Gathered (count g) (g .area) (s .index) (s .rows) (bucketsOf g n)
+  pub means : Gathered (trianglesIn g) (g .area) (s .index) (s .rows) (bucketsOf g n)
 
 -- p is the part of the triangle behind n - 1 others, and that of none where n is 0
 unfoldable pub Awaits : Given → ℕ → Part → Type 0
@@ -70,6 +70,6 @@ Awaits g (suc n) p = p ≡ partAt g n
 -- after n turns: q has the cross product of the last triangle, p the length of the one in front of it, and those in front of that are taken
 pub record Underway (g : Given) (n : ℕ) (s : State) (p q : Prepared) : Type 0 where
   pub rooted : HasRoot p
-  pub crossed : n ≤ count g → Awaits g n (partIn q)
-  pub prepared : n - 1 ≤ count g → Awaits g (n - 1) (partBy p)
+  pub crossed : n ≤ trianglesIn g → Awaits g n (partIn q)
+  pub prepared : n - 1 ≤ trianglesIn g → Awaits g (n - 1) (partBy p)
   pub taken : Taken g (n - 2) s

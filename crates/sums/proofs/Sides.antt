@@ -45,23 +45,17 @@ side-neg s b (fin t m e) w = record { most = λ h. w .most (turned t s h) }
     turned false s h = ap not h
 
 -- ---- rounding
+minus-plus : (x : Float) → T (plus x) → (isMinus x ≡ false) × (isMinus (neg x) ≡ true)
+unfolding neg
+minus-plus nan p = absurd p
+minus-plus (inf true) p = absurd p
+minus-plus (inf false) p = (refl, refl)
+minus-plus (fin true m e) p = absurd p
+minus-plus (fin false m e) p = (refl, refl)
+
 minus-round : (f : Format) (s : Bool) (a c : ℕ) → isMinus (round f s a c) ≡ s
-minus-round f false a c = of-plus (round f false a c) (plus-round f a c)
-  where
-    of-plus : (x : Float) → T (plus x) → isMinus x ≡ false
-    of-plus nan p = absurd p
-    of-plus (inf true) p = absurd p
-    of-plus (inf false) p = refl
-    of-plus (fin true m e) p = absurd p
-    of-plus (fin false m e) p = refl
-minus-round f true a c = rw (← round-neg f false a c) (of-plus (round f false a c) (plus-round f a c))
-  where
-    of-plus : (x : Float) → T (plus x) → isMinus (neg x) ≡ true
-    of-plus nan p = absurd p
-    of-plus (inf true) p = absurd p
-    of-plus (inf false) p = unfold neg in refl
-    of-plus (fin true m e) p = absurd p
-    of-plus (fin false m e) p = unfold neg in refl
+minus-round f false a c = minus-plus (round f false a c) (plus-round f a c) .0
+minus-round f true a c = rw (← round-neg f false a c) (minus-plus (round f false a c) (plus-round f a c) .1)
 
 pub side-round : (f : Format) (b : ℕ) → Value f b → (s t : Bool) (a c : ℕ) → 0 < c → (t ≡ s → a ≤ b * c) → Side s b (round f t a c)
 side-round f b v s t a c C h = record { most = λ e. within-value f b v t a c C (h (sym (minus-round f t a c) ∙ e)) .small }
@@ -173,16 +167,10 @@ module _ (f : Format) (t : Bool) (m : ℕ) (e : ℤ) (u : Bool) (n : ℕ) (d : �
   greater l = by-ranks true (λ z Z g. risen t u (a + b) z a b Z (omega arith) g (at-most u b t a l))
 
 -- a number less one that is no less is not above zero; less one that is no greater it is not below zero
-pub sub-lesser : (f : Format) (x y : Float) → T (finite x) → T (finite y) → T (le x y) → Side false 0 (sub f x y)
-sub-lesser f nan y X Y l = absurd X
-sub-lesser f (inf t) y X Y l = absurd X
-sub-lesser f (fin t m e) nan X Y l = absurd Y
-sub-lesser f (fin t m e) (inf u) X Y l = absurd Y
-sub-lesser f (fin t m e) (fin u n d) X Y l = lesser f t m e u n d l
-
-pub sub-greater : (f : Format) (x y : Float) → T (finite x) → T (finite y) → T (le y x) → Side true 0 (sub f x y)
-sub-greater f nan y X Y l = absurd X
-sub-greater f (inf t) y X Y l = absurd X
-sub-greater f (fin t m e) nan X Y l = absurd Y
-sub-greater f (fin t m e) (inf u) X Y l = absurd Y
-sub-greater f (fin t m e) (fin u n d) X Y l = greater f t m e u n d l
+pub sub-sides : (f : Format) (x y : Float) → T (finite x) → T (finite y)
+    → (T (le x y) → Side false 0 (sub f x y)) × (T (le y x) → Side true 0 (sub f x y))
+sub-sides f nan y X Y = absurd X
+sub-sides f (inf t) y X Y = absurd X
+sub-sides f (fin t m e) nan X Y = absurd Y
+sub-sides f (fin t m e) (inf u) X Y = absurd Y
+sub-sides f (fin t m e) (fin u n d) X Y = (lesser f t m e u n d, greater f t m e u n d)

@@ -19,7 +19,7 @@ use Rattle.sums.specs.Facet.{partOf, rebased, part}
 use Rattle.sums.specs.Fine.{allFine, fine}
 use Rattle.sums.proofs.FineBoxes.{box-fine, coordinate-fine, fine-within, lowest-le}
 use Rattle.sums.proofs.Parts.{corners-are}
-use Rattle.sums.proofs.Sides.{sub-greater}
+use Rattle.sums.proofs.Sides.{sub-sides}
 use Rattle.sums.proofs.VolumeTerm.{Octant, Upto}
 use Rattle.sums.proofs.Within.{Within, within-both, within-most, within-mul, within-sub}
 
@@ -103,7 +103,7 @@ rebased-octant vs v h l =
         let O = fine-within o p in
         record {
           within = within-sub binary64 33 x o (lit≤ tt) X O;
-          above = sub-greater binary64 x o (X .finite-is) (O .finite-is) (lowest-le vs h axis a (vertexCount vs) v (omega arith) l);
+          above = sub-sides binary64 x o (X .finite-is) (O .finite-is) .1 (lowest-le vs h axis a (vertexCount vs) v (omega arith) l);
         }
 
 -- what all facets of such corners have, a used one has

@@ -17,7 +17,7 @@ use Rattle.ieee.specs.Double.{_⊞_, _⊟_, _⊠_}
 use Rattle.ieee.proofs.Order.Monotone.{rises}
 use Rattle.ieee.proofs.Order.Signed.{AtMost}
 use Rattle.sums.specs.Facet.{at, cross, dot}
-use Rattle.sums.proofs.Sides.{Side, side-add, side-mul, side-neg, sides-within, sub-lesser, sub-greater, within-side}
+use Rattle.sums.proofs.Sides.{Side, side-add, side-mul, side-neg, sides-within, sub-sides, within-side}
 use Rattle.sums.proofs.Within.{Within, power-value, within-both, within-most, within-mul, within-neg, within-sub, zero-value}
 
 -- ---- a number from 0 to b
@@ -114,12 +114,12 @@ module _ (x y z w : Float) (X : Upto (2 ^ 34) x) (Y : Upto (2 ^ 34) y) (Z : Upto
 
   lesser-side : ahead x y z w ≤ ahead z w x y → Side false 0 (x ⊠ y ⊟ z ⊠ w)
   lesser-side l =
-      sub-lesser binary64 (x ⊠ y) (z ⊠ w) (product-upto x y X Y .within .finite-is) (product-upto z w Z W .within .finite-is)
+      sub-sides binary64 (x ⊠ y) (z ⊠ w) (product-upto x y X Y .within .finite-is) (product-upto z w Z W .within .finite-is) .0
       (products-le binary64 (2 ^ 34) x y z w X Y Z W l)
 
   greater-side : ahead z w x y ≤ ahead x y z w → Side true 0 (x ⊠ y ⊟ z ⊠ w)
   greater-side l =
-      sub-greater binary64 (x ⊠ y) (z ⊠ w) (product-upto x y X Y .within .finite-is) (product-upto z w Z W .within .finite-is)
+      sub-sides binary64 (x ⊠ y) (z ⊠ w) (product-upto x y X Y .within .finite-is) (product-upto z w Z W .within .finite-is) .1
       (products-le binary64 (2 ^ 34) z w x y Z W X Y l)
 
 -- ---- corners of such numbers

@@ -10,7 +10,7 @@ use lib.Ieee.{Float, binary32}
 use Rattle.ieee.specs.Order.{least, greatest}
 use Rattle.ieee.specs.Single.{extent}
 use Rattle.vertices.specs.Vertices.{vertexCount, coordinate}
-use Rattle.sums.specs.declared.Bounds.{Bounds}
+use Rattle.sums.specs.declared.bounds.Bounds.{Bounds}
 use Rattle.sums.specs.Box.{lowest, highest, box, boxTo, boxVolume}
 use Rattle.place.specs.Moved.{Moved}
 use Rattle.place.proofs.Shifted.{Shifted, same-sub, least-shifted, greatest-shifted, least-first, greatest-first}

@@ -1,7 +1,7 @@
 -- Triangles are rebased by the box, so each adds the same where the mesh is moved; so do all of them, to the totals and to the surfaces.
 -- Assumes nothing.
 use mathlib.Core.Path.{_≡_, refl}
-use mathlib.Core.Bool.{Bool, true, false, _&&_}
+use mathlib.Core.Bool.{Bool, true, false, _&&_, cond}
 use mathlib.Core.List.{List}
 use Prim.Native.Nat.{ℕ, zero, suc, _+_, _*_, _<_}
 use lib.Dec.{T, lit<, ltb→lt}
@@ -10,10 +10,10 @@ use lib.ListN.{length}
 use lib.Ieee.{Float, binary64}
 use Rattle.ids.specs.Triangles.{Triangle, triangle}
 use Rattle.vertices.specs.Vertices.{inRange, cornersInRange, coordinate}
-use Rattle.sums.specs.declared.Bounds.{Bounds}
-use Rattle.sums.specs.declared.Thresholds.{Thresholds}
+use Rattle.sums.specs.declared.bounds.Bounds.{Bounds}
+use Rattle.sums.specs.declared.totals.Thresholds.{Thresholds}
 use Rattle.sums.specs.Box.{origin}
-use Rattle.sums.specs.Facet.{rebased, corners, ifInRange, partOf, part}
+use Rattle.sums.specs.Facet.{outOfRange, rebased, rebasedCorners, partOf, part}
 use Rattle.sums.specs.Totals.{totalsTo}
 use Rattle.walk.specs.Walk.{bucketsTo}
 use Rattle.place.specs.Moved.{Moved}
@@ -39,7 +39,8 @@ module _ (dx dy dz : ℤ) (vs vs′ : List Float) (m : Moved dx dy dz vs vs′) 
   same-part t = rw (m .lengths) (go (inRange vs (t .a)) (inRange vs (t .b)) (inRange vs (t .c)) (ltb→lt _ _) (ltb→lt _ _) (ltb→lt _ _))
     where
       go : (p q r : Bool) → (T p → 3 * t .a + 2 < length vs) → (T q → 3 * t .b + 2 < length vs) → (T r → 3 * t .c + 2 < length vs)
-          → ifInRange (p && (q && r)) (partOf (corners vs′ (origin b′) t)) ≡ ifInRange (p && (q && r)) (partOf (corners vs (origin b) t))
+          → cond (p && (q && r)) (partOf (rebasedCorners vs′ (origin b′) t)) outOfRange
+          ≡ cond (p && (q && r)) (partOf (rebasedCorners vs (origin b) t)) outOfRange
       go false q r f g h = refl
       go true false r f g h = refl
       go true true false f g h = refl

@@ -30,7 +30,7 @@ use Rattle.refusals.specs.Refusals.{checkOf, unitFits}
 use Rattle.vertices.specs.Areas.{workWords}
 use Rattle.qto.specs.Full.{best, buckets, measures, measuresFrom, recordBy, recordFrom, recordOf, surfaceOf, surfaceRows, totals, verdict}
 use Rattle.qto.specs.Full.{volumeOf}
-use Rattle.meshfile.specs.Format.{File, ended, endingOf, fileOf, frontOf, u16At, idsIn, lengthFits, unitIn, verticesIn, u32At, words}
+use Rattle.meshfile.specs.Format.{File, ended, endingOf, fileOf, frontOf, u16At, idsIn, lengthFits, unitIn, verticesIn, u32At, wordsIn}
 use Rattle.meshfile.specs.Reading.{floatsOf}
 use Rattle.meshfile.specs.Written.{allBytes, bytesOf, plainFile, chunkOf}
 use Rattle.listing.specs.Cube.{cubeRecord, cubeRows, CubeLines}
@@ -39,7 +39,7 @@ use Rattle.program.specs.Program.{listed, meshText, textAt, textFor, tex
 use Rattle.program.specs.Cube.{cubeFile, CubePrinted}
 
 cube-file : fileOf (plainFile cubeFile) ≡ File.Holds cubeFile
-unfolding cubeFile plainFile chunkOf allBytes bytesOf fileOf frontOf u16At u32At words lengthFits unitIn verticesIn idsIn ended endingOf
+unfolding cubeFile plainFile chunkOf allBytes bytesOf fileOf frontOf u16At u32At wordsIn lengthFits unitIn verticesIn idsIn ended endingOf
 cube-file = refl
 
 cube-passes : checkOf (floatsOf (cubeFile .vertices)) (cubeFile .ids) (ofBits binary32 (cubeFile .unit)) 13824 65536 2048 ≡ Check.Full

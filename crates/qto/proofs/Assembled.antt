@@ -5,7 +5,7 @@ use Prim.Native.Nat.{ℕ}
 use lib.Ieee.{Float}
 use Rattle.ieee.specs.Magnitude.{magnitude}
 use Rattle.ieee.specs.Single.{_⊗_}
-use Rattle.sums.specs.declared.Bounds.{Bounds}
+use Rattle.sums.specs.declared.bounds.Bounds.{Bounds}
 use Rattle.sums.specs.Box.{box, boxVolume}
 use Rattle.weld.specs.Weld.{epsilonOf}
 use Rattle.verdict.specs.declared.Quality.{Quality}

@@ -19,7 +19,7 @@ use Rattle.ieee.specs.Single.{_⊗_, nought}
 use Rattle.ieee.specs.Double.{_⊠_, _⧄_}
 use Rattle.ieee.proofs.Order.Extremes.{least-from}
 use Rattle.ids.specs.Triangles.{triangleCount}
-use Rattle.sums.specs.declared.Totals.{Totals}
+use Rattle.sums.specs.declared.totals.Totals.{Totals}
 use Rattle.sums.specs.Box.{box, boxVolume}
 use Rattle.sums.specs.Totals.{thresholds}
 use Rattle.sums.proofs.FineBoxes.{box-fine, box-volume-within}

@@ -13,8 +13,8 @@ use Rattle.ieee.specs.Single.{_⊗_}
 use Rattle.ieee.specs.Double.{_⊠_, _⧄_}
 use Rattle.ids.specs.Lent.{mostEntries}
 use Rattle.ids.specs.Triangles.{triangleCount}
-use Rattle.sums.specs.declared.Bounds.{Bounds}
-use Rattle.sums.specs.declared.Thresholds.{Thresholds}
+use Rattle.sums.specs.declared.bounds.Bounds.{Bounds}
+use Rattle.sums.specs.declared.totals.Thresholds.{Thresholds}
 use Rattle.sums.specs.Box.{box, origin}
 use Rattle.sums.specs.Fine.{allFine}
 use Rattle.sums.specs.Totals.{thresholds}
@@ -28,7 +28,7 @@ use Rattle.rows.proofs.Order.{length-sorted}
 use Rattle.surfaces.specs.Surfaces.{rows}
 use Rattle.surfaces.proofs.Keys.{length-rows}
 use Rattle.walk.specs.declared.Sums.{Sums}
-use Rattle.walk.specs.Walk.{Walks}
+use Rattle.walk.specs.inner.Walks.{Walks}
 use Rattle.walk.proofs.Worth.{buckets-plain}
 use Rattle.refusals.specs.Refusals.{unitFits, Passes}
 use Rattle.qto.specs.declared.Extremes.{Extremes}

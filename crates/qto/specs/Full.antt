@@ -8,7 +8,7 @@ use Rattle.ieee.specs.Rounded.{rounded}
 use Rattle.ieee.specs.Single.{_⊗_}
 use Rattle.ieee.specs.Double.{_⊠_, _⧄_}
 use Rattle.ids.specs.Triangles.{triangleCount}
-use Rattle.sums.specs.declared.Totals.{Totals}
+use Rattle.sums.specs.declared.totals.Totals.{Totals}
 use Rattle.sums.specs.Box.{box, origin, boxVolume}
 use Rattle.sums.specs.Totals.{thresholds, totalsTo}
 use Rattle.rows.specs.declared.PlanarSurface.{PlanarSurface}

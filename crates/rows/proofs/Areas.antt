@@ -26,14 +26,17 @@ scaledTo by zero l = l
 scaledTo by (suc i) [] = []
 scaledTo by (suc i) (r ∷ l) = scaledRow by r ∷ scaledTo by i l
 
-scaled-suc : (by : Float) (i : ℕ) (l : List PlanarSurface) → i < length l → set (scaledTo by i l) i (scaledRow by (rowAt (scaledTo by i l) i)) ≡ scaledTo by (suc i) l
+scaled-suc : (by : Float) (i : ℕ) (l : List PlanarSurface) → i < length l
+    → set (scaledTo by i l) i (scaledRow by (rowAt (scaledTo by i l) i)) ≡ scaledTo by (suc i) l
 unfolding scaledTo
 scaled-suc by i [] h = absurd (omega arith)
 scaled-suc by zero (r ∷ l) h = refl
 scaled-suc by (suc i) (r ∷ l) h = ap (λ (m : List PlanarSurface). scaledRow by r ∷ m) (scaled-suc by i l (omega arith))
 
-pub scaled-next : (by : Float) (i : ℕ) (l m u : List PlanarSurface) → i < length l → m ≡ scaledTo by i l → u ≡ set m i (scaledRow by (rowAt m i)) → u ≡ scaledTo by (i + 1) l
-scaled-next by i l m u h e q = q ∙ ap (λ (x : List PlanarSurface). set x i (scaledRow by (rowAt x i))) e ∙ scaled-suc by i l h ∙ rw (add-one i)
+pub scaled-next : (by : Float) (i : ℕ) (l m u : List PlanarSurface) → i < length l → m ≡ scaledTo by i l
+    → u ≡ set m i (scaledRow by (rowAt m i)) → u ≡ scaledTo by (i + 1) l
+scaled-next by i l m u h e q =
+    q ∙ ap (λ (x : List PlanarSurface). set x i (scaledRow by (rowAt x i))) e ∙ scaled-suc by i l h ∙ rw (add-one i)
 
 pub scaled-all : (by : Float) (i : ℕ) (l : List PlanarSurface) → length l ≤ i → scaledTo by i l ≡ scaled by l
 unfolding scaledTo scaled
@@ -69,9 +72,11 @@ less-taken m a h = rw h
 pub less-kept : (m a : Float) → lt noise a ≡ false → m ≡ lessAbove m a
 less-kept m a h = rw h
 
-pub least-next : (m a : Float) (i : ℕ) (l : List PlanarSurface) → i < length l → rowAt l i .area ≡ a → leastAbove (lessAbove m a) (drop (i + 1) l) ≡ leastAbove m (drop i l)
+pub least-next : (m a : Float) (i : ℕ) (l : List PlanarSurface) → i < length l → rowAt l i .area ≡ a
+    → leastAbove (lessAbove m a) (drop (i + 1) l) ≡ leastAbove m (drop i l)
 unfolding leastAbove
-least-next m a i l h e = rw (add-one i) (sym (ap (leastAbove m) (drop-cons l i noRow h) ∙ ap (λ (x : Float). leastAbove (lessAbove m x) (drop (suc i) l)) e))
+least-next m a i l h e =
+    rw (add-one i) (sym (ap (leastAbove m) (drop-cons l i noRow h) ∙ ap (λ (x : Float). leastAbove (lessAbove m x) (drop (suc i) l)) e))
 
 pub least-end : (m : Float) (i : ℕ) (l : List PlanarSurface) → length l ≤ i → leastAbove m (drop i l) ≡ m
 unfolding leastAbove

@@ -8,16 +8,17 @@ use native.Mathlib.Omega.{arith}
 use lib.ListN.{length, set, length-set}
 use lib.Seq.{getD-set-same, getD-set-other}
 use Rattle.rows.specs.declared.PlanarSurface.{PlanarSurface}
-use Rattle.rows.specs.Sorting.{noRow, rowAt, swapped, passing, SameRows}
+use Rattle.rows.specs.Sorting.{noRow, rowAt, passing, SameRows}
+use Rattle.rows.specs.inner.Passes.{swapped}
 
 abbrev pub one : Bool → ℕ
 one b = cond b 1 0
 
-pub same-rows : (l : List PlanarSurface) → SameRows l l
-same-rows l = record { long = refl; counted = λ p. refl }
+pub same-rows : {l : List PlanarSurface} → SameRows l l
+same-rows = record { long = refl; counted = λ p. refl }
 
-pub same-then : (l m n : List PlanarSurface) → SameRows l m → SameRows m n → SameRows l n
-same-then l m n a b = record { long = b .long ∙ a .long; counted = λ p. b .counted p ∙ a .counted p }
+pub same-then : {l m n : List PlanarSurface} → SameRows l m → SameRows m n → SameRows l n
+same-then a b = record { long = b .long ∙ a .long; counted = λ p. b .counted p ∙ a .counted p }
 
 -- ---- a row that is written, and two that change places
 
@@ -38,12 +39,14 @@ same-swapped l i j a b =
     there : rowAt (set l i (rowAt l j)) j ≡ rowAt l j
     there = elim (ℕ-discrete j i) [ yes e ↦ rw e (getD-set-same l i (rowAt l i) noRow a) | no n ↦ getD-set-other l i j (rowAt l j) noRow n ]
 
-    second : (p : PlanarSurface → Bool) → passing p (swapped l i j) + one (p (rowAt (set l i (rowAt l j)) j)) ≡ passing p (set l i (rowAt l j)) + one (p (rowAt l i))
+    second : (p : PlanarSurface → Bool)
+        → passing p (swapped l i j) + one (p (rowAt (set l i (rowAt l j)) j)) ≡ passing p (set l i (rowAt l j)) + one (p (rowAt l i))
     second p = passing-set p (set l i (rowAt l j)) j (rowAt l i) (omega (arith, length-set l i (rowAt l j)))
 
 -- r and s were read, then written each in the other's place
-pub swapped-by : (l m n : List PlanarSurface) (i j : ℕ) (r s : PlanarSurface) → r ≡ rowAt l i → s ≡ rowAt l j → m ≡ set l i s → n ≡ set m j r → n ≡ swapped l i j
-swapped-by l m n i j r s hr hs hm hn = rw (hn, hm, hr, hs)
+pub swapped-by : (l : List PlanarSurface) (i j : ℕ) {m n : List PlanarSurface} {r s : PlanarSurface} → r ≡ rowAt l i → s ≡ rowAt l j
+    → m ≡ set l i s → n ≡ set m j r → n ≡ swapped l i j
+swapped-by l i j hr hs hm hn = rw (hn, hm, hr, hs)
 
 module _ (l : List PlanarSurface) (i j : ℕ) (a : i < length l) (b : j < length l) where
   pub swapped-second : rowAt (swapped l i j) j ≡ rowAt l i
@@ -61,11 +64,13 @@ pub one-zero : (b : Bool) → one b ≡ 0 → b ≡ false
 one-zero true h = absurd (omega arith)
 one-zero false h = refl
 
-pub none-first : (p : PlanarSurface → Bool) (r : PlanarSurface) (l : List PlanarSurface) → passing p (r ∷ l) ≡ 0 → (p r ≡ false) × (passing p l ≡ 0)
+pub none-first : (p : PlanarSurface → Bool) (r : PlanarSurface) (l : List PlanarSurface) → passing p (r ∷ l) ≡ 0
+    → (p r ≡ false) × (passing p l ≡ 0)
 unfolding passing
 none-first p r l h = (one-zero (p r) (omega arith), omega arith)
 
-pub none-both : (p : PlanarSurface → Bool) (r : PlanarSurface) (l : List PlanarSurface) → p r ≡ false → passing p l ≡ 0 → passing p (r ∷ l) ≡ 0
+pub none-both : (p : PlanarSurface → Bool) (r : PlanarSurface) (l : List PlanarSurface) → p r ≡ false → passing p l ≡ 0
+    → passing p (r ∷ l) ≡ 0
 unfolding passing
 none-both p r l h k = rw (h, k)
 

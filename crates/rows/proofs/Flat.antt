@@ -51,7 +51,13 @@ next : (j k : ℕ) → 4 * suc j + k ≡ suc (suc (suc (suc (4 * j + k))))
 next j k = omega arith
 
 pub row-at : (t : List Float) (j : ℕ) → 4 * j + 4 ≤ length t
-    → rowAt (rowsOf t) j ≡ record { area = getD t (4 * j) nan; nx = getD t (4 * j + 1) nan; ny = getD t (4 * j + 2) nan; nz = getD t (4 * j + 3) nan }
+    → rowAt (rowsOf t) j ≡ record {
+      area = getD t (4 * j) nan;
+      nx = getD t (4 * j + 1) nan;
+      ny = getD t (4 * j + 2) nan;
+      nz =
+          getD t (4 * j + 3) nan;
+    }
 unfolding rowsOf
 row-at [] j h = absurd (omega arith)
 row-at (a ∷ []) j h = absurd (omega arith)

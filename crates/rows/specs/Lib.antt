@@ -1,3 +1,4 @@
 -- Surfaces (01): the rows of the surface area, and their order; what it means that rows are sorted, which says it all.
 pub mod Rows
 pub mod Sorting
+pub mod inner

@@ -76,14 +76,14 @@ smallest rs = cond (lt (leastAbove (inf false) rs) (inf false)) (leastAbove (inf
 
 -- ---- what can be put in order: numbers, and not -0, so that two of which neither is less are the same
 
-unfoldable pub plain : Float → Bool
-plain nan = false
-plain (inf s) = true
-plain (fin s zero e) = not s
-plain (fin s (suc m) e) = true
+unfoldable pub plainFloat : Float → Bool
+plainFloat nan = false
+plainFloat (inf s) = true
+plainFloat (fin s zero e) = not s
+plainFloat (fin s (suc m) e) = true
 
 unfoldable pub plainRow : PlanarSurface → Bool
-plainRow r = plain (r .area) && (plain (r .nx) && (plain (r .ny) && plain (r .nz)))
+plainRow r = plainFloat (r .area) && (plainFloat (r .nx) && (plainFloat (r .ny) && plainFloat (r .nz)))
 
 unfoldable pub allPlain : List PlanarSurface → Bool
 allPlain [] = true

@@ -1,16 +1,14 @@
--- What it means that rows are put in order: they are the same rows, counted, and none precedes one in front of it. Where the rows are plain and of
--- binary32 that leaves one list only, `sorted` (the theorems of the proofs' file `Order`).
+-- What it means that rows are put in order: they are the same rows, counted, and none precedes one in front of it. Where the rows are
+-- plain and of binary32 that leaves one list only, `sorted` (the theorems of the proofs' file `Order`).
 use mathlib.Core.Path.{_≡_}
 use mathlib.Core.Bool.{Bool, true, false, _&&_, cond}
 use mathlib.Core.List.{List, [], _∷_}
-use Prim.Native.Nat.{ℕ, suc, _+_, _<_}
+use Prim.Native.Nat.{ℕ, _+_, _<_}
 use lib.Dec.{T}
 use lib.Ieee.{nan, binary32, fits}
-use lib.ListN.{length, getD, set}
+use lib.ListN.{length, getD}
 use Rattle.rows.specs.declared.PlanarSurface.{PlanarSurface}
 use Rattle.rows.specs.Rows.{precedes, sorted, allPlain}
-
--- ---- places
 
 -- what stands past the end
 abbrev pub noRow : PlanarSurface
@@ -18,10 +16,6 @@ noRow = record { area = nan; nx = nan; ny = nan; nz = nan }
 
 abbrev pub rowAt : List PlanarSurface → ℕ → PlanarSurface
 rowAt l i = getD l i noRow
-
--- rows i and j have changed places
-abbrev pub swapped : List PlanarSurface → ℕ → ℕ → List PlanarSurface
-swapped l i j = set (set l i (rowAt l j)) j (rowAt l i)
 
 -- ---- the same rows
 
@@ -41,28 +35,19 @@ pub record SameRows (l m : List PlanarSurface) : Type 0 where
 abbrev pub Behind : List PlanarSurface → ℕ → ℕ → Type 0
 Behind l i k = precedes (rowAt l i) (rowAt l k) ≡ false
 
--- none of the first n rows precedes the one in front of it
-abbrev pub Rising : ℕ → List PlanarSurface → Type 0
-Rising n l = (k : ℕ) → suc k < n → Behind l (suc k) k
-
 -- no row precedes any in front of it
 abbrev pub InOrder : List PlanarSurface → Type 0
 InOrder l = (i j : ℕ) → i < j → j < length l → Behind l j i
 
--- the same rows, and the first n of them rising
-pub record Settled (n : ℕ) (l m : List PlanarSurface) : Type 0 where
-  pub same : SameRows l m
-  pub rising : Rising n m
-
 -- ---- the theorems
 
 -- the row's floats are of binary32, as all floats of a lent f32 slice are
-abbrev pub single : PlanarSurface → Bool
-single r = fits binary32 (r .area) && (fits binary32 (r .nx) && (fits binary32 (r .ny) && fits binary32 (r .nz)))
+abbrev pub singleRow : PlanarSurface → Bool
+singleRow r = fits binary32 (r .area) && (fits binary32 (r .nx) && (fits binary32 (r .ny) && fits binary32 (r .nz)))
 
 unfoldable pub allSingle : List PlanarSurface → Bool
 allSingle [] = true
-allSingle (r ∷ rs) = single r && allSingle rs
+allSingle (r ∷ rs) = singleRow r && allSingle rs
 
 abbrev pub SortedInOrder : Type 0
 SortedInOrder = (l : List PlanarSurface) → T (allPlain l) → InOrder (sorted l)

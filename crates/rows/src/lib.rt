@@ -1,10 +1,13 @@
-// The rows of planar surfaces in a lent area: scaled, put in order in place by n log n steps, and asked for the largest and the smallest. Internal: `qto` asks it.
+// The rows of planar surfaces in a lent area: scaled, put in order in place, and asked for the largest and the smallest. Internal: `qto`
+// asks it.
 ghost use mathlib.Core.Path.{_≡_};
 ghost use Prim.Native.Nat.{_+_, _*_, _≤_, _<_};
 ghost use lib.Dec.{T};
 ghost use lib.ListN.{length, set};
-ghost use Rattle.rows.specs.Rows.{flatten, rowsOf, thenBy, precedes as precedesOf, sorted, scaled, scaledRow, largest as largestOf, smallest as smallestOf, lessAbove, allPlain};
-ghost use Rattle.rows.specs.Sorting.{rowAt, swapped, SameRows, Rising, Settled};
+ghost use Rattle.rows.specs.Rows.{flatten, rowsOf, thenBy, precedes as precedesOf, sorted, scaled, scaledRow};
+ghost use Rattle.rows.specs.Rows.{largest as largestOf, smallest as smallestOf, lessAbove, allPlain};
+ghost use Rattle.rows.specs.Sorting.{rowAt};
+ghost use Rattle.rows.specs.inner.Passes.{Inside, Few, swapped, Keeps, Rising, AfterPass};
 
 // One planar surface: the summed area of the triangles with one key, and the key's direction.
 pub struct PlanarSurface {
@@ -36,7 +39,7 @@ fn precedes(r: PlanarSurface, s: PlanarSurface) -> bool
 // ---- one row
 
 fn get(rows: &[f32], j: usize) -> PlanarSurface
-    requires { ⌜ 4 * j + 4 ≤ length (now rows) ⌝ }
+    requires { ⌜ Inside j (now rows) ⌝ }
     ensures { λ r. ⌜ r ≡ rowAt (rowsOf (now (rows .entry))) j ⌝ }
 {
     let at = 4 * j;
@@ -49,7 +52,7 @@ fn get(rows: &[f32], j: usize) -> PlanarSurface
 }
 
 fn put(rows: &mut [f32], j: usize, r: PlanarSurface)
-    requires { ⌜ 4 * j + 4 ≤ length (now rows) ⌝ }
+    requires { ⌜ Inside j (now rows) ⌝ }
     ensures { λ _. ⌜ rowsOf (now (rows .exit)) ≡ set (rowsOf (now (rows .entry))) j r ⌝ }
 {
     let at = 4 * j;
@@ -61,7 +64,7 @@ fn put(rows: &mut [f32], j: usize, r: PlanarSurface)
 
 // Rows i and j change places.
 fn swap(rows: &mut [f32], i: usize, j: usize)
-    requires { ⌜ (4 * i + 4 ≤ length (now rows)) × (4 * j + 4 ≤ length (now rows)) ⌝ }
+    requires { ⌜ Inside i (now rows) × Inside j (now rows) ⌝ }
     ensures { λ _. ⌜ rowsOf (now (rows .exit)) ≡ swapped (rowsOf (now (rows .entry))) i j ⌝ }
 {
     let r = get(rows, i);
@@ -72,7 +75,7 @@ fn swap(rows: &mut [f32], i: usize, j: usize)
 
 // Does row i precede row j?
 fn ahead(rows: &[f32], i: usize, j: usize) -> bool
-    requires { ⌜ (4 * i + 4 ≤ length (now rows)) × (4 * j + 4 ≤ length (now rows)) ⌝ }
+    requires { ⌜ Inside i (now rows) × Inside j (now rows) ⌝ }
     ensures { λ b. ⌜ b ≡ precedesOf (rowAt (rowsOf (now (rows .entry))) i) (rowAt (rowsOf (now (rows .entry))) j) ⌝ }
 {
     precedes(get(rows, i), get(rows, j))
@@ -80,10 +83,10 @@ fn ahead(rows: &[f32], i: usize, j: usize) -> bool
 
 // ---- a quick sort, but for parts of 16 rows or fewer: proved to lose and to double no row, which is all that the last pass needs
 
-// Of the rows at a quarter, at half and at three quarters of the way from a to b, the one that comes between the other two. Not of the ends: what `divide`
-// leaves of rows in order has its last one first.
+// Of the rows at a quarter, at half and at three quarters of the way from a to b, the one that comes between the other two. Not of the
+// ends: what `divide` leaves of rows in order has its last one first.
 fn middle(rows: &[f32], a: usize, b: usize) -> usize
-    requires { ⌜ (a < b) × (b ≤ 32768) × (4 * b ≤ length (now rows)) ⌝ }
+    requires { ⌜ (a < b) × Few b (now rows) ⌝ }
     ensures { λ r. ⌜ (a ≤ r) × (r < b) ⌝ }
 {
     let quarter = (b - a) / 4;
@@ -113,11 +116,11 @@ fn before(r: PlanarSurface, s: PlanarSurface) -> usize
     if precedes(r, s) { 1 } else { 0 }
 }
 
-// The rows behind row a and in front of b that precede row a come first of these: where the last of them stands, or a. All change places, whether they precede
-// it or not: a processor would guess a branch here wrongly every other time.
+// The rows behind row a and in front of b that precede row a come first of these: where the last of them stands, or a. All change places,
+// whether they precede it or not: a processor would guess a branch here wrongly every other time.
 fn divide(rows: &mut [f32], a: usize, b: usize) -> usize
-    requires { ⌜ (a < b) × (b ≤ 32768) × (4 * b ≤ length (now rows)) ⌝ }
-    ensures { λ r. ⌜ (a ≤ r) × (r < b) × SameRows (rowsOf (now (rows .entry))) (rowsOf (now (rows .exit))) ⌝ }
+    requires { ⌜ (a < b) × Few b (now rows) ⌝ }
+    ensures { λ r. ⌜ (a ≤ r) × (r < b) × Keeps (now (rows .entry)) (now (rows .exit)) ⌝ }
 {
     let p = get(rows, a);
     let mut last = a;
@@ -133,8 +136,8 @@ fn divide(rows: &mut [f32], a: usize, b: usize) -> usize
 
 // The middle one goes to where it belongs among rows a to b, those that precede it in front of it: where that is.
 fn split(rows: &mut [f32], a: usize, b: usize) -> usize
-    requires { ⌜ (a < b) × (b ≤ 32768) × (4 * b ≤ length (now rows)) ⌝ }
-    ensures { λ r. ⌜ (a ≤ r) × (r < b) × SameRows (rowsOf (now (rows .entry))) (rowsOf (now (rows .exit))) ⌝ }
+    requires { ⌜ (a < b) × Few b (now rows) ⌝ }
+    ensures { λ r. ⌜ (a ≤ r) × (r < b) × Keeps (now (rows .entry)) (now (rows .exit)) ⌝ }
 {
     let m = middle(rows, a, b);
     swap(rows, a, m);
@@ -145,8 +148,8 @@ fn split(rows: &mut [f32], a: usize, b: usize) -> usize
 
 // Splits the rows from a to b, and what is in front and behind, until the parts are small. False where they are not after so many turns.
 fn quick(rows: &mut [f32], a: usize, b: usize, turns: usize) -> bool
-    requires { ⌜ (a ≤ b) × (b ≤ 32768) × (4 * b ≤ length (now rows)) ⌝ }
-    ensures { λ _. ⌜ SameRows (rowsOf (now (rows .entry))) (rowsOf (now (rows .exit))) ⌝ }
+    requires { ⌜ (a ≤ b) × Few b (now rows) ⌝ }
+    ensures { λ _. ⌜ Keeps (now (rows .entry)) (now (rows .exit)) ⌝ }
 {
     if b - a <= 16 {
         return true;
@@ -161,109 +164,47 @@ fn quick(rows: &mut [f32], a: usize, b: usize, turns: usize) -> bool
     quick(rows, p + 1, b, turns - 1)
 }
 
-// ---- a heap sort for rows that are split badly every time, so that no rows take the square of their number. Row k has the children 2k + 1 and 2k + 2, and precedes neither.
+// ---- passes by insertion: rows a gap apart are put in order. The last pass, with a gap of 1, is what proves the order
 
-// Of the children of row i in a heap of n rows the one that comes last; n where it has none.
-fn child(rows: &[f32], i: usize, n: usize) -> usize
-    requires { ⌜ (i < n) × (n ≤ 32768) × (4 * n ≤ length (now rows)) ⌝ }
-    ensures { λ r. ⌜ (i < r) × (r ≤ n) ⌝ }
+// Row i goes back by gaps, past the rows that it precedes; those in front of it are in order.
+fn settle(rows: &mut [f32], i: usize, gap: usize)
+    requires { ⌜ Inside i (now rows) × (0 < gap) × Rising gap i (rowsOf (now rows)) ⌝ }
+    ensures { λ _. ⌜ AfterPass gap (i + 1) (now (rows .entry)) (now (rows .exit)) ⌝ }
 {
-    let left = 2 * i + 1;
-    if left >= n {
-        return n;
-    }
-    let right = left + 1;
-    if right >= n {
-        return left;
-    }
-    if ahead(rows, left, right) {
-        right
-    } else {
-        left
-    }
-}
-
-// Row start sinks in the heap of n rows until no child comes after it.
-fn sink(rows: &mut [f32], start: usize, n: usize)
-    requires { ⌜ (start < n) × (n ≤ 32768) × (4 * n ≤ length (now rows)) ⌝ }
-    ensures { λ _. ⌜ SameRows (rowsOf (now (rows .entry))) (rowsOf (now (rows .exit))) ⌝ }
-{
-    let mut i = start;
-    while i < n {
-        let below = child(rows, i, n);
-        if below >= n {
+    let mut j = i;
+    while j >= gap {
+        if !ahead(rows, j, j - gap) {
             return;
         }
-        if !ahead(rows, i, below) {
-            return;
-        }
-        swap(rows, i, below);
-        i = below;
+        swap(rows, j - gap, j);
+        j -= gap;
     }
 }
 
-// The first n rows become a heap.
-fn heap(rows: &mut [f32], n: usize)
-    requires { ⌜ (n ≤ 32768) × (4 * n ≤ length (now rows)) ⌝ }
-    ensures { λ _. ⌜ SameRows (rowsOf (now (rows .entry))) (rowsOf (now (rows .exit))) ⌝ }
+fn insertion(rows: &mut [f32], n: usize, gap: usize)
+    requires { ⌜ (0 < gap) × Few n (now rows) ⌝ }
+    ensures { λ _. ⌜ AfterPass gap n (now (rows .entry)) (now (rows .exit)) ⌝ }
 {
-    let mut i = n / 2;
-    while i > 0 {
-        i -= 1;
-        sink(rows, i, n);
+    let mut next = 0;
+    while next < n {
+        settle(rows, next, gap);
+        next += 1;
     }
 }
 
-// The last row of the heap goes behind it, until one is left.
-fn unheap(rows: &mut [f32], n: usize)
-    requires { ⌜ (n ≤ 32768) × (4 * n ≤ length (now rows)) ⌝ }
-    ensures { λ _. ⌜ SameRows (rowsOf (now (rows .entry))) (rowsOf (now (rows .exit))) ⌝ }
-{
-    let mut end = n;
-    while end > 1 {
-        end -= 1;
-        swap(rows, 0, end);
-        sink(rows, 0, end);
-    }
-}
-
-// Puts the rows in order, but for what the last pass does.
+// Puts the rows in order, but for what the last pass does. Rows that are split badly every time are left to passes with smaller and
+// smaller gaps, each a third of the one before (9841, 3280, .. 13, 4), so that no rows take the square of their number.
 fn presort(rows: &mut [f32], n: usize)
-    requires { ⌜ (n ≤ 32768) × (4 * n ≤ length (now rows)) ⌝ }
-    ensures { λ _. ⌜ SameRows (rowsOf (now (rows .entry))) (rowsOf (now (rows .exit))) ⌝ }
+    requires { ⌜ Few n (now rows) ⌝ }
+    ensures { λ _. ⌜ Keeps (now (rows .entry)) (now (rows .exit)) ⌝ }
 {
     if quick(rows, 0, n, 32) {
         return;
     }
-    heap(rows, n);
-    unheap(rows, n);
-}
-
-// ---- a last pass, which moves a row by a few places: what proves the order
-
-// Row i goes among those in front of it, which are in order.
-fn settle(rows: &mut [f32], i: usize)
-    requires { ⌜ (4 * i + 4 ≤ length (now rows)) × Rising i (rowsOf (now rows)) ⌝ }
-    ensures { λ _. ⌜ Settled (i + 1) (rowsOf (now (rows .entry))) (rowsOf (now (rows .exit))) ⌝ }
-{
-    let mut j = i;
-    while j > 0 {
-        if !ahead(rows, j, j - 1) {
-            return;
-        }
-        swap(rows, j - 1, j);
-        j -= 1;
-    }
-}
-
-fn insertion(rows: &mut [f32], n: usize)
-    requires { ⌜ (n ≤ 32768) × (4 * n ≤ length (now rows)) ⌝ }
-    ensures { λ _. ⌜ Settled n (rowsOf (now (rows .entry))) (rowsOf (now (rows .exit))) ⌝ }
-{
-    let mut next = 0;
-    while next < n {
-        settle(rows, next);
-        next += 1;
+    let mut gap = 9841;
+    while gap > 1 {
+        insertion(rows, n, gap);
+        gap /= 3;
     }
 }
 
@@ -272,15 +213,16 @@ pub fn sort(rows: &mut [f32], n: usize)
     ensures { λ _. ⌜ now (rows .exit) ≡ flatten (sorted (rowsOf (now (rows .entry)))) ⌝ }
 {
     presort(rows, n);
-    insertion(rows, n);
+    insertion(rows, n, 1);
 }
 
 // ---- areas
 
 // Row j's area times `by`.
 fn scale_row(rows: &mut [f32], j: usize, by: f32)
-    requires { ⌜ 4 * j + 4 ≤ length (now rows) ⌝ }
-    ensures { λ _. ⌜ rowsOf (now (rows .exit)) ≡ set (rowsOf (now (rows .entry))) j (scaledRow by (rowAt (rowsOf (now (rows .entry))) j)) ⌝ }
+    requires { ⌜ Inside j (now rows) ⌝ }
+    ensures { λ _. ⌜ rowsOf (now (rows .exit))
+        ≡ set (rowsOf (now (rows .entry))) j (scaledRow by (rowAt (rowsOf (now (rows .entry))) j)) ⌝ }
 {
     let r = get(rows, j);
     put(

@@ -9,10 +9,9 @@ use lib.Ieee.Fits.{add-fits}
 use Rattle.ieee.specs.Rounded.{rounded}
 use Rattle.ieee.specs.Double.{_⊞_, _⊠_}
 use Rattle.ids.specs.Triangles.{Triangle}
-use Rattle.sums.specs.declared.Facet.{Facet}
-use Rattle.sums.specs.declared.Part.{Part}
+use Rattle.sums.specs.declared.triangle.Facet.{Facet}
 use Rattle.sums.specs.Box.{box, origin}
-use Rattle.sums.specs.Facet.{at, dot, corner, normal, size, tetra, half64, facetOf, part, plus}
+use Rattle.sums.specs.Facet.{used, at, dot, corner, normal, size, tetra, half64, facetOf, part, plus}
 use Rattle.sums.specs.Fine.{allFine}
 use Rattle.sums.proofs.Plus.{plus-add, plus-mul-left, plus-root, plus-rounded, plus-square}
 use Rattle.sums.proofs.Roots.{within-root}
@@ -27,7 +26,8 @@ dot-plus b n p =
     let y = at n 1 in
     let z = at n 2 in
     plus-add binary64 (x ⊠ x ⊞ y ⊠ y) (z ⊠ z)
-    (plus-add binary64 (x ⊠ x) (y ⊠ y) (plus-square binary64 x (within-number b x (p .x))) (plus-square binary64 y (within-number b y (p .y))))
+    (plus-add binary64 (x ⊠ x) (y ⊠ y) (plus-square binary64 x (within-number b x (p .x)))
+    (plus-square binary64 y (within-number b y (p .y))))
     (plus-square binary64 z (within-number b z (p .z)))
 
 size-plus : (b : ℕ) (n : List Float) → Three b n → T (plus (size n))
@@ -42,13 +42,14 @@ facet-plus : (t : List (List Float)) → Small t → T (plus (facetOf t (normal 
 unfolding facetOf
 facet-plus t p = area-plus (size (normal t)) (size-plus (2 ^ 71) (normal t) (normal-three t p))
 
-pub part-plus : (vs : List Float) (t : Triangle) (f : Facet) → T (allFine vs) → part vs (origin (box vs)) t ≡ Part.Used f → T (plus (f .area32))
+pub part-plus : (vs : List Float) (t : Triangle) (f : Facet) → T (allFine vs) → part vs (origin (box vs)) t ≡ used f → T (plus (f .area32))
 part-plus = part-has (λ f. T (plus (f .area32))) facet-plus
 
 -- ---- nor large
 size-within : (n : List Float) → Three (2 ^ 71) n → Within (2 ^ 72) (size n)
 unfolding size
-size-within n p = within-root binary64 72 (lit≤ tt) (dot n n) (add-fits binary64 _ _) (dot-plus (2 ^ 71) n p) (dot-three 71 71 n n (lit≤ tt) p p)
+size-within n p =
+    within-root binary64 72 (lit≤ tt) (dot n n) (add-fits binary64 _ _) (dot-plus (2 ^ 71) n p) (dot-three 71 71 n n (lit≤ tt) p p)
 
 half-within : Within (2 ^ 0) half64
 unfolding ofBits
@@ -71,7 +72,12 @@ unfolding facetOf
 facet-within t p =
     let l = size (normal t) in
     let a = area-within l (size-within (normal t) (normal-three t p)) in
-    record { area = a; area32 = within-rounded binary32 (2 ^ 72) (power-value binary32 72 (lit≤ tt)) (half64 ⊠ l) a; volume = tetra-within t p }
+    record {
+      area = a;
+      area32 = within-rounded binary32 (2 ^ 72) (power-value binary32 72 (lit≤ tt)) (half64 ⊠ l) a;
+      volume =
+          tetra-within t p;
+    }
 
-pub part-within : (vs : List Float) (t : Triangle) (f : Facet) → T (allFine vs) → part vs (origin (box vs)) t ≡ Part.Used f → Adds f
+pub part-within : (vs : List Float) (t : Triangle) (f : Facet) → T (allFine vs) → part vs (origin (box vs)) t ≡ used f → Adds f
 part-within = part-has Adds facet-within

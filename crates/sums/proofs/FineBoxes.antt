@@ -1,4 +1,5 @@
--- A mesh that passes refusal 4 has a box of such numbers, once it has a vertex: each is one of its coordinates, and the least are below none. Its volume is up to 2^114. Assumes nothing.
+-- A mesh that passes refusal 4 has a box of such numbers, once it has a vertex: each is one of its coordinates, and the least are below
+-- none. Its volume is up to 2^114. Assumes nothing.
 use mathlib.Core.Path.{_≡_, refl}
 use mathlib.Core.Bool.{true, false, not}
 use mathlib.Core.List.{List, [], _∷_}
@@ -17,9 +18,10 @@ use Rattle.ieee.specs.Single.{_⊖_, _⊗_, nought, extent}
 use Rattle.ieee.proofs.Order.Comparison.{le-trans}
 use Rattle.ieee.proofs.Order.Extremes.{least-from, least-left, least-right, greatest-from}
 use Rattle.vertices.specs.Vertices.{vertexCount, coordinate}
-use Rattle.sums.specs.declared.Bounds.{Bounds}
+use Rattle.sums.specs.declared.bounds.Bounds.{Bounds}
 use Rattle.sums.specs.Box.{lowest, highest, boxTo, box, boxVolume}
-use Rattle.sums.specs.Fine.{fine, allFine, FineBox}
+use Rattle.sums.specs.Fine.{fine, allFine}
+use Rattle.sums.proofs.Boxes.{lowest-number}
 use Rattle.sums.proofs.Within.{Within, within-le, within-magnitude, within-mul, within-number, within-sub}
 
 -- ---- one coordinate
@@ -31,7 +33,8 @@ pub fine-within : (x : Float) → T (fine x) → Within (2 ^ 33) x
 unfolding magnitude le
 fine-within nan h = absurd h
 fine-within (inf s) h = within-magnitude (2 ^ 33) (inf s) (within-le (2 ^ 33) (inf false) (ofBits binary32 0x5000_0000) tt bound-value h)
-fine-within (fin s m e) h = within-magnitude (2 ^ 33) (fin s m e) (within-le (2 ^ 33) (fin false m e) (ofBits binary32 0x5000_0000) tt bound-value h)
+fine-within (fin s m e) h =
+    within-magnitude (2 ^ 33) (fin s m e) (within-le (2 ^ 33) (fin false m e) (ofBits binary32 0x5000_0000) tt bound-value h)
 
 pub fine-finite : (x : Float) → T (fine x) → T (finite x)
 fine-finite x h = fine-within x h .finite-is
@@ -42,15 +45,9 @@ fine-at [] i h l = absurd (omega arith)
 fine-at (x ∷ vs) zero h l = and-l (fine x) (allFine vs) h
 fine-at (x ∷ vs) (suc i) h l = fine-at vs i (and-r (fine x) (allFine vs) h) (omega arith)
 
-finite-number : (x : Float) → T (finite x) → T (not (isNan x))
-unfolding isNan
-finite-number nan h = absurd h
-finite-number (inf s) h = absurd h
-finite-number (fin s m e) h = tt
-
 -- a float of such a list is no NaN
 pub number-at : (vs : List Float) (i : ℕ) → T (allFine vs) → i < length vs → T (not (isNan (getD vs i nan)))
-number-at vs i h l = finite-number (getD vs i nan) (fine-finite (getD vs i nan) (fine-at vs i h l))
+number-at vs i h l = within-number (2 ^ 33) (getD vs i nan) (fine-within (getD vs i nan) (fine-at vs i h l))
 
 pub coordinate-fine : (vs : List Float) (axis v : ℕ) → T (allFine vs) → axis < 3 → v < vertexCount vs → T (fine (coordinate vs axis v))
 coordinate-fine vs axis v h a l = fine-at vs (3 * v + axis) h (omega arith)
@@ -75,23 +72,16 @@ module _ (vs : List Float) (h : T (allFine vs)) (axis : ℕ) (a : axis < 3) wher
   lowest-fine zero l =
       let c = coordinate-fine vs axis 0 h a l in rw (least-first (coordinate vs axis 0) (fine-finite (coordinate vs axis 0) c)) c
   lowest-fine (suc n) l =
-      least-from (λ z. T (fine z)) (lowest vs axis (suc n)) (coordinate vs axis (suc n)) (lowest-fine n (omega arith)) (coordinate-fine vs axis (suc n) h a l)
+      least-from (λ z. T (fine z)) (lowest vs axis (suc n)) (coordinate vs axis (suc n)) (lowest-fine n (omega arith))
+      (coordinate-fine vs axis (suc n) h a l)
 
   highest-fine : (n : ℕ) → n < vertexCount vs → T (fine (highest vs axis (suc n)))
   unfolding highest
   highest-fine zero l =
       let c = coordinate-fine vs axis 0 h a l in rw (greatest-first (coordinate vs axis 0) (fine-finite (coordinate vs axis 0) c)) c
   highest-fine (suc n) l =
-      greatest-from (λ z. T (fine z)) (highest vs axis (suc n)) (coordinate vs axis (suc n)) (highest-fine n (omega arith)) (coordinate-fine vs axis (suc n) h a l)
-
-  coordinate-number : (v : ℕ) → v < vertexCount vs → T (not (isNan (coordinate vs axis v)))
-  coordinate-number v l = within-number (2 ^ 33) (coordinate vs axis v) (fine-within (coordinate vs axis v) (coordinate-fine vs axis v h a l))
-
-  lowest-number : (n : ℕ) → n ≤ vertexCount vs → T (not (isNan (lowest vs axis n)))
-  unfolding lowest isNan
-  lowest-number zero l = tt
-  lowest-number (suc n) l =
-      least-from (λ z. T (not (isNan z))) (lowest vs axis n) (coordinate vs axis n) (lowest-number n (omega arith)) (coordinate-number n (omega arith))
+      greatest-from (λ z. T (fine z)) (highest vs axis (suc n)) (coordinate vs axis (suc n)) (highest-fine n (omega arith))
+      (coordinate-fine vs axis (suc n) h a l)
 
   -- no coordinate is below the least
   pub lowest-le : (n v : ℕ) → n ≤ vertexCount vs → v < n → T (le (lowest vs axis n) (coordinate vs axis v))
@@ -100,12 +90,21 @@ module _ (vs : List Float) (h : T (allFine vs)) (axis : ℕ) (a : axis < 3) wher
   lowest-le (suc n) v l k =
       let x = lowest vs axis n in
       let y = coordinate vs axis n in
-      let x-number = lowest-number n (omega arith) in
-      let y-number = coordinate-number n (omega arith) in
+      let x-number : T (not (isNan x)) = rw (lowest-number vs axis n) tt in
+      let y-number = number-at vs (3 * n + axis) h (omega arith) in
       elim (decLt v n) [
         | yes g ↦ le-trans (least x y) x (coordinate vs axis v) (least-left x y x-number y-number) (lowest-le n v (omega arith) g)
         | no g ↦ let e : v ≡ n = omega arith in rw e (least-right x y x-number y-number)
       ]
+
+-- the six numbers of a box are fine
+pub record FineBox (b : Bounds) : Type 0 where
+  pub xmin : T (fine (b .xmin))
+  pub ymin : T (fine (b .ymin))
+  pub zmin : T (fine (b .zmin))
+  pub xmax : T (fine (b .xmax))
+  pub ymax : T (fine (b .ymax))
+  pub zmax : T (fine (b .zmax))
 
 box-to-fine : (vs : List Float) (n : ℕ) → T (allFine vs) → n < vertexCount vs → FineBox (boxTo vs (suc n))
 unfolding boxTo
@@ -139,5 +138,6 @@ box-volume-within b cube p w =
     let z = extent (b .zmin) (b .zmax) in
     within-mul binary32 102 12 (x ⊗ y ⊗ z) cube (lit≤ tt)
     (within-mul binary32 68 34 (x ⊗ y) z (lit≤ tt)
-    (within-mul binary32 34 34 x y (lit≤ tt) (extent-within (b .xmin) (b .xmax) (p .xmin) (p .xmax)) (extent-within (b .ymin) (b .ymax) (p .ymin) (p .ymax)))
+    (within-mul binary32 34 34 x y (lit≤ tt) (extent-within (b .xmin) (b .xmax) (p .xmin) (p .xmax))
+    (extent-within (b .ymin) (b .ymax) (p .ymin) (p .ymax)))
     (extent-within (b .zmin) (b .zmax) (p .zmin) (p .zmax))) w

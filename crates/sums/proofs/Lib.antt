@@ -1,8 +1,7 @@
--- The laws behind the sums: the box vertex by vertex, a triangle's part by its corners, and of a mesh that passes the refusals that its box is
--- finite, its areas are numbers from zero up, what a triangle adds is bounded, and the unit's powers are above zero and bounded.
+-- The laws behind the sums: the box vertex by vertex, a triangle's part by its corners, and of a mesh that passes the refusals that its
+-- box is finite, its areas are numbers from zero up, what a triangle adds is bounded, and the unit's powers are above zero and bounded.
 mod Boxes
-mod Parts
-mod Slopes
+pub mod Parts
 pub mod Plus
 pub mod Within
 pub mod Roots

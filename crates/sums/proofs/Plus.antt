@@ -1,4 +1,5 @@
--- What is not below zero, nor -0, stays so: sums, products by a value above zero, squares, roots and roundings hand no minus on and make no NaN. Assumes nothing.
+-- What is not below zero, nor -0, stays so: sums, products by a value above zero, squares, roots and roundings hand no minus on and make no
+-- NaN. Assumes nothing.
 use mathlib.Core.Bool.{Bool, true, false, not, cond}
 use Prim.Native.Nat.{ℕ, zero, suc, _+_, _*_, _^_}
 use lib.Dec.{T, ltb, eqb·suc-zero}

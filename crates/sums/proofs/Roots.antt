@@ -1,4 +1,5 @@
--- The root of a value up to 4 ^ k is up to 2 ^ k, which is a value of the format: had the root passed it, 2 ^ k would be nearer. Assumes nothing.
+-- The root of a value up to 4 ^ k is up to 2 ^ k, which is a value of the format: had the root passed it, 2 ^ k would be nearer. Assumes
+-- nothing.
 use mathlib.Core.Path.{_≡_, subst}
 use mathlib.Core.Bool.{true, false}
 use Prim.Native.Nat.{ℕ, zero, suc, _+_, _*_, _^_, _≤_, _<_}
@@ -17,7 +18,8 @@ use Rattle.sums.specs.Facet.{plus}
 use Rattle.sums.proofs.Within.{Within, power-value}
 
 -- with r / d past v / w, the middle of the two is past v / w, so its square is past x / c if that is at most b * b
-not-past : (b r d v w x c : ℕ) → v ≡ b * w → x ≤ b * b * c → v * d < r * w → (r * w + v * d) * (r * w + v * d) * c < 4 * x * (d * w * (d * w)) → ⊥
+not-past : (b r d v w x c : ℕ) → v ≡ b * w → x ≤ b * b * c → v * d < r * w
+    → (r * w + v * d) * (r * w + v * d) * c < 4 * x * (d * w * (d * w)) → ⊥
 not-past b r d v w x c e h l g =
     let m : 2 * (v * d) ≤ r * w + v * d = omega arith in
     let s = mul-le-mul-right c (mul-le-mul m m) in
@@ -27,7 +29,8 @@ not-past b r d v w x c e h l g =
 
 -- and not past it, r / d is at most b
 up-to : (b r d v w : ℕ) → 0 < w → v ≡ b * w → r * w ≤ v * d → r ≤ b * d
-up-to b r d v w W e h = let g : r * w ≤ b * d * w = let c = subst (λ (z : ℕ). r * w ≤ z * d) e h in omega arith in le-of-mul-le-mul-right g W
+up-to b r d v w W e h =
+    let g : r * w ≤ b * d * w = let c = subst (λ (z : ℕ). r * w ≤ z * d) e h in omega arith in le-of-mul-le-mul-right g W
 
 module _ (f : Format) (k : ℕ) (K : k ≤ emax f) where
   abbrev top : Float

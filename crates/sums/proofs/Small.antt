@@ -1,7 +1,7 @@
--- What a used triangle adds is found of three corners from 0 to 2^34, where the mesh passes refusal 4: coordinates and box are within 2^33, and the
--- origin is the least of them. Their sides are within 2^35, their cross product within 2^71. Assumes nothing.
+-- What a used triangle adds is found of three corners from 0 to 2^34, where the mesh passes refusal 4: coordinates and box are within
+-- 2^33, and the origin is the least of them. Their sides are within 2^35, their cross product within 2^71. Assumes nothing.
 use mathlib.Core.Path.{_≡_, refl}
-use mathlib.Core.Bool.{Bool, true, false}
+use mathlib.Core.Bool.{Bool, true, false, cond}
 use mathlib.Core.List.{List}
 use Prim.Native.Nat.{ℕ, suc, _+_, _^_, _≤_, _<_}
 use native.Mathlib.Omega.{arith}
@@ -11,14 +11,15 @@ use lib.Ieee.{Float, binary64, emax, lt}
 use Rattle.ieee.specs.Double.{_⊞_, _⊟_, _⊠_}
 use Rattle.ids.specs.Triangles.{Triangle}
 use Rattle.vertices.specs.Vertices.{vertexCount, coordinate, cornersInRange}
-use Rattle.sums.specs.declared.Facet.{Facet}
-use Rattle.sums.specs.declared.Part.{Part}
+use Rattle.sums.specs.declared.triangle.Facet.{Facet}
 use Rattle.sums.specs.Box.{lowest, boxTo, box, origin}
-use Rattle.sums.specs.Facet.{at, minus, cross, dot, corner, corners, normal, size, shortest, facetOf, unlessSliver, partOf, rebased, ifInRange, part}
+use Rattle.sums.specs.Facet.{at, minus, cross, dot, corner, rebasedCorners, normal, size, shortest, facetOf, Part, outOfRange, sliver}
+use Rattle.sums.specs.Facet.{used}
+use Rattle.sums.specs.Facet.{partOf, rebased, part}
 use Rattle.sums.specs.Fine.{allFine, fine}
 use Rattle.sums.proofs.FineBoxes.{box-fine, coordinate-fine, fine-within, lowest-le}
 use Rattle.sums.proofs.Parts.{corners-are}
-use Rattle.sums.proofs.Sides.{sub-greater}
+use Rattle.sums.proofs.Sides.{sub-sides}
 use Rattle.sums.proofs.VolumeTerm.{Octant, Upto}
 use Rattle.sums.proofs.Within.{Within, within-both, within-most, within-mul, within-sub}
 
@@ -37,12 +38,15 @@ minus-three k u v K p q =
     }
 
 -- a component of the cross product
-crossed : (k : ℕ) (a b c d : Float) → suc (k + k) ≤ emax binary64 → Within (2 ^ k) a → Within (2 ^ k) b → Within (2 ^ k) c → Within (2 ^ k) d
+crossed : (k : ℕ) (a b c d : Float) → suc (k + k) ≤ emax binary64 → Within (2 ^ k) a → Within (2 ^ k) b → Within (2 ^ k) c
+    → Within (2 ^ k) d
     → Within (2 ^ suc (k + k)) (a ⊠ b ⊟ c ⊠ d)
 crossed k a b c d K p q r s =
-    within-sub binary64 (k + k) (a ⊠ b) (c ⊠ d) K (within-mul binary64 k k a b (omega arith) p q) (within-mul binary64 k k c d (omega arith) r s)
+    within-sub binary64 (k + k) (a ⊠ b) (c ⊠ d) K (within-mul binary64 k k a b (omega arith) p q)
+    (within-mul binary64 k k c d (omega arith) r s)
 
-cross-three : (k : ℕ) (u v : List Float) → suc (k + k) ≤ emax binary64 → Three (2 ^ k) u → Three (2 ^ k) v → Three (2 ^ suc (k + k)) (cross u v)
+cross-three : (k : ℕ) (u v : List Float) → suc (k + k) ≤ emax binary64 → Three (2 ^ k) u → Three (2 ^ k) v
+    → Three (2 ^ suc (k + k)) (cross u v)
 cross-three k u v K p q =
     record {
       x = crossed k (at u 1) (at v 2) (at u 2) (at v 1) K (p .y) (q .z) (p .z) (q .y);
@@ -50,10 +54,12 @@ cross-three k u v K p q =
       z = crossed k (at u 0) (at v 1) (at u 1) (at v 0) K (p .x) (q .y) (p .y) (q .x);
     }
 
-pub dot-three : (k l : ℕ) (u v : List Float) → suc (suc (k + l)) ≤ emax binary64 → Three (2 ^ k) u → Three (2 ^ l) v → Within (2 ^ suc (suc (k + l))) (dot u v)
+pub dot-three : (k l : ℕ) (u v : List Float) → suc (suc (k + l)) ≤ emax binary64 → Three (2 ^ k) u → Three (2 ^ l) v
+    → Within (2 ^ suc (suc (k + l))) (dot u v)
 dot-three k l u v K p q =
     within-both binary64 (suc (k + l)) (at u 0 ⊠ at v 0 ⊞ at u 1 ⊠ at v 1) (at u 2 ⊠ at v 2) K
-    (within-both binary64 (k + l) (at u 0 ⊠ at v 0) (at u 1 ⊠ at v 1) (omega arith) (product (at u 0) (at v 0) (p .x) (q .x)) (product (at u 1) (at v 1) (p .y) (q .y)))
+    (within-both binary64 (k + l) (at u 0 ⊠ at v 0) (at u 1 ⊠ at v 1) (omega arith) (product (at u 0) (at v 0) (p .x) (q .x))
+    (product (at u 1) (at v 1) (p .y) (q .y)))
     (within-most (2 ^ (k + l)) (2 ^ suc (k + l)) (at u 2 ⊠ at v 2) (pow-mono (omega arith)) (product (at u 2) (at v 2) (p .z) (q .z)))
   where
     product : (a b : Float) → Within (2 ^ k) a → Within (2 ^ l) b → Within (2 ^ (k + l)) (a ⊠ b)
@@ -88,7 +94,8 @@ rebased-octant vs v h l =
       z = less 2 (omega arith) (b .zmin);
     }
   where
-    less : (axis : ℕ) → axis < 3 → T (fine (lowest vs axis (vertexCount vs))) → Upto (2 ^ 34) (coordinate vs axis v ⊟ lowest vs axis (vertexCount vs))
+    less : (axis : ℕ) → axis < 3 → T (fine (lowest vs axis (vertexCount vs)))
+        → Upto (2 ^ 34) (coordinate vs axis v ⊟ lowest vs axis (vertexCount vs))
     less axis a p =
         let x = coordinate vs axis v in
         let o = lowest vs axis (vertexCount vs) in
@@ -96,30 +103,30 @@ rebased-octant vs v h l =
         let O = fine-within o p in
         record {
           within = within-sub binary64 33 x o (lit≤ tt) X O;
-          above = sub-greater binary64 x o (X .finite-is) (O .finite-is) (lowest-le vs h axis a (vertexCount vs) v (omega arith) l);
+          above = sub-sides binary64 x o (X .finite-is) (O .finite-is) .1 (lowest-le vs h axis a (vertexCount vs) v (omega arith) l);
         }
 
 -- what all facets of such corners have, a used one has
 module _ (P : Facet → Type 0) (has : (t : List (List Float)) → Small t → P (facetOf t (normal t) (size (normal t)))) where
-  used-has : (t : List (List Float)) (f : Facet) → Small t → partOf t ≡ Part.Used f → P f
+  used-has : (t : List (List Float)) (f : Facet) → Small t → partOf t ≡ used f → P f
   unfolding partOf
   used-has t f p e = go (lt (size (normal t)) shortest) e
     where
-      go : (b : Bool) → unlessSliver b (facetOf t (normal t) (size (normal t))) ≡ Part.Used f → P f
+      go : (b : Bool) → cond b sliver (used (facetOf t (normal t) (size (normal t)))) ≡ used f → P f
       go true e = let no : _≡_ {A = ℕ} 0 1 = cc in absurd (omega arith)
       go false e =
           let same : facetOf t (normal t) (size (normal t)) ≡ f = cc in
           rw (← same) (has t p)
 
-  pub part-has : (vs : List Float) (t : Triangle) (f : Facet) → T (allFine vs) → part vs (origin (box vs)) t ≡ Part.Used f → P f
+  pub part-has : (vs : List Float) (t : Triangle) (f : Facet) → T (allFine vs) → part vs (origin (box vs)) t ≡ used f → P f
   unfolding part
   part-has vs t f h e = go (cornersInRange vs t) refl e
     where
-      go : (b : Bool) → cornersInRange vs t ≡ b → ifInRange b (partOf (corners vs (origin (box vs)) t)) ≡ Part.Used f → P f
+      go : (b : Bool) → cornersInRange vs t ≡ b → cond b (partOf (rebasedCorners vs (origin (box vs)) t)) outOfRange ≡ used f → P f
       go false r e = let no : _≡_ {A = ℕ} 0 1 = cc in absurd (omega arith)
       go true r e =
           let in-range = corners-are vs t r in
-          used-has (corners vs (origin (box vs)) t) f
+          used-has (rebasedCorners vs (origin (box vs)) t) f
           (record {
             a = rebased-octant vs (t .a) h (in-range .0);
             b = rebased-octant vs (t .b) h (in-range .1);

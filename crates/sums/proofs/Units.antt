@@ -1,4 +1,5 @@
--- The square and the cube of a unit that passes refusal 2, from 2^-20 to 16, are above zero, and up to 2^8 and 2^12. Assumes nothing.
+-- The square and the cube of a unit that passes refusal 2, from 2^-20 to 16, are up to 2^8 and 2^12, and the square is above
+-- zero. Assumes nothing.
 use mathlib.Core.Path.{refl}
 use mathlib.Core.Bool.{true, false}
 use Prim.Native.Nat.{_^_}
@@ -29,10 +30,6 @@ squares-positive : T (positive (leastUnit ⊗ leastUnit)) × T (positive (mostUn
 unfolding ofBits mul
 squares-positive = (tt, tt)
 
-cubes-positive : T (positive (leastUnit ⊗ leastUnit ⊗ leastUnit)) × T (positive (mostUnit ⊗ mostUnit ⊗ mostUnit))
-unfolding ofBits mul
-cubes-positive = (tt, tt)
-
 positive-plus : (x : Float) → T (positive x) → T (plus x)
 positive-plus nan p = absurd p
 positive-plus (inf s) p = absurd p
@@ -50,13 +47,8 @@ module _ (u : Float) (low : T (le leastUnit u)) (high : T (le u mostUnit)) where
   square-below = mul-mono binary32 u mostUnit u mostUnit unit-positive most-positive unit-positive most-positive high high
 
   pub square-positive : T (positive (u ⊗ u))
-  square-positive = between (leastUnit ⊗ leastUnit) (u ⊗ u) (mostUnit ⊗ mostUnit) (squares-positive .0) (squares-positive .1) square-above square-below
-
-  pub cube-positive : T (positive (u ⊗ u ⊗ u))
-  cube-positive =
-      between (leastUnit ⊗ leastUnit ⊗ leastUnit) (u ⊗ u ⊗ u) (mostUnit ⊗ mostUnit ⊗ mostUnit) (cubes-positive .0) (cubes-positive .1)
-      (mul-mono binary32 (leastUnit ⊗ leastUnit) (u ⊗ u) leastUnit u (squares-positive .0) square-positive least-positive unit-positive square-above low)
-      (mul-mono binary32 (u ⊗ u) (mostUnit ⊗ mostUnit) u mostUnit square-positive (squares-positive .1) unit-positive most-positive square-below high)
+  square-positive =
+      between (leastUnit ⊗ leastUnit) (u ⊗ u) (mostUnit ⊗ mostUnit) (squares-positive .0) (squares-positive .1) square-above square-below
 
   pub unit-within : Within (2 ^ 4) u
   unfolding ofBits

@@ -1,5 +1,6 @@
--- The volume term of a triangle with corners from 0 to 2^34 is within 2^103, not only 3 * 2^102: of the three components of the cross product of two
--- such corners one is not above zero and one is not below, since the products that they are differences of are the same six numbers. Assumes nothing.
+-- The volume term of a triangle with corners from 0 to 2^34 is within 2^103, not only 3 * 2^102: of the three components of the cross
+-- product of two such corners one is not above zero and one is not below, since the products that they are differences of are the same six
+-- numbers. Assumes nothing.
 use mathlib.Core.Path.{_≡_, refl, sym}
 use mathlib.Core.Logic.{_⊎_, inl, inr, ⊎-elim}
 use mathlib.Core.Bool.{Bool, true, false, false≢true}
@@ -16,7 +17,7 @@ use Rattle.ieee.specs.Double.{_⊞_, _⊟_, _⊠_}
 use Rattle.ieee.proofs.Order.Monotone.{rises}
 use Rattle.ieee.proofs.Order.Signed.{AtMost}
 use Rattle.sums.specs.Facet.{at, cross, dot}
-use Rattle.sums.proofs.Sides.{Side, side-add, side-mul, side-neg, sides-within, sub-lesser, sub-greater, within-side}
+use Rattle.sums.proofs.Sides.{Side, side-add, side-mul, side-neg, sides-within, sub-sides, within-side}
 use Rattle.sums.proofs.Within.{Within, power-value, within-both, within-most, within-mul, within-neg, within-sub, zero-value}
 
 -- ---- a number from 0 to b
@@ -51,7 +52,8 @@ products-le f b (fin s m e) (fin t n d) (fin u o g) (inf v) X Y Z W l = absurd (
 products-le f b (fin s m e) (fin t n d) (fin u o g) (fin v p h) X Y Z W l =
     let c = down e * down d in
     let k = down g * down h in
-    rises f (unlike s t) (m * up e * (n * up d)) c (unlike u v) (o * up g * (p * up h)) k (mul-pos (down-pos e) (down-pos d)) (mul-pos (down-pos g) (down-pos h))
+    rises f (unlike s t) (m * up e * (n * up d)) c (unlike u v) (o * up g * (p * up h)) k (mul-pos (down-pos e) (down-pos d))
+    (mul-pos (down-pos g) (down-pos h))
     (at-most-plus (unlike s t) (unlike u v) (m * up e * (n * up d) * k) (o * up g * (p * up h) * c)
     (none s t (m * up e) (n * up d) (down e) (down d) k (X .above .most) (Y .above .most))
     (none u v (o * up g) (p * up h) (down g) (down h) c (Z .above .most) (W .above .most)) l)
@@ -86,17 +88,20 @@ product-upto x y X Y =
     record {
       within = within-mul binary64 34 34 x y (lit≤ tt) (X .within) (Y .within);
       above =
-          side-mul binary64 true (2 ^ 34) 0 (zero-value binary64) x y (X .within .finite-is) (Y .within .finite-is) (X .above) (within-side false (2 ^ 34) x (X .within))
+          side-mul binary64 true (2 ^ 34) 0 (zero-value binary64) x y (X .within .finite-is) (Y .within .finite-is) (X .above)
+          (within-side false (2 ^ 34) x (X .within))
           (Y .above);
     }
 
 difference-side : (s : Bool) (u v : Float) → Upto (2 ^ 68) u → Upto (2 ^ 68) v → Side s (2 ^ 68) (u ⊟ v)
 unfolding sub
 difference-side false u v p q =
-    side-add binary64 false (2 ^ 68) 0 (power-value binary64 68 (lit≤ tt)) u (neg v) (p .within .finite-is) (within-neg (2 ^ 68) v (q .within) .finite-is)
+    side-add binary64 false (2 ^ 68) 0 (power-value binary64 68 (lit≤ tt)) u (neg v) (p .within .finite-is)
+    (within-neg (2 ^ 68) v (q .within) .finite-is)
     (within-side false (2 ^ 68) u (p .within)) (side-neg false 0 v (q .above))
 difference-side true u v p q =
-    side-add binary64 true 0 (2 ^ 68) (power-value binary64 68 (lit≤ tt)) u (neg v) (p .within .finite-is) (within-neg (2 ^ 68) v (q .within) .finite-is)
+    side-add binary64 true 0 (2 ^ 68) (power-value binary64 68 (lit≤ tt)) u (neg v) (p .within .finite-is)
+    (within-neg (2 ^ 68) v (q .within) .finite-is)
     (p .above) (side-neg true (2 ^ 68) v (within-side false (2 ^ 68) v (q .within)))
 
 module _ (x y z w : Float) (X : Upto (2 ^ 34) x) (Y : Upto (2 ^ 34) y) (Z : Upto (2 ^ 34) z) (W : Upto (2 ^ 34) w) where
@@ -109,12 +114,12 @@ module _ (x y z w : Float) (X : Upto (2 ^ 34) x) (Y : Upto (2 ^ 34) y) (Z : Upto
 
   lesser-side : ahead x y z w ≤ ahead z w x y → Side false 0 (x ⊠ y ⊟ z ⊠ w)
   lesser-side l =
-      sub-lesser binary64 (x ⊠ y) (z ⊠ w) (product-upto x y X Y .within .finite-is) (product-upto z w Z W .within .finite-is)
+      sub-sides binary64 (x ⊠ y) (z ⊠ w) (product-upto x y X Y .within .finite-is) (product-upto z w Z W .within .finite-is) .0
       (products-le binary64 (2 ^ 34) x y z w X Y Z W l)
 
   greater-side : ahead z w x y ≤ ahead x y z w → Side true 0 (x ⊠ y ⊟ z ⊠ w)
   greater-side l =
-      sub-greater binary64 (x ⊠ y) (z ⊠ w) (product-upto x y X Y .within .finite-is) (product-upto z w Z W .within .finite-is)
+      sub-sides binary64 (x ⊠ y) (z ⊠ w) (product-upto x y X Y .within .finite-is) (product-upto z w Z W .within .finite-is) .1
       (products-le binary64 (2 ^ 34) z w x y Z W X Y l)
 
 -- ---- corners of such numbers
@@ -156,11 +161,13 @@ module _ (u v : List Float) (p : Octant u) (q : Octant v) where
   some-side : (s : Bool) → Some s
   some-side false =
       ⊎-elim (λ l. inl (lesser-side b f c e (p .y) (q .z) (p .z) (q .y) l))
-      (⊎-elim (λ l. inr (inl (lesser-side c d a f (p .z) (q .x) (p .x) (q .z) l))) (λ l. inr (inr (lesser-side a e b d (p .x) (q .y) (p .y) (q .x) l))))
+      (⊎-elim (λ l. inr (inl (lesser-side c d a f (p .z) (q .x) (p .x) (q .z) l)))
+      (λ l. inr (inr (lesser-side a e b d (p .x) (q .y) (p .y) (q .x) l))))
       (one-no-greater (ahead b f c e) (ahead c e b f) (ahead c d a f) (ahead a f c d) (ahead a e b d) (ahead b d a e) six)
   some-side true =
       ⊎-elim (λ l. inl (greater-side b f c e (p .y) (q .z) (p .z) (q .y) l))
-      (⊎-elim (λ l. inr (inl (greater-side c d a f (p .z) (q .x) (p .x) (q .z) l))) (λ l. inr (inr (greater-side a e b d (p .x) (q .y) (p .y) (q .x) l))))
+      (⊎-elim (λ l. inr (inl (greater-side c d a f (p .z) (q .x) (p .x) (q .z) l)))
+      (λ l. inr (inr (greater-side a e b d (p .x) (q .y) (p .y) (q .x) l))))
       (one-no-greater (ahead c e b f) (ahead b f c e) (ahead a f c d) (ahead c d a f) (ahead b d a e) (ahead a e b d) (sym six))
 
 -- ---- a sum of three numbers within 2^102
@@ -169,23 +176,28 @@ module _ (p q r : Float) (P : Within (2 ^ 102) p) (Q : Within (2 ^ 102) q) (R : 
   two-within = within-both binary64 102 p q (lit≤ tt) P Q
 
   two-side : (s : Bool) → Side s 0 p ⊎ Side s 0 q → Side s (2 ^ 102) (p ⊞ q)
-  two-side s (inl h) = side-add binary64 s 0 (2 ^ 102) (power-value binary64 102 (lit≤ tt)) p q (P .finite-is) (Q .finite-is) h (within-side s (2 ^ 102) q Q)
-  two-side s (inr h) = side-add binary64 s (2 ^ 102) 0 (power-value binary64 102 (lit≤ tt)) p q (P .finite-is) (Q .finite-is) (within-side s (2 ^ 102) p P) h
+  two-side s (inl h) =
+      side-add binary64 s 0 (2 ^ 102) (power-value binary64 102 (lit≤ tt)) p q (P .finite-is) (Q .finite-is) h (within-side s (2 ^ 102) q Q)
+  two-side s (inr h) =
+      side-add binary64 s (2 ^ 102) 0 (power-value binary64 102 (lit≤ tt)) p q (P .finite-is) (Q .finite-is) (within-side s (2 ^ 102) p P) h
 
   last : (s : Bool) → Side s 0 p ⊎ Side s 0 q → Side s (2 ^ 103) (p ⊞ q ⊞ r)
   last s h =
-      side-add binary64 s (2 ^ 102) (2 ^ 102) (power-value binary64 103 (lit≤ tt)) (p ⊞ q) r (two-within .finite-is) (R .finite-is) (two-side s h) (within-side s (2 ^ 102) r R)
+      side-add binary64 s (2 ^ 102) (2 ^ 102) (power-value binary64 103 (lit≤ tt)) (p ⊞ q) r (two-within .finite-is) (R .finite-is)
+      (two-side s h) (within-side s (2 ^ 102) r R)
 
   three-side : (s : Bool) → Side s 0 p ⊎ (Side s 0 q ⊎ Side s 0 r) → Side s (2 ^ 103) (p ⊞ q ⊞ r)
   three-side s (inl h) = last s (inl h)
   three-side s (inr (inl h)) = last s (inr h)
   three-side s (inr (inr h)) =
-      side-add binary64 s (2 ^ 103) 0 (power-value binary64 103 (lit≤ tt)) (p ⊞ q) r (two-within .finite-is) (R .finite-is) (within-side s (2 ^ 103) (p ⊞ q) two-within) h
+      side-add binary64 s (2 ^ 103) 0 (power-value binary64 103 (lit≤ tt)) (p ⊞ q) r (two-within .finite-is) (R .finite-is)
+      (within-side s (2 ^ 103) (p ⊞ q) two-within) h
 
   three-within : ((s : Bool) → Side s 0 p ⊎ (Side s 0 q ⊎ Side s 0 r)) → Within (2 ^ 103) (p ⊞ q ⊞ r)
   three-within h =
       sides-within (2 ^ 103) (p ⊞ q ⊞ r)
-      (within-both binary64 103 (p ⊞ q) r (lit≤ tt) two-within (within-most (2 ^ 102) (2 ^ 103) r (lit≤ tt) R) .finite-is) (λ s. three-side s (h s))
+      (within-both binary64 103 (p ⊞ q) r (lit≤ tt) two-within (within-most (2 ^ 102) (2 ^ 103) r (lit≤ tt) R) .finite-is)
+      (λ s. three-side s (h s))
 
 -- ---- the volume term
 module _ (x y : Float) (X : Upto (2 ^ 34) x) (Y : Within (2 ^ 68) y) where
@@ -193,7 +205,9 @@ module _ (x y : Float) (X : Upto (2 ^ 34) x) (Y : Within (2 ^ 68) y) where
   term-within = within-mul binary64 34 68 x y (lit≤ tt) (X .within) Y
 
   term-side : (s : Bool) → Side s 0 y → Side s 0 (x ⊠ y)
-  term-side s = side-mul binary64 s (2 ^ 34) 0 (zero-value binary64) x y (X .within .finite-is) (Y .finite-is) (X .above) (within-side false (2 ^ 34) x (X .within))
+  term-side s =
+      side-mul binary64 s (2 ^ 34) 0 (zero-value binary64) x y (X .within .finite-is) (Y .finite-is) (X .above)
+      (within-side false (2 ^ 34) x (X .within))
 
 pub volume-within : (w u v : List Float) → Octant w → Octant u → Octant v → Within (2 ^ 103) (dot w (cross u v))
 volume-within w u v o p q =

@@ -1,4 +1,5 @@
--- Floats up to a power of two stay finite: a difference is at most twice as large, a product at most the product, and rounding passes no power of two. Assumes nothing.
+-- Floats up to a power of two stay finite: a difference is at most twice as large, a product at most the product, and rounding passes no
+-- power of two. Assumes nothing.
 use mathlib.Core.Path.{_≡_, refl, subst}
 use mathlib.Core.Bool.{Bool, true, false, not}
 use Prim.Native.Nat.{ℕ, suc, _+_, _*_, _^_, _≤_, _<_}
@@ -67,7 +68,8 @@ Value f b = HasValue (round f false b 1) false b 1
 
 module _ (f : Format) (b : ℕ) (v : Value f b) where
   within-plus : (a c : ℕ) → 0 < c → a ≤ b * c → Within b (round f false a c)
-  within-plus a c C h = within-le b (round f false a c) (round f false b 1) (plus-round f a c) v (round-mono f a c b 1 C (lit< tt) (omega arith))
+  within-plus a c C h =
+      within-le b (round f false a c) (round f false b 1) (plus-round f a c) v (round-mono f a c b 1 C (lit< tt) (omega arith))
 
   pub within-value : (s : Bool) (a c : ℕ) → 0 < c → a ≤ b * c → Within b (round f s a c)
   within-value false a c C h = within-plus a c C h
@@ -117,7 +119,8 @@ module _ (f : Format) (p q : ℕ) (v : Value f (p + q)) where
   within-sum (inf s) y v w = absurd (v .finite-is)
   within-sum (fin s m e) nan v w = absurd (w .finite-is)
   within-sum (fin s m e) (inf t) v w = absurd (w .finite-is)
-  within-sum (fin s m e) (fin t n d) v w = within-total s t (m * up e) (n * up d) (down e) (down d) (down-pos e) (down-pos d) (v .small) (w .small)
+  within-sum (fin s m e) (fin t n d) v w =
+      within-total s t (m * up e) (n * up d) (down e) (down d) (down-pos e) (down-pos d) (v .small) (w .small)
 
 -- one more of the size 2 ^ k to n of them
 pub within-add : (f : Format) (k n : ℕ) (x y : Float) → suc n < 2 ^ prec f → suc n * 2 ^ k < 2 ^ suc (emax f)
@@ -149,7 +152,8 @@ within-product f p q u (fin s m e) (fin t n d) v w =
     regroup : (e d a : ℕ) → a ≤ p * e * (q * d) → a ≤ p * q * (e * d)
     regroup e d a h = omega arith
 
-pub within-mul : (f : Format) (k l : ℕ) (x y : Float) → k + l ≤ emax f → Within (2 ^ k) x → Within (2 ^ l) y → Within (2 ^ (k + l)) (mul f x y)
+pub within-mul : (f : Format) (k l : ℕ) (x y : Float) → k + l ≤ emax f → Within (2 ^ k) x → Within (2 ^ l) y
+    → Within (2 ^ (k + l)) (mul f x y)
 within-mul f k l x y K v w =
     let e = pow-add 2 k l in
     rw e (within-product f (2 ^ k) (2 ^ l) (subst (Value f) e (power-value f (k + l) K)) x y v w)

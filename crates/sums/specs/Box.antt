@@ -6,7 +6,7 @@ use lib.Ieee.{Float, inf}
 use Rattle.ieee.specs.Order.{least, greatest}
 use Rattle.ieee.specs.Single.{_⊗_, extent}
 use Rattle.vertices.specs.Vertices.{vertexCount, coordinate}
-use Rattle.sums.specs.declared.Bounds.{Bounds}
+use Rattle.sums.specs.declared.bounds.Bounds.{Bounds}
 
 -- the least and the greatest coordinate on an axis of the first n vertices; ∞ and -∞ of none
 unfoldable pub lowest : List Float → ℕ → ℕ → Float

@@ -1,6 +1,6 @@
 -- Triangles (01): what one triangle adds. Its corners are rebased in f64; each step is rounded once, as 000 writes it.
 use Prim.Native.Nat.{ℕ}
-use mathlib.Core.Bool.{Bool, true, false, not}
+use mathlib.Core.Bool.{Bool, false, not, cond}
 use mathlib.Core.List.{List, [], _∷_}
 use lib.ListN.{getD}
 use lib.Ieee.{Float, nan, inf, fin, binary32, binary64, lt, ofBits}
@@ -9,8 +9,7 @@ use Rattle.ieee.specs.Rounded.{rounded}
 use Rattle.ieee.specs.Double.{_⊞_, _⊟_, _⊠_, _⧄_, one64}
 use Rattle.ids.specs.Triangles.{Triangle}
 use Rattle.vertices.specs.Vertices.{coordinate, cornersInRange}
-use Rattle.sums.specs.declared.Facet.{Facet}
-use Rattle.sums.specs.declared.Part.{Part}
+use Rattle.sums.specs.declared.triangle.Facet.{Facet}
 
 -- ---- three numbers: x, y and z
 
@@ -64,13 +63,14 @@ facetOf t n length =
       nz = unit length (at n 2);
     }
 
--- under 1e-12 it is a sliver and is skipped
-abbrev pub unlessSliver : Bool → Facet → Part
-unlessSliver true f = Part.Sliver
-unlessSliver false f = Part.Used f
+-- a triangle's part in the sums
+pub data Part : Type 0 where
+  outOfRange sliver : Part
+  used : Facet → Part
 
+-- under 1e-12 it is a sliver and is skipped
 unfoldable pub partOf : List (List Float) → Part
-partOf t = unlessSliver (lt (size (normal t)) shortest) (facetOf t (normal t) (size (normal t)))
+partOf t = cond (lt (size (normal t)) shortest) sliver (used (facetOf t (normal t) (size (normal t))))
 
 -- ---- a triangle of a mesh
 
@@ -78,16 +78,12 @@ partOf t = unlessSliver (lt (size (normal t)) shortest) (facetOf t (normal t) (s
 unfoldable pub rebased : List Float → List Float → ℕ → List Float
 rebased vs o v = (coordinate vs 0 v ⊟ at o 0) ∷ (coordinate vs 1 v ⊟ at o 1) ∷ (coordinate vs 2 v ⊟ at o 2) ∷ []
 
-abbrev pub corners : List Float → List Float → Triangle → List (List Float)
-corners vs o t = rebased vs o (t .a) ∷ rebased vs o (t .b) ∷ rebased vs o (t .c) ∷ []
-
-abbrev pub ifInRange : Bool → Part → Part
-ifInRange true p = p
-ifInRange false p = Part.OutOfRange
+abbrev pub rebasedCorners : List Float → List Float → Triangle → List (List Float)
+rebasedCorners vs o t = rebased vs o (t .a) ∷ rebased vs o (t .b) ∷ rebased vs o (t .c) ∷ []
 
 -- its part: out of range, a sliver, or used
 unfoldable pub part : List Float → List Float → Triangle → Part
-part vs o t = ifInRange (cornersInRange vs t) (partOf (corners vs o t))
+part vs o t = cond (cornersInRange vs t) (partOf (rebasedCorners vs o t)) outOfRange
 
 -- ---- what every area is: a number that is not below zero, nor -0
 abbrev pub plus : Float → Bool

@@ -1,6 +1,6 @@
--- What the sums of the record are made of: Box, Triangles and Slope of document 01; which meshes pass refusal 4; and a triangle on its way.
+-- What the sums of the record are made of: Box, Triangles and Slope of document 01; which meshes pass refusal 4.
 pub mod Box
 pub mod Facet
 pub mod Fine
-pub mod Prepared
 pub mod Totals
+pub mod inner

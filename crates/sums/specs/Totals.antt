@@ -1,28 +1,26 @@
 -- Slope, and the running sums (01): two in f64, four in f32.
 use Prim.Native.Nat.{ℕ, zero, suc}
-use mathlib.Core.Bool.{Bool, true, false}
+use mathlib.Core.Bool.{cond}
 use mathlib.Core.List.{List}
 use lib.Ieee.{Float, binary32, lt, neg, ofBits}
 use Rattle.ieee.specs.Magnitude.{magnitude}
 use Rattle.ieee.specs.Single.{_⊕_, nought}
 use Rattle.ieee.specs.Double.{_⊞_, nought64}
 use Rattle.ids.specs.Triangles.{triangle}
-use Rattle.sums.specs.declared.Facet.{Facet}
-use Rattle.sums.specs.declared.Part.{Part}
-use Rattle.sums.specs.declared.Slope.{Slope}
-use Rattle.sums.specs.declared.Thresholds.{Thresholds}
-use Rattle.sums.specs.declared.Totals.{Totals}
-use Rattle.sums.specs.Facet.{part}
+use Rattle.sums.specs.declared.triangle.Facet.{Facet}
+use Rattle.sums.specs.declared.totals.Slope.{Slope}
+use Rattle.sums.specs.declared.totals.Thresholds.{Thresholds}
+use Rattle.sums.specs.declared.totals.Totals.{Totals}
+use Rattle.sums.specs.Facet.{Part, outOfRange, sliver, used, part}
 
 -- ---- the slope of a facet, by its unit normal's z and a pair of thresholds
 
-abbrev pub slopeIf : Bool → Slope → Slope → Slope
-slopeIf true s other = s
-slopeIf false s other = other
-
 -- above the first top; below its negative bottom; magnitude under the second side; else inclined
 unfoldable pub slopeOf : Thresholds → Float → Slope
-slopeOf p z = slopeIf (lt (p .top) z) Slope.Top (slopeIf (lt z (neg (p .top))) Slope.Bottom (slopeIf (lt (magnitude z) (p .side)) Slope.Side Slope.Inclined))
+slopeOf p z =
+    cond (lt (p .top) z) Slope.Top
+    (cond (lt z (neg (p .top))) Slope.Bottom
+    (cond (lt (magnitude z) (p .side)) Slope.Side Slope.Inclined))
 
 -- 0.940 and 0.342
 abbrev pub thresholds : Thresholds
@@ -33,24 +31,36 @@ thresholds = record { top = ofBits binary32 0x3f70_a3d7; side = ofBits binary32 
 abbrev pub noTotals : Totals
 noTotals = record { surface = nought64; volume6 = nought64; top = nought; bottom = nought; side = nought; inclined = nought }
 
+-- with other areas by slope
+abbrev pub bySlope : Totals → Float → Float → Float → Float → Totals
+bySlope s top bottom side inclined =
+    record { surface = s .surface; volume6 = s .volume6; top = top; bottom = bottom; side = side; inclined = inclined }
+
 -- with an area on a slope
 unfoldable pub onSlope : Slope → Float → Totals → Totals
-onSlope Slope.Top a s = record { surface = s .surface; volume6 = s .volume6; top = s .top ⊕ a; bottom = s .bottom; side = s .side; inclined = s .inclined }
-onSlope Slope.Bottom a s = record { surface = s .surface; volume6 = s .volume6; top = s .top; bottom = s .bottom ⊕ a; side = s .side; inclined = s .inclined }
-onSlope Slope.Side a s = record { surface = s .surface; volume6 = s .volume6; top = s .top; bottom = s .bottom; side = s .side ⊕ a; inclined = s .inclined }
-onSlope Slope.Inclined a s = record { surface = s .surface; volume6 = s .volume6; top = s .top; bottom = s .bottom; side = s .side; inclined = s .inclined ⊕ a }
+onSlope Slope.Top a s = bySlope s (s .top ⊕ a) (s .bottom) (s .side) (s .inclined)
+onSlope Slope.Bottom a s = bySlope s (s .top) (s .bottom ⊕ a) (s .side) (s .inclined)
+onSlope Slope.Side a s = bySlope s (s .top) (s .bottom) (s .side ⊕ a) (s .inclined)
+onSlope Slope.Inclined a s = bySlope s (s .top) (s .bottom) (s .side) (s .inclined ⊕ a)
 
 -- with a facet's area, volume term and slope
 unfoldable pub withFacet : Thresholds → Totals → Facet → Totals
 withFacet p s f =
     onSlope (slopeOf p (f .nz)) (f .area32)
-    (record { surface = s .surface ⊞ f .area; volume6 = s .volume6 ⊞ f .volume; top = s .top; bottom = s .bottom; side = s .side; inclined = s .inclined })
+    (record {
+      surface = s .surface ⊞ f .area;
+      volume6 = s .volume6 ⊞ f .volume;
+      top = s .top;
+      bottom = s .bottom;
+      side = s .side;
+      inclined = s .inclined;
+    })
 
 -- with one triangle's part: only a used one adds to the sums
 unfoldable pub withPart : Thresholds → Totals → Part → Totals
-withPart p s Part.OutOfRange = s
-withPart p s Part.Sliver = s
-withPart p s (Part.Used f) = withFacet p s f
+withPart p s outOfRange = s
+withPart p s sliver = s
+withPart p s (used f) = withFacet p s f
 
 -- after the first n triangles, in order
 unfoldable pub totalsTo : List Float → List Float → Thresholds → List ℕ → ℕ → Totals

@@ -10,13 +10,13 @@ use lib.Ieee.Fits.{down-pos}
 use lib.Ieee.Order.{round-mono}
 use lib.Ieee.Positive.{positive, above, above-of-le, le→cross}
 use Rattle.ieee.proofs.Values.Negation.{div-neg-left, ofInt-neg}
-use Rattle.rows.specs.Rows.{plain}
+use Rattle.rows.specs.Rows.{plainFloat}
 use Rattle.surfaces.specs.Surfaces.{ten, tenth}
 
 -- ---- what is above 0 is plain, and so is its negative
 
-plain-above : (x : Float) → T (above x) → T (plain x) × T (plain (neg x))
-unfolding plain neg
+plain-above : (x : Float) → T (above x) → T (plainFloat x) × T (plainFloat (neg x))
+unfolding plainFloat neg
 plain-above nan a = absurd a
 plain-above (inf s) a = (tt, tt)
 plain-above (fin true m e) a = absurd a
@@ -52,8 +52,8 @@ tenth-above n =
     let l : T (le one (round binary32 false (suc n) 1)) = round-mono binary32 1 1 (suc n) 1 (omega arith) (omega arith) (omega arith) in
     over-ten (round binary32 false (suc n) 1) l (above-of-le one (round binary32 false (suc n) 1) tt l)
 
-pub tenth-plain : (z : ℤ) → T (plain (tenth z))
-unfolding plain ofInt round div ofBits
+pub tenth-plain : (z : ℤ) → T (plainFloat (tenth z))
+unfolding plainFloat ofInt round div ofBits
 tenth-plain (pos zero) = tt
 tenth-plain (pos (suc n)) = plain-above (tenth (pos (suc n))) (tenth-above n) .0
 tenth-plain (negsuc n) = rw (ofInt-neg binary32 (pos (suc n)) (omega arith), div-neg-left binary32 (ofInt binary32 (pos (suc n))) ten) (plain-above (tenth (pos (suc n))) (tenth-above n) .1)

@@ -1,5 +1,5 @@
--- What the rows are worth: each key has one row, its area is the sum of the areas of its triangles in their order, and there is a row for each key of a
--- used triangle and no other. On a mesh that passes refusal 4 every row can be put in order.
+-- What the rows are worth: each key has one row, its area is the sum of the areas of its triangles in their order, and there is a row for
+-- each key of a used triangle and no other. On a mesh that passes refusal 4 every row can be put in order.
 use mathlib.Core.Path.{_≡_, refl, _∙_, ap}
 use mathlib.Core.Bool.{Bool, true, _&&_, _||_}
 use Prim.Native.Nat.{ℕ, zero, suc}
@@ -9,14 +9,13 @@ use lib.Ieee.{Float, nan, inf, fin, binary32}
 use lib.Ieee.Positive.{positive}
 use Rattle.ieee.specs.Single.{_⊗_, nought}
 use Rattle.ids.specs.Triangles.{triangle}
-use Rattle.sums.specs.declared.Facet.{Facet}
-use Rattle.sums.specs.declared.Part.{Part}
+use Rattle.sums.specs.declared.triangle.Facet.{Facet}
 use Rattle.sums.specs.Box.{box, origin}
-use Rattle.sums.specs.Facet.{part, plus}
+use Rattle.sums.specs.Facet.{Part, outOfRange, sliver, used, part, plus}
 use Rattle.sums.specs.Fine.{allFine}
 use Rattle.sums.proofs.Areas.{part-plus}
 use Rattle.sums.proofs.Plus.{plus-add, plus-mul, plus-zero}
-use Rattle.rows.specs.Rows.{plain, plainRow, allPlain, scaled}
+use Rattle.rows.specs.Rows.{plainFloat, plainRow, allPlain, scaled}
 use Rattle.surfaces.specs.declared.Key.{Key}
 use Rattle.surfaces.specs.Surfaces.{Bucket, keyOf, areaFor, hasKey, Apart, AllAreas, tenth, rows}
 use Rattle.surfaces.proofs.Keys.{area-put, has-put, apart-put, put-all}
@@ -27,33 +26,35 @@ use Rattle.walk.specs.Walk.{withSurface, bucketsTo, sumWith, sumFor, has
 
 area-with : (k : Key) (bs : List Bucket) (p : Part) → areaFor k (withSurface bs p) ≡ sumWith k (areaFor k bs) p
 unfolding withSurface sumWith
-area-with k bs Part.OutOfRange = refl
-area-with k bs Part.Sliver = refl
-area-with k bs (Part.Used f) = area-put k (keyOf (f .nx) (f .ny) (f .nz)) (f .area32) bs
+area-with k bs outOfRange = refl
+area-with k bs sliver = refl
+area-with k bs (used f) = area-put k (keyOf (f .nx) (f .ny) (f .nz)) (f .area32) bs
 
 pub buckets-sums : (vs o : List Float) (ids : List ℕ) (k : Key) (n : ℕ) → areaFor k (bucketsTo vs o ids n) ≡ sumFor vs o ids k n
 unfolding bucketsTo sumFor areaFor
 buckets-sums vs o ids k zero = refl
 buckets-sums vs o ids k (suc n) =
-    area-with k (bucketsTo vs o ids n) (part vs o (triangle ids n)) ∙ ap (λ (s : Float). sumWith k s (part vs o (triangle ids n))) (buckets-sums vs o ids k n)
+    area-with k (bucketsTo vs o ids n) (part vs o (triangle ids n))
+    ∙ ap (λ (s : Float). sumWith k s (part vs o (triangle ids n))) (buckets-sums vs o ids k n)
 
 has-with : (k : Key) (bs : List Bucket) (p : Part) → hasKey k (withSurface bs p) ≡ (hasPart k p || hasKey k bs)
 unfolding withSurface hasPart
-has-with k bs Part.OutOfRange = refl
-has-with k bs Part.Sliver = refl
-has-with k bs (Part.Used f) = has-put (keyOf (f .nx) (f .ny) (f .nz)) k (f .area32) bs
+has-with k bs outOfRange = refl
+has-with k bs sliver = refl
+has-with k bs (used f) = has-put (keyOf (f .nx) (f .ny) (f .nz)) k (f .area32) bs
 
 pub buckets-keys : (vs o : List Float) (ids : List ℕ) (k : Key) (n : ℕ) → hasKey k (bucketsTo vs o ids n) ≡ keyAmong vs o ids k n
 unfolding bucketsTo keyAmong hasKey
 buckets-keys vs o ids k zero = refl
 buckets-keys vs o ids k (suc n) =
-    has-with k (bucketsTo vs o ids n) (part vs o (triangle ids n)) ∙ ap (λ (b : Bool). hasPart k (part vs o (triangle ids n)) || b) (buckets-keys vs o ids k n)
+    has-with k (bucketsTo vs o ids n) (part vs o (triangle ids n))
+    ∙ ap (λ (b : Bool). hasPart k (part vs o (triangle ids n)) || b) (buckets-keys vs o ids k n)
 
 apart-with : (bs : List Bucket) (p : Part) → Apart bs → Apart (withSurface bs p)
 unfolding withSurface
-apart-with bs Part.OutOfRange h = h
-apart-with bs Part.Sliver h = h
-apart-with bs (Part.Used f) h = apart-put (keyOf (f .nx) (f .ny) (f .nz)) (f .area32) bs h
+apart-with bs outOfRange h = h
+apart-with bs sliver h = h
+apart-with bs (used f) h = apart-put (keyOf (f .nx) (f .ny) (f .nz)) (f .area32) bs h
 
 pub buckets-apart : (vs o : List Float) (ids : List ℕ) (n : ℕ) → Apart (bucketsTo vs o ids n)
 unfolding bucketsTo Apart
@@ -65,22 +66,25 @@ buckets-apart vs o ids (suc n) = apart-with (bucketsTo vs o ids n) (part vs o (t
 abbrev Plus : Float → Type 0
 Plus x = T (plus x)
 
-plus-with : (bs : List Bucket) (p : Part) → ((f : Facet) → p ≡ Part.Used f → Plus (f .area32)) → AllAreas Plus bs → AllAreas Plus (withSurface bs p)
+plus-with : (bs : List Bucket) (p : Part) → ((f : Facet) → p ≡ used f → Plus (f .area32)) → AllAreas Plus bs
+    → AllAreas Plus (withSurface bs p)
 unfolding withSurface
-plus-with bs Part.OutOfRange g h = h
-plus-with bs Part.Sliver g h = h
-plus-with bs (Part.Used f) g h =
+plus-with bs outOfRange g h = h
+plus-with bs sliver g h = h
+plus-with bs (used f) g h =
     let a = g f refl in
-    put-all Plus Plus (λ x p. p) (keyOf (f .nx) (f .ny) (f .nz)) (f .area32) (λ x p. plus-add binary32 x (f .area32) p a) (plus-add binary32 nought (f .area32) (plus-zero binary32) a) bs h
+    put-all Plus Plus (λ x p. p) (keyOf (f .nx) (f .ny) (f .nz)) (f .area32) (λ x p. plus-add binary32 x (f .area32) p a)
+    (plus-add binary32 nought (f .area32) (plus-zero binary32) a) bs h
 
 buckets-plus : (vs : List Float) (ids : List ℕ) → T (allFine vs) → (n : ℕ) → AllAreas Plus (bucketsTo vs (origin (box vs)) ids n)
 unfolding bucketsTo AllAreas
 buckets-plus vs ids fine zero = tt
 buckets-plus vs ids fine (suc n) =
-    plus-with (bucketsTo vs (origin (box vs)) ids n) (part vs (origin (box vs)) (triangle ids n)) (λ f e. part-plus vs (triangle ids n) f fine e) (buckets-plus vs ids fine n)
+    plus-with (bucketsTo vs (origin (box vs)) ids n) (part vs (origin (box vs)) (triangle ids n))
+    (λ f e. part-plus vs (triangle ids n) f fine e) (buckets-plus vs ids fine n)
 
-plus-plain : (x : Float) → T (plus x) → T (plain x)
-unfolding plain
+plus-plain : (x : Float) → T (plus x) → T (plainFloat x)
+unfolding plainFloat
 plus-plain nan h = absurd h
 plus-plain (inf s) h = tt
 plus-plain (fin s zero e) h = h
@@ -93,8 +97,11 @@ rows-plain : (by : Float) → T (positive by) → (bs : List Bucket) → AllArea
 unfolding allPlain plainRow scaled rows AllAreas
 rows-plain by h [] a = tt
 rows-plain by h (b ∷ bs) a =
-    five (plain (b .area ⊗ by)) (plain (tenth (b .key .x))) (plain (tenth (b .key .y))) (plain (tenth (b .key .z))) (allPlain (scaled by (rows bs)))
-    (plus-plain (b .area ⊗ by) (plus-mul binary32 (b .area) by (a .0) h)) (tenth-plain (b .key .x)) (tenth-plain (b .key .y)) (tenth-plain (b .key .z)) (rows-plain by h bs (a .1))
+    five (plainFloat (b .area ⊗ by)) (plainFloat (tenth (b .key .x))) (plainFloat (tenth (b .key .y))) (plainFloat (tenth (b .key .z)))
+    (allPlain (scaled by (rows bs)))
+    (plus-plain (b .area ⊗ by) (plus-mul binary32 (b .area) by (a .0) h)) (tenth-plain (b .key .x)) (tenth-plain (b .key .y))
+    (tenth-plain (b .key .z)) (rows-plain by h bs (a .1))
 
-pub buckets-plain : (vs : List Float) (ids : List ℕ) (by : Float) (n : ℕ) → T (allFine vs) → T (positive by) → T (allPlain (scaled by (rows (bucketsTo vs (origin (box vs)) ids n))))
+pub buckets-plain : (vs : List Float) (ids : List ℕ) (by : Float) (n : ℕ) → T (allFine vs) → T (positive by)
+    → T (allPlain (scaled by (rows (bucketsTo vs (origin (box vs)) ids n))))
 buckets-plain vs ids by n fine h = rows-plain by h (bucketsTo vs (origin (box vs)) ids n) (buckets-plus vs ids fine n)

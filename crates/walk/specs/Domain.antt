@@ -2,7 +2,7 @@
 use mathlib.Core.List.{List}
 use lib.Dec.{T}
 use lib.Ieee.Scale.{finite}
-use Rattle.sums.specs.declared.Totals.{Totals}
+use Rattle.sums.specs.declared.totals.Totals.{Totals}
 use Rattle.surfaces.specs.Surfaces.{Bucket, AllAreas}
 
 -- the six running sums are finite

@@ -1,4 +1,4 @@
 -- The sums over all triangles of a mesh.
 pub mod Walk
-pub mod Steps
 pub mod Domain
+pub mod inner

@@ -1,16 +1,14 @@
 // One walk over the triangles: the totals, and a row for each key of a normal. Internal: `qto` asks it.
 ghost use mathlib.Core.Path.{_≡_};
-ghost use Prim.Native.Nat.{_+_, _*_, _≤_, _<_};
-ghost use lib.Dec.{T};
-ghost use lib.ListN.{length, replicate};
+ghost use Prim.Native.Nat.{_*_};
+ghost use lib.ListN.{replicate};
 ghost use Rattle.ids.specs.Triangles.{triangleCount};
 ghost use Rattle.surfaces.specs.Index.{Ready};
-ghost use Rattle.sums.specs.Fine.{allFine};
-ghost use Rattle.sums.specs.Prepared.{partBy};
-ghost use Rattle.walk.specs.Walk.{Walks};
-ghost use Rattle.walk.specs.Steps.{Takes, Taken};
+ghost use Rattle.sums.specs.Facet.{used};
+ghost use Rattle.sums.specs.inner.Prepared.{partBy};
+ghost use Rattle.walk.specs.inner.Steps.{given, state, Takes, Taken};
+ghost use Rattle.walk.specs.inner.Walks.{Walkable, Walks};
 use sums::Facet;
-use sums::Part;
 use sums::Prepared;
 use sums::Thresholds;
 use sums::Totals;
@@ -31,7 +29,8 @@ fn take_facet(
     m: usize,
 ) -> Sums
     requires { ⌜ Ready m (s .rows) (now index) (now rows) ⌝ }
-    ensures { λ r. ⌜ Takes m pair s (Part.Used f) (now (index .entry)) (now (index .exit)) (now (rows .entry)) (now (rows .exit)) r ⌝ }
+    ensures { λ r. ⌜ Takes m pair (used f) (state (now (index .entry)) (now (rows .entry)) s)
+        (state (now (index .exit)) (now (rows .exit)) r) ⌝ }
 {
     let totals = s.totals;
     let n = surfaces::put_normal(index, rows, m, s.rows, f.nx, f.ny, f.nz, f.area32);
@@ -51,7 +50,8 @@ fn take(
     m: usize,
 ) -> Sums
     requires { ⌜ Ready m (s .rows) (now index) (now rows) ⌝ }
-    ensures { λ r. ⌜ Takes m pair s (partBy p) (now (index .entry)) (now (index .exit)) (now (rows .entry)) (now (rows .exit)) r ⌝ }
+    ensures { λ r. ⌜ Takes m pair (partBy p) (state (now (index .entry)) (now (rows .entry)) s)
+        (state (now (index .exit)) (now (rows .exit)) r) ⌝ }
 {
     if !p.in_range {
         return s;
@@ -62,8 +62,9 @@ fn take(
     take_facet(pair, s, sums::facet_by(p), index, rows, m)
 }
 
-// All triangles, the index words being zero before. In one turn a triangle gets its cross product, the one in front of it its root, and the one in front
-// of that is taken: the three have nothing to do with each other, so that a processor looks for a row while it works at a root.
+// All triangles, the index words being zero before. In one turn a triangle gets its cross product, the one in front of it its root, and the
+// one in front of that is taken: the three have nothing to do with each other, so that a processor looks for a row while it works at a
+// root.
 fn take_all(
     vertices: &[f32],
     indices: &[u32],
@@ -72,8 +73,10 @@ fn take_all(
     index: &mut [u32],
     rows: &mut [f32],
 ) -> Sums
-    requires { ⌜ T (allFine (now vertices)) × (length (now indices) ≤ 98304) × (0 < triangleCount (now indices)) × (now index ≡ replicate (5 * triangleCount (now indices)) 0) × (4 * triangleCount (now indices) ≤ length (now rows)) ⌝ }
-    ensures { λ r. ⌜ Taken (now (vertices .entry)) origin pair (now (indices .entry)) (now (rows .entry)) (triangleCount (now (indices .entry))) (now (index .exit)) (now (rows .exit)) r ⌝ }
+    requires { ⌜ Walkable (now vertices) (now indices) (now index) (now rows)
+        × (now index ≡ replicate (5 * triangleCount (now indices)) 0) ⌝ }
+    ensures { λ r. ⌜ Taken (given (now (vertices .entry)) origin pair (now (indices .entry)) (now (rows .entry)))
+        (triangleCount (now (indices .entry))) (state (now (index .exit)) (now (rows .exit)) r) ⌝ }
 {
     let m = indices.len() / 3;
     let mut s = Sums {
@@ -81,7 +84,7 @@ fn take_all(
         rows: 0,
     };
     let mut held = sums::nothing();
-    let mut next = sums::no_cross();
+    let mut next = sums::nothing();
     let mut t = 0;
     while t <= m + 1 {
         let p = sums::with_root(next, held);
@@ -94,8 +97,8 @@ fn take_all(
     s
 }
 
-// The sums of all triangles. The rows stand first in the surface area; the index, 5 words a triangle, is left as it is, since all words are cleared when the
-// verdict is known.
+// The sums of all triangles. The rows stand first in the surface area; the index, 5 words a triangle, is left as it is, since all words are
+// cleared when the verdict is known.
 pub fn walk(
     vertices: &[f32],
     indices: &[u32],
@@ -104,7 +107,7 @@ pub fn walk(
     index: &mut [u32],
     rows: &mut [f32],
 ) -> Sums
-    requires { ⌜ T (allFine (now vertices)) × (length (now indices) ≤ 98304) × (0 < triangleCount (now indices)) × (length (now index) ≡ 5 * triangleCount (now indices)) × (4 * triangleCount (now indices) ≤ length (now rows)) ⌝ }
+    requires { ⌜ Walkable (now vertices) (now indices) (now index) (now rows) ⌝ }
     ensures { λ r. ⌜ Walks (now (vertices .entry)) origin pair (now (indices .entry)) (now (rows .entry)) r (now (rows .exit)) ⌝ }
 {
     let n = index.len();

@@ -1,34 +1,36 @@
 -- `rows::divide` meets its contract: the loop only swaps rows in front of b. Assumes nothing.
 use mathlib.Core.Path.{_≡_, refl}
-use Prim.Native.Nat.{_-_, _≤_, _<_}
+use Prim.Native.Nat.{_+_, _-_, _≤_, _<_}
 use lib.ListN.{length}
-use Rattle.rows.specs.Rows.{rowsOf}
-use Rattle.rows.specs.Sorting.{SameRows}
+use Rattle.rows.specs.inner.Passes.{Keeps}
 use Rattle.rows.proofs.Counts.{same-rows}
-use Rattle.rows.proofs.Sinking.{same-swap}
-use Rattle.rows.proofs.Flat.{row-inside}
+use Rattle.rows.proofs.Sinking.{swap-keeps}
 use borrow.Author.Needs.{needs}
 use native.Mathlib.Omega.{arith}
 use Rattle.rows.proofs.divide.Statement.{statement}
 use Rattle.rows.proofs.divide.Tie as tie
 
 abbrev Inv-loop : tie.InvT-loop
-Inv-loop rows₀ a b p last₀ i₀ rows last i = (a ≤ last) × (last < i) × (i ≤ b) × (length rows ≡ length rows₀) × SameRows (rowsOf rows₀) (rowsOf rows)
+Inv-loop rows₀ a b p last₀ i₀ rows last i = (a ≤ last) × (last < i) × (i ≤ b) × (length rows ≡ length rows₀) × Keeps rows₀ rows
 
 abbrev μ-loop : tie.MeasureT-loop
 μ-loop rows₀ a b p last₀ i₀ rows last i = b - i
 
 loop-holds : tie.Need-loop-holds Inv-loop μ-loop
-loop-holds c = (omega arith, omega arith, omega arith, refl, same-rows (rowsOf (c .before .before .before .args .rows .now)))
+loop-holds c = (omega arith, omega arith, omega arith, refl, same-rows)
 
 loop-again : tie.Need-loop-again Inv-loop μ-loop
 loop-again c =
-    let l = c .before .before .before .before .before .before .before .before .loop in (
+    let swap = c .before .before in
+    let at = swap .before .before .before .before .before .before in
+    let s = at .before .before .before .before in
+    let l = at .loop in (
       omega arith,
       omega arith,
       omega arith,
-      omega (arith, c .before .before .swap .kept),
-      same-swap (rowsOf (c .before .before .before .before .before .before .before .before .before .before .before .before .args .rows .now)) (rowsOf (l .rows)) _ (_) (l .i) (l .inv .4) (c .before .before .swap .ensures) (row-inside (l .rows) _ (omega arith)) (row-inside (l .rows) (l .i) (omega arith)),
+      omega (arith, swap .swap .kept),
+      swap-keeps (l .rows) (l .last + 1) (l .i) (l .inv .4) (swap .swap .ensures) (omega (arith, s .pre .1 .1))
+          (omega (arith, s .pre .1 .1)),
     )
 
 returns : tie.Need-returns Inv-loop μ-loop

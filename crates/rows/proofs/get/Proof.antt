@@ -6,7 +6,9 @@ use Rattle.rows.proofs.get.Statement.{statement}
 use Rattle.rows.proofs.get.Tie as tie
 
 returns : tie.Need-returns
-returns c = sym (row-at (c .before .before .before .before .args .rows .now) (c .before .before .before .before .args .j) (c .before .before .before .before .pre))
+returns c =
+    sym (row-at (c .before .before .before .before .args .rows .now) (c .before .before .before .before .args .j)
+    (c .before .before .before .before .pre))
 
 pub get-spec : {M : Type 1} → statement M
 get-spec =

@@ -17,10 +17,14 @@ returns c =
 returns-2 : tie.Need-returns-2
 unfolding precedes
 returns-2 c =
-    let r = c .before .before .before .before .before .before .before .before .before .before .before .before .before .before .before .before .before .args .r in
-    let s = c .before .before .before .before .before .before .before .before .before .before .before .before .before .before .before .before .before .args .s in
-    c .then-by2 .ensures ∙ ap (thenBy (lt (r .nx) (s .nx)) (lt (s .nx) (r .nx))) (c .before .before .before .before .before .then-by .ensures)
-    ∙ then-rest (lt (s .area) (r .area)) (lt (r .area) (s .area)) _ (c .before .before .before .before .before .before .before .before .before .before .before .before .if1 .left)
+    let by-ny = c .before .before .before .before .before in
+    let test = by-ny .before .before .before .before in
+    let areas = test .before .before .before in
+    let s = areas .before .before .before .before .before in
+    let r = s .args .r in
+    let q = s .args .s in
+    c .then-by2 .ensures ∙ ap (thenBy (lt (r .nx) (q .nx)) (lt (q .nx) (r .nx))) (by-ny .then-by .ensures)
+    ∙ then-rest (lt (q .area) (r .area)) (lt (r .area) (q .area)) _ (areas .if1 .left)
 
 pub precedes-spec : {M : Type 1} → statement M
 precedes-spec =

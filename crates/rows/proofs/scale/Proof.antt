@@ -21,18 +21,21 @@ loop-holds c = (omega arith, refl, scaled-none (c .before .args .by) (rowsOf (c 
 
 loop-again : tie.Need-loop-again Inv-loop μ-loop
 loop-again c =
-    let a = c .before .before .before .before .before .before .before .args in
-    let l = c .before .before .before .before .before .loop in (
+    let at = c .before .before .before .before .before in
+    let a = at .before .before .args in
+    let l = at .loop in (
       omega arith,
       omega (arith, c .before .before .scale-row .kept),
-      scaled-next (a .by) (l .i) (rowsOf (a .rows .now)) (rowsOf (l .rows)) _ (row-inside (a .rows .now) (l .i) (omega arith)) (l .inv .2) (c .before .before .scale-row .ensures),
+      scaled-next (a .by) (l .i) (rowsOf (a .rows .now)) (rowsOf (l .rows)) _ (row-inside (a .rows .now) (l .i) (omega arith))
+          (l .inv .2) (c .before .before .scale-row .ensures),
     )
 
 returns : tie.Need-returns Inv-loop μ-loop
 returns c =
     let a = c .before .before .before .args in
     let l = c .before .loop in
-    sym (flat-rows (l .rows) (a .n) (omega arith)) ∙ ap flatten (l .inv .2 ∙ scaled-all (a .by) (l .i) (rowsOf (a .rows .now)) (omega (arith, length-rows (a .rows .now) .0)))
+    sym (flat-rows (l .rows) (a .n) (omega arith))
+    ∙ ap flatten (l .inv .2 ∙ scaled-all (a .by) (l .i) (rowsOf (a .rows .now)) (omega (arith, length-rows (a .rows .now) .0)))
 
 pub scale-spec : {M : Type 1} → statement M
 scale-spec =

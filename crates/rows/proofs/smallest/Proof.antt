@@ -33,7 +33,8 @@ loop-again c =
     let l = c .before .before .before .loop in (
       omega arith,
       rw (c .less-above .ensures)
-          (least-next (l .m) _ (l .i) (rowsOf t) (row-inside t (l .i) (omega arith)) (ap (λ (r : PlanarSurface). r .area) (row-at t (l .i) (omega arith))) ∙ l .inv .1),
+          (least-next (l .m) _ (l .i) (rowsOf t) (row-inside t (l .i) (omega arith))
+          (ap (λ (r : PlanarSurface). r .area) (row-at t (l .i) (omega arith))) ∙ l .inv .1),
     )
 
 returns : tie.Need-returns Inv-loop μ-loop
@@ -41,7 +42,8 @@ unfolding ofBits
 returns c =
     let t = c .before .before .before .before .args .rows .now in
     let l = c .before .before .loop in
-    smallest-least (rowsOf t) (l .m) (sym (least-end (l .m) (l .i) (rowsOf t) (omega (arith, length-rows t .0))) ∙ l .inv .1) (c .if1 .taken)
+    smallest-least (rowsOf t) (l .m) (sym (least-end (l .m) (l .i) (rowsOf t) (omega (arith, length-rows t .0))) ∙ l .inv .1)
+    (c .if1 .taken)
 
 returns-2 : tie.Need-returns-2 Inv-loop μ-loop
 unfolding ofBits

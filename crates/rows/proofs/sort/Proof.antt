@@ -1,4 +1,5 @@
--- `rows::sort` meets its contract. All passes keep the rows, counted, and the last leaves them rising: of plain rows of binary32 there is one such list. Assumes nothing.
+-- `rows::sort` meets its contract. All passes keep the rows, counted, and the last leaves them rising: of plain rows of binary32 there is
+-- one such list. Assumes nothing.
 use mathlib.Core.Path.{_≡_, sym, ap, _∙_}
 use Prim.Native.Nat.{_*_}
 use lib.ListN.{length}
@@ -13,15 +14,17 @@ use Rattle.rows.proofs.sort.Tie as tie
 
 returns : tie.Need-returns
 returns c =
-    let s = c .before .before .before .before .before .before .before .before .before in
+    let pass = c .before .before in
+    let rough = pass .before .before .before .before in
+    let s = rough .before .before .before in
     let t = s .args .rows .now in
-    let a = c .before .before .before .before .before .before .presort .last .0 in
-    let u = c .before .before .insertion .last .0 in
-    let settled = c .before .before .insertion .ensures in
-    let same = same-then (rowsOf t) (rowsOf a) (rowsOf u) (c .before .before .before .before .before .before .presort .ensures) (settled .same) in
-    let long : length u ≡ 4 * s .args .n = omega (arith, c .before .before .before .before .before .before .presort .kept, c .before .before .insertion .kept) in
+    let u = pass .insertion .last .0 in
+    let same = same-then (rough .presort .ensures) (pass .insertion .ensures .same) in
+    let single = rows-single t (rough .before .before .slice-known .given) in
+    let long : length u ≡ 4 * s .args .n = omega (arith, rough .presort .kept, pass .insertion .kept) in
     sym (flat-rows u (s .args .n) long)
-    ∙ ap flatten (rising-sorted (rowsOf t) (rowsOf u) (s .pre .2) (rows-single t (c .before .before .before .before .before .before .before .before .slice-known .given)) same (λ k h. settled .rising k (omega (arith, length-rows u .0))))
+    ∙ ap flatten (rising-sorted (rowsOf t) (rowsOf u) (s .pre .2) single same
+    (λ k h. pass .insertion .ensures .rising k (omega (arith, length-rows u .0))))
 
 pub sort-spec : {M : Type 1} → statement M
 sort-spec =

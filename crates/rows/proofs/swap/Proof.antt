@@ -7,10 +7,12 @@ use Rattle.rows.proofs.swap.Tie as tie
 
 returns : tie.Need-returns
 returns c =
-    let args = c .before .before .before .before .before .before .before .before .before .before .before .before .before .args in
-    let the-get = c .before .before .before .before .before .before .before .before .before .before .get in
-    let the-get2 = c .before .before .before .before .before .before .before .before .get2 in
-    swapped-by (rowsOf (args .rows .now)) _ _ (args .i) (args .j) (the-get .result) (the-get2 .result) (the-get .ensures) (the-get2 .ensures) (c .before .before .before .before .before .before .put .ensures) (c .before .before .put2 .ensures)
+    let second = c .before .before in
+    let first = second .before .before .before .before in
+    let read = first .before .before in
+    let s = read .before .before .before .before .before in
+    swapped-by (rowsOf (s .args .rows .now)) (s .args .i) (s .args .j) (read .before .before .get .ensures) (read .get2 .ensures)
+    (first .put .ensures) (second .put2 .ensures)
 
 pub swap-spec : {M : Type 1} → statement M
 swap-spec =

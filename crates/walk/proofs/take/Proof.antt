@@ -1,21 +1,26 @@
 -- `walk::take` meets its contract: by the part that is prepared. Assumes nothing.
-use mathlib.Core.Path.{subst, ap, _∙_}
 use borrow.Author.Tests.{not-true, not-false}
-use Rattle.sums.specs.declared.Part.{Part}
-use Rattle.walk.specs.Steps.{Takes}
-use Rattle.walk.proofs.Turns.{part-out, part-sliver, part-used, takes-range, takes-sliver}
+use Rattle.walk.proofs.Turns.{takes-out, takes-sliver, takes-used}
 use borrow.Author.Needs.{needs}
 use Rattle.walk.proofs.take.Statement.{statement}
 use Rattle.walk.proofs.take.Tie as tie
 
 returns : tie.Need-returns
-returns c = subst (λ (p : Part). Takes (c .before .before .before .before .args .m) (c .before .before .before .before .args .pair) (c .before .before .before .before .args .s) p (c .before .before .before .before .args .index .now) (c .before .before .before .before .args .index .now) (c .before .before .before .before .args .rows .now) (c .before .before .before .before .args .rows .now) (c .before .before .before .before .args .s)) (part-out (c .before .before .before .before .args .p) (not-true _ (c .if1 .taken))) (takes-range _ _ _ _ _)
+returns c = takes-out _ _ (c .before .before .before .before .args .p) _ (not-true _ (c .if1 .taken))
 
 returns-2 : tie.Need-returns-2
-returns-2 c = subst (λ (p : Part). Takes (c .before .before .before .before .before .before .args .m) (c .before .before .before .before .before .before .args .pair) (c .before .before .before .before .before .before .args .s) p (c .before .before .before .before .before .before .args .index .now) (c .before .before .before .before .before .before .args .index .now) (c .before .before .before .before .before .before .args .rows .now) (c .before .before .before .before .before .before .args .rows .now) (c .before .before .before .before .before .before .args .s)) (part-sliver (c .before .before .before .before .before .before .args .p) (not-false _ (c .before .before .if1 .left)) (c .if2 .taken)) (takes-sliver _ _ _ _ _)
+returns-2 c =
+    let ranged = c .before .before in
+    takes-sliver _ _ (ranged .before .before .before .before .args .p) _ (not-false _ (ranged .if1 .left)) (c .if2 .taken)
 
 returns-3 : tie.Need-returns-3
-returns-3 c = subst (λ (p : Part). Takes (c .before .before .before .before .before .before .before .before .before .before .before .before .before .before .args .m) (c .before .before .before .before .before .before .before .before .before .before .before .before .before .before .args .pair) (c .before .before .before .before .before .before .before .before .before .before .before .before .before .before .args .s) p (c .before .before .before .before .before .before .before .before .before .before .before .before .before .before .args .index .now) (c .before .before .before .before .take-facet .last .1 .1 .1 .0) (c .before .before .before .before .before .before .before .before .before .before .before .before .before .before .args .rows .now) (c .before .before .before .before .take-facet .last .1 .1 .1 .1 .0) (c .before .before .before .before .take-facet .result)) (ap Part.Used (c .before .before .before .before .before .before .before .facet-by .ensures) ∙ part-used (c .before .before .before .before .before .before .before .before .before .before .before .before .before .before .args .p) (not-false _ (c .before .before .before .before .before .before .before .before .before .before .if1 .left)) (c .before .before .before .before .before .before .before .before .if2 .left)) (c .before .before .before .before .take-facet .ensures)
+returns-3 c =
+    let took = c .before .before .before .before in
+    let made = took .before .before .before in
+    let long = made .before in
+    let ranged = long .before .before in
+    takes-used _ _ (ranged .before .before .before .before .args .p) _ _ _ (not-false _ (ranged .if1 .left)) (long .if2 .left)
+    (made .facet-by .ensures) (took .take-facet .ensures)
 
 pub take-spec : {M : Type 1} → statement M
 take-spec =

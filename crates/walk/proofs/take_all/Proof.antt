@@ -1,44 +1,81 @@
--- `walk::take_all` meets its contract: after t turns one triangle has its cross product, the one in front of it its length, and all in front of that are taken. Assumes nothing.
-use mathlib.Core.Path.{ap, _≡_, subst, _∙_, refl}
-use lib.ListN.{length-replicate, length}
+-- `walk::take_all` meets its contract: after t turns one triangle has its cross product, the one in front of it its length, and all in
+-- front of that are taken. Assumes nothing.
+use mathlib.Core.Path.{_≡_, subst, _∙_, refl}
+use lib.ListN.{length}
+use Prim.Native.Nat.{ℕ, _+_, _-_, _≤_}
+use Rattle.walk.specs.inner.Steps.{Given, given, trianglesIn, State, state, Taken, Underway}
 use Rattle.walk.proofs.Turns.{underway-none, underway-next, ready}
-use Prim.Native.Nat.{_+_, _-_, _≤_, ℕ}
-use Rattle.ids.specs.Triangles.{triangleCount}
-use Rattle.walk.specs.Steps.{Taken, Underway}
 use borrow.Author.Needs.{needs}
 use native.Mathlib.Omega.{arith}
 use Rattle.walk.proofs.take_all.Statement.{statement}
 use Rattle.walk.proofs.take_all.Tie as tie
 
 abbrev Inv-loop : tie.InvT-loop
-Inv-loop vertices indices origin pair index₀ rows₀ m s₀ held₀ next₀ t₀ index rows s held next t = (t ≤ m + 2) × (length index ≡ length index₀) × (length rows ≡ length rows₀) × Underway vertices origin pair indices rows₀ t index rows s held next
+Inv-loop vertices indices origin pair index₀ rows₀ m s₀ held₀ next₀ t₀ index rows s held next t =
+    (t ≤ m + 2) × (length index ≡ length index₀) × (length rows ≡ length rows₀)
+    × Underway (given vertices origin pair indices rows₀) t (state index rows s) held next
 
 abbrev μ-loop : tie.MeasureT-loop
 μ-loop vertices indices origin pair index₀ rows₀ m s₀ held₀ next₀ t₀ index rows s held next t = m + 2 - t
 
+-- what the walk is given, and where it is after some turns
+module _ (c : tie.At-loop Inv-loop μ-loop) where
+  abbrev known : tie.After-slice-known2 Inv-loop μ-loop
+  known = c .before .before .before .before
+
+  abbrev st : tie.Start Inv-loop μ-loop
+  st = known .before .before .before .before
+
+  abbrev the : Given
+  the = given (st .args .vertices .now) (st .args .origin) (st .args .pair) (st .args .indices .now) (st .args .rows .now)
+
+  abbrev here : State
+  here = state (c .loop .index) (c .loop .rows) (c .loop .s)
+
 loop-holds : tie.Need-loop-holds Inv-loop μ-loop
-loop-holds c = (omega arith, refl, refl, underway-none _ _ _ _ _ _ _ _ _ (c .before .before .before .before .before .before .before .pre .3) (c .before .before .none .ensures) (c .before .nothing .ensures) (c .no-cross .ensures))
+loop-holds c =
+    let first = c .before in
+    let none = first .before in
+    let s = none .before .before .before .before .before in
+    (omega arith, refl, refl, underway-none _ _ _ _ _ (s .pre .1) (none .none .ensures) (first .nothing .ensures) (c .nothing2 .ensures))
 
 with-root-requires : tie.Need-with-root-requires Inv-loop μ-loop
 with-root-requires c κs = c .before .loop .inv .3 .rooted
 
 cross-at-requires : tie.Need-cross-at-requires Inv-loop μ-loop
-cross-at-requires c κs = (c .before .before .before .before .before .before .before .before .before .before .pre .1, c .before .before .before .before .before .before .before .before .before .before .pre .0)
+cross-at-requires c κs = let s = st (c .before .before) in (s .pre .0 .few, s .pre .0 .fine)
 
 take-requires : tie.Need-take-requires Inv-loop μ-loop
-take-requires c κs = ready _ _ _ _ _ _ _ _ _ (omega (arith, c .before .before .before .before .before .before .before .before .before .before .before .before .before .pre .1)) (c .before .before .before .before .before .loop .inv .1 ∙ ap length (c .before .before .before .before .before .before .before .before .before .before .before .before .before .pre .3) ∙ length-replicate _ _) (omega (arith, c .before .before .before .before .before .before .before .before .before .before .before .before .before .pre .4, c .before .before .before .before .before .loop .inv .2)) (omega (arith, c .before .before .before .before .before .before .before .before .before .before .before .before .before .pre .2)) (c .before .before .before .before .before .loop .inv .3 .taken)
+take-requires c κs =
+    let at = c .before .before .before .before .before in
+    let asked = st at .pre .0 in
+    ready (the at) _ (here at) (omega (arith, asked .few)) (at .loop .inv .1 ∙ asked .words) (omega (arith, asked .room, at .loop .inv .2))
+    (omega (arith, asked .some)) (at .loop .inv .3 .taken)
 
 add-t : tie.Need-add-t Inv-loop μ-loop
-add-t c = record { fits = omega (arith, c .before .before .before .before .before .before .before .before .before .before .before .before .before .before .before .before .before .before .pre .1) }
+add-t c =
+    let took = c .before .before .before .before in
+    record { fits = omega (arith, st (took .before .before .before .before .before .before) .pre .0 .few) }
 
 loop-again : tie.Need-loop-again Inv-loop μ-loop
-loop-again c = (omega arith, c .before .before .before .before .take .kept .1 .1 .1 .0 ∙ c .before .before .before .before .before .before .before .before .before .before .loop .inv .1, c .before .before .before .before .take .kept .1 .1 .1 .1 .0 ∙ c .before .before .before .before .before .before .before .before .before .before .loop .inv .2, underway-next _ _ _ _ _ _ _ _ _ _ _ _ _ _ _ _ (omega arith) (c .before .before .before .before .before .before .before .before .before .before .loop .inv .3) (c .before .before .before .before .take .ensures) (c .before .before .before .before .before .before .before .before .with-root .ensures) (c .before .before .before .before .before .before .before .cross-at .ensures))
+loop-again c =
+    let took = c .before .before .before .before in
+    let crossed = took .before .before .before in
+    let rooted = crossed .before in
+    let at = rooted .before .before in
+    let i = at .loop .inv in (
+      omega arith,
+      took .take .kept .1 .1 .1 .0 ∙ i .1,
+      took .take .kept .1 .1 .1 .1 .0 ∙ i .2,
+      underway-next (the at) _ (here at) _ _ _ _ _ (omega arith) (i .3) (took .take .ensures) (rooted .with-root .ensures)
+          (crossed .cross-at .ensures),
+    )
 
 returns : tie.Need-returns Inv-loop μ-loop
 returns c =
-    let a = c .before .before .before .before .before .before .before .before .before .args in
-    let e : c .before .loop .t - 2 ≡ triangleCount (a .indices .now) = omega (arith, c .before .loop .inv .0) in
-    subst (λ (k : ℕ). Taken (a .vertices .now) (a .origin) (a .pair) (a .indices .now) (a .rows .now) k (c .before .loop .index) (c .before .loop .rows) (c .before .loop .s)) e (c .before .loop .inv .3 .taken)
+    let at = c .before in
+    let e : at .loop .t - 2 ≡ trianglesIn (the at) = omega (arith, at .loop .inv .0) in
+    subst (λ (k : ℕ). Taken (the at) k (here at)) e (at .loop .inv .3 .taken)
 
 pub take-all-spec : {M : Type 1} → statement M
 take-all-spec =

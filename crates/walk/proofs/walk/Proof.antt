@@ -9,10 +9,16 @@ use Rattle.walk.proofs.walk.Statement.{statement}
 use Rattle.walk.proofs.walk.Tie as tie
 
 take-all-requires : tie.Need-take-all-requires
-take-all-requires c κs = (c .before .before .before .before .before .before .before .before .before .before .pre .0, c .before .before .before .before .before .before .before .before .before .before .pre .1, c .before .before .before .before .before .before .before .before .before .before .pre .2, c .before .before .before .before .clear .ensures ∙ cleared-all _ (c .before .before .before .before .before .before .before .before .before .before .args .index .now) refl ∙ ap (λ (k : ℕ). replicate k 0) (c .before .before .before .before .before .before .before .before .before .before .pre .3), c .before .before .before .before .before .before .before .before .before .before .pre .4)
+take-all-requires c κs =
+    let cleared = c .before .before .before .before in
+    let s = cleared .before .before .before .before .before .before in
+    let a = s .pre in (
+      record { fine = a .fine; few = a .few; some = a .some; words = cleared .clear .kept .0 ∙ a .words; room = a .room },
+      cleared .clear .ensures ∙ cleared-all _ (s .args .index .now) refl ∙ ap (λ (k : ℕ). replicate k 0) (a .words),
+    )
 
 returns : tie.Need-returns
-returns c = walks _ _ _ _ _ _ _ _ (c .before .before .before .before .take-all .ensures)
+returns c = walks _ _ (c .before .before .before .before .take-all .ensures)
 
 pub walk-spec : {M : Type 1} → statement M
 walk-spec =

@@ -1,0 +1,75 @@
+-- What one triangle does to the totals, the rows and their index, and which triangles are under way after n turns.
+use mathlib.Core.Path.{_≡_}
+use Prim.Native.Nat.{ℕ, zero, suc, _-_, _≤_}
+use mathlib.Core.List.{List}
+use lib.ListN.{length}
+use lib.Ieee.{Float}
+use Rattle.ids.specs.Triangles.{triangle, triangleCount}
+use Rattle.sums.specs.declared.totals.Thresholds.{Thresholds}
+use Rattle.sums.specs.declared.triangle.Prepared.{Prepared}
+use Rattle.sums.specs.Facet.{Part, outOfRange, part}
+use Rattle.sums.specs.inner.Prepared.{partBy, partIn, HasRoot}
+use Rattle.sums.specs.Totals.{withPart, totalsTo}
+use Rattle.surfaces.specs.Surfaces.{Bucket}
+use Rattle.surfaces.specs.Index.{Gathered}
+use Rattle.walk.specs.declared.Sums.{Sums}
+use Rattle.walk.specs.Walk.{withSurface, bucketsTo}
+
+-- ---- what is given, and what changes
+
+-- vertices, origin, thresholds and ids, and the surface area before
+pub record Given : Type 0 where
+  pub vs : List Float
+  pub o : List Float
+  pub pair : Thresholds
+  pub ids : List ℕ
+  pub area : List Float
+
+abbrev pub given : List Float → List Float → Thresholds → List ℕ → List Float → Given
+given vs o pair ids area = record { vs = vs; o = o; pair = pair; ids = ids; area = area }
+
+abbrev pub trianglesIn : Given → ℕ
+trianglesIn g = triangleCount (g .ids)
+
+abbrev pub partAt : Given → ℕ → Part
+partAt g n = part (g .vs) (g .o) (triangle (g .ids) n)
+
+abbrev pub bucketsOf : Given → ℕ → List Bucket
+bucketsOf g n = bucketsTo (g .vs) (g .o) (g .ids) n
+
+-- the index, the surface area and the sums
+pub record State : Type 0 where
+  pub index : List ℕ
+  pub rows : List Float
+  pub sums : Sums
+
+abbrev pub state : List ℕ → List Float → Sums → State
+state t u s = record { index = t; rows = u; sums = s }
+
+-- ---- one triangle
+
+-- whatever rows s meant, as many as its sums say, r means them with the part p more, as many as its sums say; and its totals have it
+pub record Takes (m : ℕ) (pair : Thresholds) (p : Part) (s r : State) : Type 0 where
+  pub totals : r .sums .totals ≡ withPart pair (s .sums .totals) p
+  pub puts : (w : List Float) (bs : List Bucket) → length bs ≡ s .sums .rows → Gathered m w (s .index) (s .rows) bs
+      → (r .sums .rows ≡ length (withSurface bs p)) × Gathered m w (r .index) (r .rows) (withSurface bs p)
+
+-- ---- all
+
+-- s has the totals of the first n triangles and means their rows; behind these the surface area is as it was
+pub record Taken (g : Given) (n : ℕ) (s : State) : Type 0 where
+  pub totals : s .sums .totals ≡ totalsTo (g .vs) (g .o) (g .pair) (g .ids) n
+  pub rows : s .sums .rows ≡ length (bucketsOf g n)
+  pub means : Gathered (trianglesIn g) (g .area) (s .index) (s .rows) (bucketsOf g n)
+
+-- p is the part of the triangle behind n - 1 others, and that of none where n is 0
+unfoldable pub Awaits : Given → ℕ → Part → Type 0
+Awaits g zero p = p ≡ outOfRange
+Awaits g (suc n) p = p ≡ partAt g n
+
+-- after n turns: q has the cross product of the last triangle, p the length of the one in front of it, and those in front of that are taken
+pub record Underway (g : Given) (n : ℕ) (s : State) (p q : Prepared) : Type 0 where
+  pub rooted : HasRoot p
+  pub crossed : n ≤ trianglesIn g → Awaits g n (partIn q)
+  pub prepared : n - 1 ≤ trianglesIn g → Awaits g (n - 1) (partBy p)
+  pub taken : Taken g (n - 2) s

@@ -1,6 +1,7 @@
 // The id routines under the names of the C interface: each is the routine of `chain` or `pieces`, and its answer as a number.
 ghost use mathlib.Core.Path.{_≡_};
-ghost use Rattle.chain.specs.Numbers.{edgeChainNumber, faceNetNumber, verdictNumber, Small, EdgeChainNumbered, FaceNetNumbered, ClosedManifoldNumbered, WindingCoherentNumbered};
+ghost use Rattle.chain.specs.Numbers.{edgeChainNumber, faceNetNumber, verdictNumber, EdgeChainNumbered, FaceNetNumbered, ClosedManifoldNumbered, WindingCoherentNumbered};
+ghost use Rattle.chain.specs.inner.Small.{Small};
 ghost use Rattle.pieces.specs.Numbers.{pieceCountNumber, PiecesNumbered};
 use chain::EdgeChain;
 use chain::FaceNet;

@@ -6,7 +6,7 @@ use native.Mathlib.Omega.{arith}
 use lib.ListN.{length}
 use Rattle.ids.specs.Lent.{cleared}
 use Rattle.ids.proofs.Lent.{cleared-all}
-use Rattle.steps.specs.Rows.{EdgeTable}
+use Rattle.steps.specs.inner.Rows.{EdgeTable}
 use Rattle.edges.proofs.Tally.{zero-table}
 
 -- the part, cleared, is a table with no use, and has the rows that the ids need

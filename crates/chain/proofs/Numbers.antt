@@ -11,7 +11,7 @@ use Rattle.ids.specs.FaceNet.{maxAbs}
 use Rattle.ids.specs.Lent.{refusal, unlessRefused}
 use Rattle.ids.proofs.Uses.{max-abs-below}
 use Rattle.chain.specs.Answers.{netOf, FaceNetGiven}
-use Rattle.chain.specs.Numbers.{Small}
+use Rattle.chain.specs.inner.Small.{Small}
 use Rattle.chain.specs.declared.FaceNet.{FaceNet}
 use Rattle.chain.specs.declared.FaceNet.the-variants.{Answer, Refused}
 

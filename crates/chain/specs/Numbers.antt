@@ -1,5 +1,5 @@
 -- The number of each answer, as the C interface has it. A refusal n is 2^31 + n.
-use Prim.Native.Nat.{ℕ, _+_, _*_, _≤_}
+use Prim.Native.Nat.{ℕ, _+_, _*_}
 use mathlib.Core.Bool.{Bool}
 use mathlib.Core.List.{List}
 use lib.ListN.{length}
@@ -26,11 +26,6 @@ faceNetNumber (face-net.Refused n) = 2147483648 + n
 unfoldable pub verdictNumber : Verdict → ℕ
 verdictNumber (verdict.Answer b) = bit b
 verdictNumber (verdict.Refused n) = 2147483648 + n
-
--- a largest magnitude that leaves room for the number
-unfoldable pub Small : FaceNet → Type 0
-Small (face-net.Answer said) = said .«max_abs» ≤ 98304
-Small (face-net.Refused n) = Unit {0}
 
 -- ---- the contracts of the C forms: the same routines, their answers as numbers
 

@@ -6,7 +6,7 @@ ghost use lib.ListN.{length, replicate};
 ghost use mathlib.Core.List.{[]};
 ghost use Rattle.ids.specs.Triangles.{triangleCount};
 ghost use Rattle.ids.specs.EdgeChain.{chain, closedManifold, windingCoherent};
-ghost use Rattle.steps.specs.Rows.{EdgeTable};
+ghost use Rattle.steps.specs.inner.Rows.{EdgeTable};
 ghost use Rattle.chain.specs.Answers.{incidenceOf, netOf, EdgeChainGiven, FaceNetGiven, ClosedManifoldGiven, WindingCoherentGiven};
 pub use tally::Incidence;
 pub use tally::Net;

@@ -10,8 +10,8 @@ use Rattle.ids.specs.Triangles.{overTriangles}
 use Rattle.ids.specs.Uses.{Use}
 use Rattle.ids.specs.EdgeChain.{Edge, around}
 use Rattle.ids.proofs.Triangles.{triangleAt}
-use Rattle.steps.specs.Rows.{EdgeTable, Room}
-use Rattle.edges.specs.Tests.{edgesOf}
+use Rattle.steps.specs.inner.Rows.{EdgeTable, EdgeRoom}
+use Rattle.edges.specs.inner.Tests.{edgesOf}
 use Rattle.edges.proofs.Gathering.{Gathering, gathering-none, gathering-room, gathering-next, gathering-last}
 
 -- the triangle from place i on is the one that the ids behind `at` have there
@@ -36,7 +36,7 @@ module _ (w₀ : List ℕ) (at n : ℕ) (w : List ℕ) (i : ℕ) (b : Behind w�
   more : i + 2 < length w → i - at + 2 < length (drop at w₀)
   more l = simp length-drop (omega (arith, b .past, b .long))
 
-  pub behind-room : length w₀ ≤ at + 98304 → length w₀ - at ≤ n → i + 2 < length w → Room n (take at w) 3
+  pub behind-room : length w₀ ≤ at + 98304 → length w₀ - at ≤ n → i + 2 < length w → EdgeRoom n (take at w) 3
   behind-room small rows l = gathering-room true (drop at w₀) n (take at w) (i - at) (b .front) (simp length-drop (omega arith)) (simp length-drop (omega arith)) (more l)
 
   -- ys is the front part with the uses of one triangle more

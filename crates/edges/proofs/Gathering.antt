@@ -9,8 +9,8 @@ use Rattle.ids.specs.Triangles.{overTriangles}
 use Rattle.ids.specs.Uses.{Use}
 use Rattle.ids.specs.EdgeChain.{Edge}
 use Rattle.ids.proofs.Triangles.{triangleAt, turn, turned}
-use Rattle.steps.specs.Rows.{EdgeTable, Within, Room}
-use Rattle.edges.specs.Tests.{edgesOf}
+use Rattle.steps.specs.inner.Rows.{EdgeTable, Within, EdgeRoom}
+use Rattle.edges.specs.inner.Tests.{edgesOf}
 use Rattle.edges.proofs.Triangles.{triangle-within, triangle-length}
 use Rattle.steps.proofs.Within.{within-length, within-le, within-append}
 
@@ -27,7 +27,7 @@ module _ (whole : Bool) (ids : List ℕ) (n : ℕ) (t : List ℕ) where
   gathering-none m = record { so-far = []; with-rest = refl; few = omega arith; within = within-length 0 [] (omega arith); means = m }
 
   module _ (i : ℕ) (g : Gathering whole ids n t i) where
-    pub gathering-room : length ids ≤ 98304 → length ids ≤ n → i + 2 < length ids → Room n t 3
+    pub gathering-room : length ids ≤ 98304 → length ids ≤ n → i + 2 < length ids → EdgeRoom n t 3
     gathering-room small rows more = record {
       so-far = g .so-far;
       rows-left = omega (arith, g .few);

@@ -12,10 +12,10 @@ use lib.ListN.{length, length-append}
 use Rattle.ids.specs.Triangles.{Triangle, distinct}
 use Rattle.ids.specs.Uses.{Use, uses, bit}
 use Rattle.ids.specs.EdgeChain.{Edge, sameEdge, step, around, properStep, aroundProper}
-use Rattle.table.specs.Table.{ups}
+use Rattle.table.specs.inner.Table.{ups}
 use Rattle.ids.proofs.Triangles.{repeats-ab, repeats-bc, repeats-ca, repeats-none}
-use Rattle.steps.specs.Rows.{Within}
-use Rattle.edges.specs.Tests.{edgesOf}
+use Rattle.steps.specs.inner.Rows.{Within}
+use Rattle.edges.specs.inner.Tests.{edgesOf}
 use Rattle.ids.proofs.Same.{edge-eq}
 use Rattle.steps.proofs.Within.{uses-append, ups-append, within-length}
 

@@ -7,17 +7,17 @@ ghost use lib.ListN.{length, take, drop};
 ghost use Rattle.ids.specs.Triangles.{overTriangles};
 ghost use Rattle.ids.specs.Uses.{Use, bit};
 ghost use Rattle.ids.specs.EdgeChain.{Edge, properStep, around, aroundProper, present, unbalanced, crowded, unpaired, incoherent};
-ghost use Rattle.table.specs.Rows.{sumTo};
-ghost use Rattle.table.specs.Counts.{usesIn, upsIn, magnitude};
-ghost use Rattle.table.specs.Table.{gate};
-ghost use Rattle.steps.specs.Rows.{EdgeTable, Room};
-ghost use Rattle.edges.specs.Tests.{testOf, edgesOf, rowBit};
+ghost use Rattle.table.specs.inner.Rows.{sumTo};
+ghost use Rattle.table.specs.inner.Counts.{usesIn, upsIn, sumSize};
+ghost use Rattle.table.specs.inner.Table.{gate};
+ghost use Rattle.steps.specs.inner.Rows.{EdgeTable, EdgeRoom};
+ghost use Rattle.edges.specs.inner.Tests.{testOf, edgesOf, rowBit};
 
 // ---- one triangle
 
 // Adds the uses that one triangle makes: none if it repeats an id.
 fn triangle(work: &mut [u32], n: usize, a: u32, b: u32, c: u32)
-    requires { ⌜ (n ≤ 131072) × (3 * n ≤ length (now work)) × Room n (now work) 3 ⌝ }
+    requires { ⌜ (n ≤ 131072) × (3 * n ≤ length (now work)) × EdgeRoom n (now work) 3 ⌝ }
     ensures { λ _. ⌜ ((es : List (Use Edge)) → EdgeTable n (now (work .entry)) es → EdgeTable n (now (work .exit)) (es ++ around (record { a = a; b = b; c = c }))) ⌝ }
 {
     if !table::distinct(a, b, c) {
@@ -30,7 +30,7 @@ fn triangle(work: &mut [u32], n: usize, a: u32, b: u32, c: u32)
 
 // Adds the use that a step makes: none between equal ids.
 fn proper_step(work: &mut [u32], n: usize, u: u32, v: u32)
-    requires { ⌜ (n ≤ 131072) × (3 * n ≤ length (now work)) × Room n (now work) 1 ⌝ }
+    requires { ⌜ (n ≤ 131072) × (3 * n ≤ length (now work)) × EdgeRoom n (now work) 1 ⌝ }
     ensures { λ _. ⌜ ((es : List (Use Edge)) → EdgeTable n (now (work .entry)) es → EdgeTable n (now (work .exit)) (es ++ properStep u v)) ⌝ }
 {
     if u == v {
@@ -41,7 +41,7 @@ fn proper_step(work: &mut [u32], n: usize, u: u32, v: u32)
 
 // Adds the uses of one triangle, but those between equal ids.
 fn proper_triangle(work: &mut [u32], n: usize, a: u32, b: u32, c: u32)
-    requires { ⌜ (n ≤ 131072) × (3 * n ≤ length (now work)) × Room n (now work) 3 ⌝ }
+    requires { ⌜ (n ≤ 131072) × (3 * n ≤ length (now work)) × EdgeRoom n (now work) 3 ⌝ }
     ensures { λ _. ⌜ ((es : List (Use Edge)) → EdgeTable n (now (work .entry)) es → EdgeTable n (now (work .exit)) (es ++ aroundProper (record { a = a; b = b; c = c }))) ⌝ }
 {
     proper_step(work, n, a, b);
@@ -51,7 +51,7 @@ fn proper_triangle(work: &mut [u32], n: usize, a: u32, b: u32, c: u32)
 
 // One or the other.
 fn triangle_by(work: &mut [u32], n: usize, whole: bool, a: u32, b: u32, c: u32)
-    requires { ⌜ (n ≤ 131072) × (3 * n ≤ length (now work)) × Room n (now work) 3 ⌝ }
+    requires { ⌜ (n ≤ 131072) × (3 * n ≤ length (now work)) × EdgeRoom n (now work) 3 ⌝ }
     ensures { λ _. ⌜ ((es : List (Use Edge)) → EdgeTable n (now (work .entry)) es → EdgeTable n (now (work .exit)) (es ++ edgesOf whole (record { a = a; b = b; c = c }))) ⌝ }
 {
     if whole {
@@ -122,7 +122,7 @@ fn one_present(uses: u32) -> u32
 }
 
 fn one_unbalanced(ups: u32, downs: u32) -> u32
-    ensures { λ r. ⌜ (r ≡ gate (ups + downs) (bit (unbalanced (ups + downs) (magnitude (ups + downs) ups)))) × (r ≤ 1) ⌝ }
+    ensures { λ r. ⌜ (r ≡ gate (ups + downs) (bit (unbalanced (ups + downs) (sumSize (ups + downs) ups)))) × (r ≤ 1) ⌝ }
 {
     if ups == downs { 0 } else { 1 }
 }
@@ -135,14 +135,14 @@ fn one_crowded(uses: u32) -> u32
 
 // No branch here and below: which rows are used is as by chance, and a processor would guess wrongly.
 fn one_unpaired(uses: u32, ups: u32) -> u32
-    ensures { λ r. ⌜ (r ≡ gate uses (bit (unpaired uses (magnitude uses ups)))) × (r ≤ 1) ⌝ }
+    ensures { λ r. ⌜ (r ≡ gate uses (bit (unpaired uses (sumSize uses ups)))) × (r ≤ 1) ⌝ }
 {
     let paired = (uses == 2) & (ups == 1);
     ((0 < uses) & !paired) as u32
 }
 
 fn one_incoherent(uses: u32, ups: u32) -> u32
-    ensures { λ r. ⌜ (r ≡ gate uses (bit (incoherent uses (magnitude uses ups)))) × (r ≤ 1) ⌝ }
+    ensures { λ r. ⌜ (r ≡ gate uses (bit (incoherent uses (sumSize uses ups)))) × (r ≤ 1) ⌝ }
 {
     let paired = (uses == 2) & (ups == 1);
     ((1 < uses) & !paired) as u32
@@ -150,7 +150,7 @@ fn one_incoherent(uses: u32, ups: u32) -> u32
 
 // 1 if a row with this word is used and passes the test, else 0.
 fn passes(word: u32, test: u8) -> u32
-    ensures { λ r. ⌜ (r ≡ gate (usesIn word) (bit (testOf test (usesIn word) (magnitude (usesIn word) (upsIn word))))) × (r ≤ 1) ⌝ }
+    ensures { λ r. ⌜ (r ≡ gate (usesIn word) (bit (testOf test (usesIn word) (sumSize (usesIn word) (upsIn word))))) × (r ≤ 1) ⌝ }
 {
     let ups = word / 65536;
     let downs = word % 65536;

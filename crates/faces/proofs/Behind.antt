@@ -7,7 +7,7 @@ use lib.ListN.{length, take, drop, length-drop}
 use lib.Seq.{length-take-le, take-at, drop-at}
 use Rattle.ids.specs.Uses.{Use}
 use Rattle.ids.specs.FaceNet.{Face}
-use Rattle.faces.specs.Rows.{FaceTable, AddedBehind}
+use Rattle.faces.specs.inner.Rows.{FaceTable, AddedBehind}
 
 pub ids-few : (at : ℕ) (w : List ℕ) → length w ≤ at + 98304 → length (drop at w) ≤ 98304
 ids-few at w l = rw length-drop (omega arith)

@@ -7,7 +7,7 @@ use lib.ListN.{length, drop}
 use Rattle.ids.specs.Triangles.{triangle, triangleCount}
 use Rattle.ids.specs.Uses.{Use}
 use Rattle.ids.specs.FaceNet.{Face, face, faces}
-use Rattle.faces.specs.Rows.{FaceTable, Room}
+use Rattle.faces.specs.inner.Rows.{FaceTable, FaceRoom}
 use Rattle.faces.proofs.Turns.{length-next, next-turn, last-turn}
 
 -- the table of n rows after the first t triangles
@@ -22,7 +22,7 @@ module _ (ids : List ℕ) (n : ℕ) (table : List ℕ) where
   summing-none m = record { so-far = []; few = omega arith; with-rest = refl; means = m }
 
   module _ (t : ℕ) (s : Summing ids n table t) where
-    pub summing-room : length ids ≤ 98304 → triangleCount ids ≤ n → t < triangleCount ids → Room ids n table
+    pub summing-room : length ids ≤ 98304 → triangleCount ids ≤ n → t < triangleCount ids → FaceRoom ids n table
     summing-room few rows more = (s .so-far, omega (arith, s .few), omega (arith, s .few), s .means)
 
     pub summing-next : (after : List ℕ) → t < triangleCount ids → FaceTable ids n after (s .so-far ++ face (triangle ids t)) → Summing ids n after (t + 1)

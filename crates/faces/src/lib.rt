@@ -7,10 +7,10 @@ ghost use lib.ListN.{length, take, drop};
 ghost use Rattle.ids.specs.Triangles.{triangle, triangleCount};
 ghost use Rattle.ids.specs.Uses.{Use};
 ghost use Rattle.ids.specs.FaceNet.{Face, sameFace, sorted, faceUse, face, faces};
-ghost use Rattle.table.specs.Rows.{sumTo, Found, Free};
-ghost use Rattle.table.specs.Counts.{usesIn, upsIn, magnitude};
-ghost use Rattle.table.specs.Table.{maxTo};
-ghost use Rattle.faces.specs.Rows.{namedAt, faceAt, wordAt, usesAt, put, hashOf, FaceTable, Room, AddedBehind, rowOff, rowSize};
+ghost use Rattle.table.specs.inner.Rows.{sumTo, Found, Free};
+ghost use Rattle.table.specs.inner.Counts.{usesIn, upsIn, sumSize};
+ghost use Rattle.table.specs.inner.Table.{maxTo};
+ghost use Rattle.faces.specs.inner.Rows.{namedAt, faceAt, faceWord, faceUses, putFace, faceHash, FaceTable, FaceRoom, AddedBehind, rowOff, rowSize};
 
 // Three ids sorted.
 pub struct Sorted {
@@ -51,7 +51,7 @@ fn weight(ids: &[u32], t: usize) -> u32
 
 // The hash of a face, of the same kind as that of an edge.
 fn hash(low: u32, mid: u32, high: u32) -> u32
-    ensures { λ r. ⌜ r ≡ hashOf (record { low = low; mid = mid; high = high }) ⌝ }
+    ensures { λ r. ⌜ r ≡ faceHash (record { low = low; mid = mid; high = high }) ⌝ }
 {
     let part = low as u64 * 1014252765 % 0x1_0000_0000;
     let more = (part + mid as u64 * 2645834705) % 0x1_0000_0000;
@@ -70,8 +70,8 @@ fn same(ids: &[u32], t: usize, low: u32, mid: u32, high: u32) -> bool
 // The first row, from `start` on and round, that holds the face or is free.
 fn find(ids: &[u32], work: &[u32], n: usize, low: u32, mid: u32, high: u32, start: usize) -> usize
     requires { ⌜ (length (now ids) ≤ 98304) × (start < n) × (n ≤ 65536) × (2 * n ≤ length (now work))
-        × ((i : ℕ) → i < n → namedAt (now work) i < triangleCount (now ids)) × Free n (usesAt (now work)) ⌝ }
-    ensures { λ r. ⌜ Found n start (faceAt (now (ids .entry)) (now (work .entry))) (usesAt (now (work .entry))) (record { low = low; mid = mid; high = high }) r ⌝ }
+        × ((i : ℕ) → i < n → namedAt (now work) i < triangleCount (now ids)) × Free n (faceUses (now work)) ⌝ }
+    ensures { λ r. ⌜ Found n start (faceAt (now (ids .entry)) (now (work .entry))) (faceUses (now (work .entry))) (record { low = low; mid = mid; high = high }) r ⌝ }
 {
     let mut r = start;
     loop {
@@ -88,8 +88,8 @@ fn find(ids: &[u32], work: &[u32], n: usize, low: u32, mid: u32, high: u32, star
 
 // Counts one more use in row r, which then names triangle t.
 fn bump(work: &mut [u32], r: usize, t: usize, by: u32)
-    requires { ⌜ (r < 65536) × (2 * r + 1 < length (now work)) × (t < 32768) × (by ≤ 65536) × (usesAt (now work) r < 32768) ⌝ }
-    ensures { λ _. ⌜ now (work .exit) ≡ put (now (work .entry)) r t (wordAt (now (work .entry)) r + by) ⌝ }
+    requires { ⌜ (r < 65536) × (2 * r + 1 < length (now work)) × (t < 32768) × (by ≤ 65536) × (faceUses (now work) r < 32768) ⌝ }
+    ensures { λ _. ⌜ now (work .exit) ≡ putFace (now (work .entry)) r t (faceWord (now (work .entry)) r + by) ⌝ }
 {
     let at = 2 * r;
     let word = work[at + 1] + by;
@@ -99,7 +99,7 @@ fn bump(work: &mut [u32], r: usize, t: usize, by: u32)
 
 // Adds the use that triangle t makes of its face, whether or not it repeats an id.
 fn add(ids: &[u32], work: &mut [u32], n: usize, t: usize)
-    requires { ⌜ (length (now ids) ≤ 98304) × (t < triangleCount (now ids)) × (n ≤ 65536) × (2 * n ≤ length (now work)) × Room (now ids) n (now work) ⌝ }
+    requires { ⌜ (length (now ids) ≤ 98304) × (t < triangleCount (now ids)) × (n ≤ 65536) × (2 * n ≤ length (now work)) × FaceRoom (now ids) n (now work) ⌝ }
     ensures { λ _. ⌜ ((es : List (Use Face)) → FaceTable (now (ids .entry)) n (now (work .entry)) es
         → FaceTable (now (ids .entry)) n (now (work .exit)) (es ++ faceUse (triangle (now (ids .entry)) t) ∷ [])) ⌝ }
 {
@@ -114,7 +114,7 @@ fn add(ids: &[u32], work: &mut [u32], n: usize, t: usize)
 
 // Adds the use that triangle t makes: none if it repeats an id.
 fn triangle(ids: &[u32], work: &mut [u32], n: usize, t: usize)
-    requires { ⌜ (length (now ids) ≤ 98304) × (t < triangleCount (now ids)) × (n ≤ 65536) × (2 * n ≤ length (now work)) × Room (now ids) n (now work) ⌝ }
+    requires { ⌜ (length (now ids) ≤ 98304) × (t < triangleCount (now ids)) × (n ≤ 65536) × (2 * n ≤ length (now work)) × FaceRoom (now ids) n (now work) ⌝ }
     ensures { λ _. ⌜ ((es : List (Use Face)) → FaceTable (now (ids .entry)) n (now (work .entry)) es
         → FaceTable (now (ids .entry)) n (now (work .exit)) (es ++ face (triangle (now (ids .entry)) t))) ⌝ }
 {
@@ -150,8 +150,8 @@ fn find_behind(
     start: usize,
 ) -> usize
     requires { ⌜ (at ≤ length (now area)) × (length (now area) ≤ at + 98304) × (start < n) × (n ≤ 65536) × (2 * n ≤ at)
-        × ((i : ℕ) → i < n → namedAt (take at (now area)) i < triangleCount (drop at (now area))) × Free n (usesAt (take at (now area))) ⌝ }
-    ensures { λ r. ⌜ Found n start (faceAt (drop at (now (area .entry))) (take at (now (area .entry)))) (usesAt (take at (now (area .entry)))) (record { low = low; mid = mid; high = high }) r ⌝ }
+        × ((i : ℕ) → i < n → namedAt (take at (now area)) i < triangleCount (drop at (now area))) × Free n (faceUses (take at (now area))) ⌝ }
+    ensures { λ r. ⌜ Found n start (faceAt (drop at (now (area .entry))) (take at (now (area .entry)))) (faceUses (take at (now (area .entry)))) (record { low = low; mid = mid; high = high }) r ⌝ }
 {
     find(&area[at..], &area[..at], n, low, mid, high, start)
 }
@@ -159,7 +159,7 @@ fn find_behind(
 // Adds the use that triangle t makes of its face.
 fn add_behind(area: &mut [u32], at: usize, n: usize, t: usize)
     requires { ⌜ (at ≤ length (now area)) × (length (now area) ≤ at + 98304) × (t < triangleCount (drop at (now area))) × (n ≤ 65536) × (2 * n ≤ at)
-        × Room (drop at (now area)) n (take at (now area)) ⌝ }
+        × FaceRoom (drop at (now area)) n (take at (now area)) ⌝ }
     ensures { λ _. ⌜ AddedBehind at n (now (area .entry)) (now (area .exit)) (faceUse (triangle (drop at (now (area .entry))) t) ∷ []) ⌝ }
 {
     let s = sort(&area[at..], t);
@@ -175,7 +175,7 @@ fn add_behind(area: &mut [u32], at: usize, n: usize, t: usize)
 // Adds the use that triangle t makes: none if it repeats an id.
 fn triangle_behind(area: &mut [u32], at: usize, n: usize, t: usize)
     requires { ⌜ (at ≤ length (now area)) × (length (now area) ≤ at + 98304) × (t < triangleCount (drop at (now area))) × (n ≤ 65536) × (2 * n ≤ at)
-        × Room (drop at (now area)) n (take at (now area)) ⌝ }
+        × FaceRoom (drop at (now area)) n (take at (now area)) ⌝ }
     ensures { λ _. ⌜ AddedBehind at n (now (area .entry)) (now (area .exit)) (face (triangle (drop at (now (area .entry))) t)) ⌝ }
 {
     if !table::distinct_at(&area[at..], t) {
@@ -203,7 +203,7 @@ pub fn gather_behind(area: &mut [u32], at: usize, n: usize)
 
 // The magnitude of the sum that a word counts.
 fn size(word: u32) -> u32
-    ensures { λ r. ⌜ r ≡ magnitude (usesIn word) (upsIn word) ⌝ }
+    ensures { λ r. ⌜ r ≡ sumSize (usesIn word) (upsIn word) ⌝ }
 {
     let up = word / 65536;
     let down = word % 65536;

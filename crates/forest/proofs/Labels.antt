@@ -7,11 +7,11 @@ use native.Mathlib.Omega.{arith}
 use native.Mathlib.Decide.{ℕ-discrete, decLt}
 use borrow.Author.Tests.{eq-eqb, ne-eqb}
 use lib.Dec.{eqb}
-use Rattle.forest.specs.Labels.{Means, merged}
+use Rattle.forest.specs.inner.Labels.{LabelledBy, merged}
 
-module _ (n : ℕ) (p q f : ℕ → ℕ) (m : Means n p f) where
+module _ (n : ℕ) (p q f : ℕ → ℕ) (m : LabelledBy n p f) where
   -- a triangle is hung two steps higher
-  pub halved : (x : ℕ) → x < n → q x ≡ p (p x) → ((i : ℕ) → i ≢ x → q i ≡ p i) → Means n q f
+  pub halved : (x : ℕ) → x < n → q x ≡ p (p x) → ((i : ℕ) → i ≢ x → q i ≡ p i) → LabelledBy n q f
   halved x l here else =
       record {
         down = λ i h. by i (λ j. q j ≤ j) (λ _. omega (arith, at-x .0, at-x .1)) (λ ne. omega (arith, else i ne, m .down i h));
@@ -31,7 +31,7 @@ module _ (n : ℕ) (p q f : ℕ → ℕ) (m : Means n p f) where
       by i P a b = elim (ℕ-discrete i x) [ yes e ↦ subst P (sym e) (a e) | no ne ↦ b ne ]
 
   -- root s is hung on root r
-  pub hung : (r s : ℕ) → r < n → s < n → f r ≡ r → f s ≡ s → r ≤ s → q s ≡ r → ((i : ℕ) → i ≢ s → q i ≡ p i) → Means n q (λ x. cond (eqb (f x) s) r (f x))
+  pub hung : (r s : ℕ) → r < n → s < n → f r ≡ r → f s ≡ s → r ≤ s → q s ≡ r → ((i : ℕ) → i ≢ s → q i ≡ p i) → LabelledBy n q (λ x. cond (eqb (f x) s) r (f x))
   hung r s lr ls fr fs le here else =
       record {
         down = λ i h. by i (λ j. q j ≤ j) (λ _. omega (arith, here)) (λ ne. omega (arith, else i ne, m .down i h));

@@ -7,8 +7,8 @@ use Prim.Native.Nat.{ℕ, _+_, _*_, _≤_, _<_}
 use native.Mathlib.Omega.{arith}
 use lib.Dec.{eqb}
 use lib.ListN.{length, length-set}
-use Rattle.forest.specs.Words.{parentIn, slotIn, withParent}
-use Rattle.forest.specs.Labels.{Means, Forest, Rooted, Joined}
+use Rattle.forest.specs.inner.Words.{parentIn, slotIn, withParent}
+use Rattle.forest.specs.inner.Labels.{LabelledBy, Forest, RootOf, Joined}
 use Rattle.forest.proofs.Words.{parent-here, parent-else, slots-stay}
 use Rattle.forest.proofs.Labels.{halved, hung, merged-up, merged-down}
 
@@ -17,8 +17,8 @@ use Rattle.forest.proofs.Labels.{halved, hung, merged-up, merged-down}
 pub record Climb (t u : List ℕ) (a x : ℕ) : Type 0 where
   pub inside : x < length t
   pub long : length u ≡ length t
-  pub means : (f : ℕ → ℕ) → Means (length t) (parentIn t) f → Means (length t) (parentIn u) f
-  pub label : (f : ℕ → ℕ) → Means (length t) (parentIn t) f → f x ≡ f a
+  pub means : (f : ℕ → ℕ) → LabelledBy (length t) (parentIn t) f → LabelledBy (length t) (parentIn u) f
+  pub label : (f : ℕ → ℕ) → LabelledBy (length t) (parentIn t) f → f x ≡ f a
   pub slots : (i : ℕ) → slotIn u i ≡ slotIn t i
 
 module _ (t u : List ℕ) (a x : ℕ) (c : Climb t u a x) (z : Forest t) where
@@ -45,7 +45,7 @@ module _ (t u : List ℕ) (a x : ℕ) (c : Climb t u a x) (z : Forest t) where
         },
       )
 
-  pub climbed-out : (p : ℕ) → p ≡ parentIn u x → p ≡ x → Rooted t u a x
+  pub climbed-out : (p : ℕ) → p ≡ parentIn u x → p ≡ x → RootOf t u a x
   climbed-out p ep e =
       record {
         is = λ f m. sym (c .means f m .own x (c .inside) (sym ep ∙ e)) ∙ c .label f m;
@@ -55,23 +55,23 @@ module _ (t u : List ℕ) (a x : ℕ) (c : Climb t u a x) (z : Forest t) where
 
 -- ---- two roots joined
 
-module _ (t u v w : List ℕ) (a b r s : ℕ) (la : a < length t) (lb : b < length t) (lu : length u ≡ length t) (lv : length v ≡ length t) (room : length t ≤ 32768) (R : Rooted t u a r) (S : Rooted u v b s) where
+module _ (t u v w : List ℕ) (a b r s : ℕ) (la : a < length t) (lb : b < length t) (lu : length u ≡ length t) (lv : length v ≡ length t) (room : length t ≤ 32768) (R : RootOf t u a r) (S : RootOf u v b s) where
   pub roots : Forest t → (r < length t) × (s < length t)
   roots z =
       let m = z .1 in
-      let m′ : Means (length u) (parentIn u) (z .0) = rw lu (R .means (z .0) m) in
+      let m′ : LabelledBy (length u) (parentIn u) (z .0) = rw lu (R .means (z .0) m) in
       (omega (arith, R .is (z .0) m, m .least a la), omega (arith, S .is (z .0) m′, m .least b lb))
 
-  via : (f : ℕ → ℕ) → Means (length t) (parentIn t) f → Means (length u) (parentIn u) f
+  via : (f : ℕ → ℕ) → LabelledBy (length t) (parentIn t) f → LabelledBy (length u) (parentIn u) f
   via f m = rw lu (R .means f m)
 
-  through : (f : ℕ → ℕ) → Means (length t) (parentIn t) f → Means (length t) (parentIn v) f
+  through : (f : ℕ → ℕ) → LabelledBy (length t) (parentIn t) f → LabelledBy (length t) (parentIn v) f
   through f m = rw lu at (S .means f (via f m))
 
-  own-a : (f : ℕ → ℕ) → Means (length t) (parentIn t) f → f r ≡ r
+  own-a : (f : ℕ → ℕ) → LabelledBy (length t) (parentIn t) f → f r ≡ r
   own-a f m = ap f (R .is f m) ∙ m .own (f a) (omega (arith, m .least a la)) (m .top a la) ∙ sym (R .is f m)
 
-  own-b : (f : ℕ → ℕ) → Means (length t) (parentIn t) f → f s ≡ s
+  own-b : (f : ℕ → ℕ) → LabelledBy (length t) (parentIn t) f → f s ≡ s
   own-b f m = ap f (S .is f (via f m)) ∙ m .own (f b) (omega (arith, m .least b lb)) (m .top b lb) ∙ sym (S .is f (via f m))
 
   slots-same : (i : ℕ) → slotIn v i ≡ slotIn t i
@@ -84,7 +84,7 @@ module _ (t u v w : List ℕ) (a b r s : ℕ) (la : a < length t) (lb : b < leng
       let small : r < 32768 = omega arith in
       record {
         means = λ f m.
-            subst (Means (length t) (parentIn w)) (fun-ext (λ x. ap (λ (q : ℕ). cond (eqb (f x) q) r (f x)) (S .is f (via f m)) ∙ ap (λ (q : ℕ). cond (eqb (f x) (f b)) q (f x)) (R .is f m) ∙ sym (merged-up f a b (omega (arith, R .is f m, S .is f (via f m))) x)))
+            subst (LabelledBy (length t) (parentIn w)) (fun-ext (λ x. ap (λ (q : ℕ). cond (eqb (f x) q) r (f x)) (S .is f (via f m)) ∙ ap (λ (q : ℕ). cond (eqb (f x) (f b)) q (f x)) (R .is f m) ∙ sym (merged-up f a b (omega (arith, R .is f m, S .is f (via f m))) x)))
             (hung (length t) (parentIn v) (parentIn w) f (through f m) r s (k .0) (k .1) (own-a f m) (own-b f m) (omega arith)
             (ap (λ (q : List ℕ). parentIn q s) e ∙ parent-here v s r at small) (λ i n. ap (λ (q : List ℕ). parentIn q i) e ∙ parent-else v s r at small i n));
         slots = λ i. ap (λ (q : List ℕ). slotIn q i) e ∙ slots-stay v s r at small i ∙ slots-same i;
@@ -97,7 +97,7 @@ module _ (t u v w : List ℕ) (a b r s : ℕ) (la : a < length t) (lb : b < leng
       let small : s < 32768 = omega arith in
       record {
         means = λ f m.
-            subst (Means (length t) (parentIn w)) (fun-ext (λ x. ap (λ (q : ℕ). cond (eqb (f x) q) s (f x)) (R .is f m) ∙ ap (λ (q : ℕ). cond (eqb (f x) (f a)) q (f x)) (S .is f (via f m)) ∙ sym (merged-down f a b (omega (arith, R .is f m, S .is f (via f m))) x)))
+            subst (LabelledBy (length t) (parentIn w)) (fun-ext (λ x. ap (λ (q : ℕ). cond (eqb (f x) q) s (f x)) (R .is f m) ∙ ap (λ (q : ℕ). cond (eqb (f x) (f a)) q (f x)) (S .is f (via f m)) ∙ sym (merged-down f a b (omega (arith, R .is f m, S .is f (via f m))) x)))
             (hung (length t) (parentIn v) (parentIn w) f (through f m) s r (k .1) (k .0) (own-b f m) (own-a f m) (omega arith)
             (ap (λ (q : List ℕ). parentIn q r) e ∙ parent-here v r s at small) (λ i n. ap (λ (q : List ℕ). parentIn q i) e ∙ parent-else v r s at small i n));
         slots = λ i. ap (λ (q : List ℕ). slotIn q i) e ∙ slots-stay v r s at small i ∙ slots-same i;

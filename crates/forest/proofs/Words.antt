@@ -7,7 +7,7 @@ use native.Mathlib.Omega.{arith}
 use native.Mathlib.Decide.{ℕ-discrete}
 use lib.ListN.{length, getD, set}
 use lib.Seq.{getD-set-same, getD-set-other}
-use Rattle.forest.specs.Words.{parentIn, slotIn, withParent, withSlot, Planted, Freed}
+use Rattle.forest.specs.inner.Words.{parentIn, slotIn, withParent, withSlot, Planted, Freed}
 
 module _ (t : List ℕ) (i p : ℕ) (inside : i < length t) (small : p < 32768) where
   pub parent-here : parentIn (withParent t i p) i ≡ p

@@ -4,10 +4,10 @@ use mathlib.Core.List.{List}
 use Prim.Native.Nat.{ℕ}
 use native.Mathlib.Omega.{arith}
 use lib.ListN.{length}
-use Rattle.forest.specs.Words.{parentIn, Planted}
-use Rattle.forest.specs.Labels.{Means, merged, Forest, Joined}
+use Rattle.forest.specs.inner.Words.{parentIn, Planted}
+use Rattle.forest.specs.inner.Labels.{LabelledBy, merged, Forest, Joined}
 use Rattle.forest.proofs.Labels.{merged-keeps, merged-inner}
-use Rattle.pieces.specs.Joins.{Linked, Good, Labelled, More, Grown}
+use Rattle.pieces.specs.inner.Joins.{Linked, Good, Labelled, More, Grown}
 
 -- a join of two linked triangles
 module _ {ids t u : List ℕ} {a b : ℕ} (e : length u ≡ length t) (k : Linked ids (length t) a b) (j : Joined t u a b) where
@@ -54,7 +54,7 @@ good-forest z = (z .0, z .1 .means)
 pub good-kept : {ids t u : List ℕ} → length u ≡ length t → ((i : ℕ) → parentIn u i ≡ parentIn t i) → {f : ℕ → ℕ} → Good ids t f → Good ids u f
 good-kept {t = t} {u = u} e same {f = f} g =
     let p : parentIn t ≡ parentIn u = fun-ext (λ i. sym (same i)) in
-    record { means = rw e (subst (λ (q : ℕ → ℕ). Means (length t) q f) p (g .means)); inner = rw e (g .inner) }
+    record { means = rw e (subst (λ (q : ℕ → ℕ). LabelledBy (length t) q f) p (g .means)); inner = rw e (g .inner) }
 
 -- before any join each triangle has its own label
 pub good-planted : {ids t : List ℕ} → Planted (length t) t → Good ids t (λ x. x)

@@ -6,10 +6,10 @@ use Prim.Native.Nat.{ℕ, _+_, _-_, _*_, _/_, _≤_, _<_}
 use native.Mathlib.Omega.{arith}
 use native.Mathlib.Decide.{ℕ-discrete, decLt}
 use lib.ListN.{length}
-use Rattle.forest.specs.Words.{slotIn, Freed}
+use Rattle.forest.specs.inner.Words.{slotIn, Freed}
 use Rattle.ids.specs.Pieces.{solid}
-use Rattle.pieces.specs.Joins.{Linked, Good, More, Grown, Whole}
-use Rattle.pieces.specs.Slots.{keyOf, AllFree, Slots, Has, Covered, Followed, Entered, Filled, Settled, Swept}
+use Rattle.pieces.specs.inner.Joins.{Linked, Good, More, Grown, Whole}
+use Rattle.pieces.specs.inner.Slots.{cornerKey, AllFree, Slots, Has, Covered, Followed, Entered, Filled, Settled, Swept}
 use Rattle.pieces.proofs.Shared.{key-share}
 use Rattle.pieces.proofs.Joins.{more-none, more-then, grown-map, good-kept}
 use Rattle.pieces.proofs.Rows.{slots-free}
@@ -22,7 +22,7 @@ module _ (ids : List ℕ) {n : ℕ} {s s′ f g : ℕ → ℕ} (rows : (r : ℕ)
   has-kept i h =
       let r = h .0 in
       let e : s′ r ≡ s r = rows r (h .1) (h .2) in
-      (r, h .1, rw e (h .2), ap (λ (x : ℕ). keyOf ids (x - 1)) e ∙ h .3, ap (λ (x : ℕ). g ((x - 1) / 3)) e ∙ keeps ((s r - 1) / 3) (i / 3) (h .4))
+      (r, h .1, rw e (h .2), ap (λ (x : ℕ). cornerKey ids (x - 1)) e ∙ h .3, ap (λ (x : ℕ). g ((x - 1) / 3)) e ∙ keeps ((s r - 1) / 3) (i / 3) (h .4))
 
   covered-kept : (a b : ℕ) → Covered ids n s f a b → Covered ids n s′ g a b
   covered-kept a b c i la lb si = has-kept i (c i la lb si)

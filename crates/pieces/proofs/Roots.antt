@@ -10,12 +10,12 @@ use lib.Dec.{eqb}
 use lib.ListN.{length}
 use Rattle.ids.specs.Uses.{bit, sumBy}
 use Rattle.ids.specs.Triangles.{triangle}
-use Rattle.table.specs.Rows.{sumTo}
-use Rattle.forest.specs.Words.{parentIn}
-use Rattle.forest.specs.Labels.{Means}
+use Rattle.table.specs.inner.Rows.{sumTo}
+use Rattle.forest.specs.inner.Words.{parentIn}
+use Rattle.forest.specs.inner.Labels.{LabelledBy}
 use Rattle.ids.specs.Pieces.{groups, shareId, those, solid, solids, pieces}
 use Rattle.ids.specs.Classes.{mem}
-use Rattle.pieces.specs.Joins.{Linked, Whole, isRoot}
+use Rattle.pieces.specs.inner.Joins.{Linked, Whole, isRoot}
 use Rattle.ids.proofs.Groups.{counted}
 use Rattle.ids.proofs.Shared.{share-both}
 use Rattle.ids.proofs.Solids.{those-mem, mem-those, those-once}
@@ -69,7 +69,7 @@ answers ids t e z = those-sum (solid ids) (λ i. eqb (f i) i) (isRoot ids t) n s
     same : (i : ℕ) → i < length t → solid ids i && eqb (parentIn t i) i ≡ solid ids i && eqb (f i) i
     same i l = ap (λ (b : Bool). solid ids i && b) (go (ℕ-discrete (f i) i))
       where
-        m : Means (length t) (parentIn t) f
+        m : LabelledBy (length t) (parentIn t) f
         m = z .good .means
 
         go : Dec (f i ≡ i) → eqb (parentIn t i) i ≡ eqb (f i) i

@@ -8,15 +8,15 @@ use Prim.Native.Nat.{ℕ, _+_, _-_, _*_, _/_, _≤_, _<_}
 use native.Mathlib.Omega.{arith}
 use native.Mathlib.Decide.{ℕ-discrete, decLt}
 use lib.ListN.{length, length-set}
-use Rattle.table.specs.Rows.{dist}
+use Rattle.table.specs.inner.Rows.{dist}
 use Rattle.table.proofs.Search.{dist-here, other, Written, spread-step}
-use Rattle.forest.specs.Words.{slotIn, withSlot}
-use Rattle.forest.specs.Labels.{merged, Joined}
+use Rattle.forest.specs.inner.Words.{slotIn, withSlot}
+use Rattle.forest.specs.inner.Labels.{merged, Joined}
 use Rattle.forest.proofs.Words.{slot-here, slot-else, parents-stay}
 use Rattle.forest.proofs.Labels.{merged-joins}
 use Rattle.ids.specs.Pieces.{solid}
-use Rattle.pieces.specs.Joins.{Linked}
-use Rattle.pieces.specs.Slots.{keyOf, homeOf, keyIn, AllFree, Sought, Slots, Has, Followed, Entered}
+use Rattle.pieces.specs.inner.Joins.{Linked}
+use Rattle.pieces.specs.inner.Slots.{cornerKey, cornerHome, slotKey, AllFree, Sought, Slots, Has, Followed, Entered}
 use Rattle.pieces.proofs.Shared.{share-key}
 use Rattle.pieces.proofs.Joins.{more-joined, more-none, good-kept}
 use Rattle.pieces.proofs.Search.{home-in}
@@ -36,17 +36,17 @@ slots-free free =
     }
 
 module _ {ids : List ℕ} {odd limit n : ℕ} {s : ℕ → ℕ} (z : Slots ids odd limit n s) (c : ℕ) {r : ℕ}
-    (q : Sought n limit (homeOf odd n (keyOf ids c)) (keyIn ids s) s (keyOf ids c) r) where
+    (q : Sought n limit (cornerHome odd n (cornerKey ids c)) (slotKey ids s) s (cornerKey ids c) r) where
   -- a row in use with the corner's key is the one found
-  pub row-is : (x : ℕ) → x < n → 0 < s x → keyIn ids s x ≡ keyOf ids c → x ≡ r
+  pub row-is : (x : ℕ) → x < n → 0 < s x → slotKey ids s x ≡ cornerKey ids c → x ≡ r
   row-is x lx used e = go (decLt r n) (ℕ-discrete x r)
     where
       go : Dec (r < n) → Dec (x ≡ r) → x ≡ r
       go d (yes p) = p
-      go (yes l) (no ne) = absurd (other n (homeOf odd n) (keyIn ids s) s (keyOf ids c) r (home-in odd n (keyOf ids c) (omega arith)) (z .spread) (q .found l) x lx used ne e)
+      go (yes l) (no ne) = absurd (other n (cornerHome odd n) (slotKey ids s) s (cornerKey ids c) r (home-in odd n (cornerKey ids c) (omega arith)) (z .spread) (q .found l) x lx used ne e)
       go (no l) (no ne) =
           let w : r ≡ n = omega (arith, q .within) in
-          absurd (q .none w x lx (subst (λ (k : ℕ). dist n (homeOf odd n k) x < limit) e (z .near x lx used)) .1 e)
+          absurd (q .none w x lx (subst (λ (k : ℕ). dist n (cornerHome odd n k) x < limit) e (z .near x lx used)) .1 e)
 
   -- its corner and c are of linked triangles
   pub row-linked : r < n → 0 < s r → c < 3 * n → solid ids (c / 3) ≡ true → Linked ids n ((s r - 1) / 3) (c / 3)
@@ -75,7 +75,7 @@ pub never-past : {n limit at : ℕ} {key mark : ℕ → ℕ} {k r : ℕ} → 0 <
 never-past {n = n} {at = at} l home q free e = omega (arith, free at home, q .none e at home (rw (dist-here n at home) l) .0)
 
 module _ (ids t u : List ℕ) (odd limit spare c r : ℕ) (z : Slots ids odd limit (length t) (slotIn t))
-    (q : Sought (length t) limit (homeOf odd (length t) (keyOf ids c)) (keyIn ids (slotIn t)) (slotIn t) (keyOf ids c) r)
+    (q : Sought (length t) limit (cornerHome odd (length t) (cornerKey ids c)) (slotKey ids (slotIn t)) (slotIn t) (cornerKey ids c) r)
     (lr : r < length t) (lc : c < 3 * length t) (sc : solid ids (c / 3) ≡ true) (s : ℕ) (is : s ≡ slotIn t r) where
   -- the row's corner and c were joined
   module _ (long : length u ≡ length t) (used : s ≢ 0) (j : Joined t u ((s - 1) / 3) (c / 3)) where
@@ -114,8 +114,8 @@ module _ (ids t u : List ℕ) (odd limit spare c r : ℕ) (z : Slots ids odd lim
     unfolding v
     else i ne = slot-else t r (c + 1) lr i ne
 
-    key-here : keyIn ids (slotIn v) r ≡ keyOf ids c
-    key-here = ap (λ (x : ℕ). keyOf ids (x - 1)) here ∙ ap (keyOf ids) (omega arith)
+    key-here : slotKey ids (slotIn v) r ≡ cornerKey ids c
+    key-here = ap (λ (x : ℕ). cornerKey ids (x - 1)) here ∙ ap (cornerKey ids) (omega arith)
 
     corner-here : (slotIn v r - 1) / 3 ≡ c / 3
     corner-here = ap (λ (x : ℕ). (x - 1) / 3) here ∙ ap (λ (x : ℕ). x / 3) (omega arith)
@@ -123,17 +123,17 @@ module _ (ids t u : List ℕ) (odd limit spare c r : ℕ) (z : Slots ids odd lim
     by : (i : ℕ) (P : ℕ → Type 0) → P r → (i ≢ r → P i) → P i
     by i P a b = elim (ℕ-discrete i r) [ yes e ↦ subst P (sym e) a | no ne ↦ b ne ]
 
-    written : Written (length t) r (keyOf ids c) (keyIn ids (slotIn t)) (keyIn ids (slotIn v)) (slotIn t) (slotIn v)
-    written = record { key-at = key-here; mark-at = omega (arith, here); key-off = λ i l ne u. ap (λ (x : ℕ). keyOf ids (x - 1)) (else i ne); mark-off = λ i l ne. else i ne }
+    written : Written (length t) r (cornerKey ids c) (slotKey ids (slotIn t)) (slotKey ids (slotIn v)) (slotIn t) (slotIn v)
+    written = record { key-at = key-here; mark-at = omega (arith, here); key-off = λ i l ne u. ap (λ (x : ℕ). cornerKey ids (x - 1)) (else i ne); mark-off = λ i l ne. else i ne }
 
     slots-held : Slots ids odd limit (length t) (slotIn v)
     slots-held =
         record {
           corners = λ i l. by i (λ x. slotIn v x ≤ 3 * length t) (omega (arith, here)) (λ ne. omega (arith, else i ne, z .corners i l));
-          spread = spread-step (length t) (homeOf odd (length t)) (keyIn ids (slotIn t)) (slotIn t) (keyOf ids c) r (home-in odd (length t) (keyOf ids c) (omega arith)) (z .spread) (q .found lr) (keyIn ids (slotIn v)) (slotIn v) written;
-          near = λ i l. by i (λ x. 0 < slotIn v x → dist (length t) (homeOf odd (length t) (keyIn ids (slotIn v) x)) x < limit)
-              (λ h. subst (λ (k : ℕ). dist (length t) (homeOf odd (length t) k) r < limit) (sym key-here) (q .near lr))
-              (λ ne. subst (λ (x : ℕ). 0 < x → dist (length t) (homeOf odd (length t) (keyOf ids (x - 1))) i < limit) (sym (else i ne)) (z .near i l));
+          spread = spread-step (length t) (cornerHome odd (length t)) (slotKey ids (slotIn t)) (slotIn t) (cornerKey ids c) r (home-in odd (length t) (cornerKey ids c) (omega arith)) (z .spread) (q .found lr) (slotKey ids (slotIn v)) (slotIn v) written;
+          near = λ i l. by i (λ x. 0 < slotIn v x → dist (length t) (cornerHome odd (length t) (slotKey ids (slotIn v) x)) x < limit)
+              (λ h. subst (λ (k : ℕ). dist (length t) (cornerHome odd (length t) k) r < limit) (sym key-here) (q .near lr))
+              (λ ne. subst (λ (x : ℕ). 0 < x → dist (length t) (cornerHome odd (length t) (cornerKey ids (x - 1))) i < limit) (sym (else i ne)) (z .near i l));
           solids = λ i l. by i (λ x. 0 < slotIn v x → solid ids ((slotIn v x - 1) / 3) ≡ true) (λ h. ap (solid ids) corner-here ∙ sc)
               (λ ne. subst (λ (x : ℕ). 0 < x → solid ids ((x - 1) / 3) ≡ true) (sym (else i ne)) (z .solids i l));
         }

@@ -3,12 +3,12 @@ use mathlib.Core.Path.{_≡_}
 use mathlib.Core.Logic.{_≢_}
 use Prim.Native.Nat.{ℕ, _+_, _-_, _*_, _%_, _≤_, _<_}
 use native.Mathlib.Omega.{arith}
-use Rattle.table.specs.Rows.{nextRow, dist, Passed}
+use Rattle.table.specs.inner.Rows.{nextRow, dist, Passed}
 use Rattle.table.proofs.Search.{home-below, next-below, through, turn}
-use Rattle.pieces.specs.Slots.{homeOf, Sought}
+use Rattle.pieces.specs.inner.Slots.{cornerHome, Sought}
 
-pub home-in : (odd n k : ℕ) → 0 < n → homeOf odd n k < n
-unfolding homeOf
+pub home-in : (odd n k : ℕ) → 0 < n → cornerHome odd n k < n
+unfolding cornerHome
 home-in odd n k some = home-below n ((k * odd) % 4294967296) some (omega arith)
 
 -- a turn at row r, with so many rows left

@@ -9,11 +9,11 @@ use lib.ListN.{length, getD, set, length-set}
 use lib.Seq.{getD-set-same, getD-set-other}
 use Rattle.ids.specs.Uses.{Use}
 use Rattle.ids.specs.EdgeChain.{Edge, sameEdge}
-use Rattle.table.specs.Rows.{Found}
-use Rattle.table.specs.Counts.{usesIn, upsIn}
+use Rattle.table.specs.inner.Rows.{Found}
+use Rattle.table.specs.inner.Counts.{usesIn, upsIn}
 use Rattle.table.proofs.Search.{home-below}
 use Rattle.table.proofs.Probe.{Bumped, step}
-use Rattle.steps.specs.Rows.{EdgeTable, homeOf, hashOf, edgeAt, wordAt, usesAt, upsAt, put}
+use Rattle.steps.specs.inner.Rows.{EdgeTable, edgeHome, edgeHash, edgeAt, edgeWord, edgeUses, edgeUps, putEdge}
 use Rattle.ids.proofs.Same.{edge-eq, edge-refl}
 use Rattle.table.proofs.Counts.{weigh, Roomy, more-uses, more-ups}
 
@@ -26,29 +26,29 @@ module _ (t : List ℕ) (r a b w : ℕ) where
   l₂ = set l₁ (3 * r + 1) b
 
   -- a word of another row
-  put-off : (x : ℕ) → x ≢ 3 * r → x ≢ 3 * r + 1 → x ≢ 3 * r + 2 → getD (put t r a b w) x 0 ≡ getD t x 0
+  put-off : (x : ℕ) → x ≢ 3 * r → x ≢ 3 * r + 1 → x ≢ 3 * r + 2 → getD (putEdge t r a b w) x 0 ≡ getD t x 0
   put-off x n₀ n₁ n₂ = getD-set-other l₂ (3 * r + 2) x w 0 n₂ ∙ getD-set-other l₁ (3 * r + 1) x b 0 n₁ ∙ getD-set-other t (3 * r) x a 0 n₀
 
   module _ (fits : 3 * r + 2 < length t) where
-    put-0 : getD (put t r a b w) (3 * r) 0 ≡ a
+    put-0 : getD (putEdge t r a b w) (3 * r) 0 ≡ a
     put-0 = getD-set-other l₂ (3 * r + 2) (3 * r) w 0 (omega arith) ∙ getD-set-other l₁ (3 * r + 1) (3 * r) b 0 (omega arith) ∙ getD-set-same t (3 * r) a 0 (omega arith)
 
-    put-1 : getD (put t r a b w) (3 * r + 1) 0 ≡ b
+    put-1 : getD (putEdge t r a b w) (3 * r + 1) 0 ≡ b
     put-1 = getD-set-other l₂ (3 * r + 2) (3 * r + 1) w 0 (omega arith) ∙ getD-set-same l₁ (3 * r + 1) b 0 (simp length-set (omega arith))
 
-    put-2 : getD (put t r a b w) (3 * r + 2) 0 ≡ w
+    put-2 : getD (putEdge t r a b w) (3 * r + 2) 0 ≡ w
     put-2 = getD-set-same l₂ (3 * r + 2) w 0 (simp length-set (omega arith))
 
 -- the row counts one use more, and the others are as they were
-put-bumped : (t : List ℕ) (r a b : ℕ) (up : Bool) → 3 * r + 2 < length t → Roomy (wordAt t r)
-    → Bumped r (record { low = a; high = b }) up (edgeAt t) (edgeAt (put t r a b (wordAt t r + weigh up)))
-    (usesAt t) (usesAt (put t r a b (wordAt t r + weigh up))) (upsAt t) (upsAt (put t r a b (wordAt t r + weigh up)))
+put-bumped : (t : List ℕ) (r a b : ℕ) (up : Bool) → 3 * r + 2 < length t → Roomy (edgeWord t r)
+    → Bumped r (record { low = a; high = b }) up (edgeAt t) (edgeAt (putEdge t r a b (edgeWord t r + weigh up)))
+    (edgeUses t) (edgeUses (putEdge t r a b (edgeWord t r + weigh up))) (edgeUps t) (edgeUps (putEdge t r a b (edgeWord t r + weigh up)))
 put-bumped t r a b up fits room =
-    let w : ℕ = wordAt t r + weigh up in
+    let w : ℕ = edgeWord t r + weigh up in
     record {
       key-at = λ i. record { low = put-0 t r a b w fits i; high = put-1 t r a b w fits i };
-      cnt-at = ap usesIn (put-2 t r a b w fits) ∙ more-uses (wordAt t r) room up;
-      up-at = ap upsIn (put-2 t r a b w fits) ∙ more-ups (wordAt t r) room up;
+      cnt-at = ap usesIn (put-2 t r a b w fits) ∙ more-uses (edgeWord t r) room up;
+      up-at = ap upsIn (put-2 t r a b w fits) ∙ more-ups (edgeWord t r) room up;
       key-off = λ x ne i. record {
         low = put-off t r a b w (3 * x) (omega arith) (omega arith) (omega arith) i;
         high = put-off t r a b w (3 * x + 1) (omega arith) (omega arith) (omega arith) i;
@@ -58,14 +58,14 @@ put-bumped t r a b up fits room =
     }
 
 -- a search starts within the table
-home-in : (n : ℕ) (k : Edge) → 0 < n → homeOf n k < n
-unfolding homeOf hashOf
-home-in n k pos = home-below n (hashOf k) pos (omega arith)
+home-in : (n : ℕ) (k : Edge) → 0 < n → edgeHome n k < n
+unfolding edgeHome edgeHash
+home-in n k pos = home-below n (edgeHash k) pos (omega arith)
 
 -- the table after one more use, counted in the row that the search found
-pub added : (n : ℕ) (t : List ℕ) (es : List (Use Edge)) (r : ℕ) (x : Use Edge) → 0 < n → 3 * n ≤ length t → Roomy (wordAt t r)
-    → EdgeTable n t es → Found n (homeOf n (x .key)) (edgeAt t) (usesAt t) (x .key) r
-    → EdgeTable n (put t r (x .key .low) (x .key .high) (wordAt t r + weigh (x .up))) (es ++ x ∷ [])
+pub added : (n : ℕ) (t : List ℕ) (es : List (Use Edge)) (r : ℕ) (x : Use Edge) → 0 < n → 3 * n ≤ length t → Roomy (edgeWord t r)
+    → EdgeTable n t es → Found n (edgeHome n (x .key)) (edgeAt t) (edgeUses t) (x .key) r
+    → EdgeTable n (putEdge t r (x .key .low) (x .key .high) (edgeWord t r + weigh (x .up))) (es ++ x ∷ [])
 added n t es r x pos fits room m f =
-    step sameEdge edge-eq edge-refl n (homeOf n) (edgeAt t) (usesAt t) (upsAt t) es x r
+    step sameEdge edge-eq edge-refl n (edgeHome n) (edgeAt t) (edgeUses t) (edgeUps t) es x r
     (home-in n (x .key) pos) m f _ _ _ (put-bumped t r (x .key .low) (x .key .high) (x .up) (omega (arith, f .within)) room)

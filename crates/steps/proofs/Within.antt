@@ -7,11 +7,11 @@ use native.Mathlib.Decide.{decLt}
 use lib.ListN.{length, length-append}
 use Rattle.ids.specs.Uses.{Use, uses}
 use Rattle.ids.specs.EdgeChain.{Edge, sameEdge}
-use Rattle.table.specs.Rows.{Free}
-use Rattle.table.specs.Table.{ups}
+use Rattle.table.specs.inner.Rows.{Free}
+use Rattle.table.specs.inner.Table.{ups}
 use Rattle.table.proofs.Search.{has-free}
 use Rattle.table.proofs.Sums.{ups-le, uses-le}
-use Rattle.steps.specs.Rows.{edgeAt, wordAt, usesAt, EdgeTable, Within, Room}
+use Rattle.steps.specs.inner.Rows.{edgeAt, edgeWord, edgeUses, EdgeTable, Within, EdgeRoom}
 use Rattle.table.proofs.Counts.{Roomy}
 
 pub uses-append : (k : Edge) (es fs : List (Use Edge)) → uses sameEdge k (es ++ fs) ≡ uses sameEdge k es + uses sameEdge k fs
@@ -37,19 +37,19 @@ within-append m o es fs v w k =
 
 -- ---- room
 
-pub room-free : (n : ℕ) (t : List ℕ) → Room n t 1 → Free n (usesAt t)
-room-free n t w = has-free (usesAt t) n (omega (arith, w .rows-left, w .means .rows .total))
+pub room-free : (n : ℕ) (t : List ℕ) → EdgeRoom n t 1 → Free n (edgeUses t)
+room-free n t w = has-free (edgeUses t) n (omega (arith, w .rows-left, w .means .rows .total))
 
-pub room-word : (n : ℕ) (t : List ℕ) → Room n t 1 → (i : ℕ) → i < n → Roomy (wordAt t i)
+pub room-word : (n : ℕ) (t : List ℕ) → EdgeRoom n t 1 → (i : ℕ) → i < n → Roomy (edgeWord t i)
 room-word n t w i l =
-    elim (decLt 0 (usesAt t i)) [
+    elim (decLt 0 (edgeUses t i)) [
       | yes p ↦ (let b = w .counts-left (edgeAt t i) in
           record { ups-left = omega (arith, w .means .rows .upped i l p, b .0); downs-left = omega (arith, w .means .rows .upped i l p, w .means .rows .counted i l p, b .1) })
       | no p ↦ record { ups-left = omega (arith, w .means .rows .blank i l (omega arith)); downs-left = omega arith }
     ]
 
 -- room for more is room for less
-pub room-less : (n : ℕ) (t : List ℕ) (k m : ℕ) → m ≤ k → Room n t k → Room n t m
+pub room-less : (n : ℕ) (t : List ℕ) (k m : ℕ) → m ≤ k → EdgeRoom n t k → EdgeRoom n t m
 room-less n t k m l w = record {
   so-far = w .so-far;
   rows-left = omega (arith, w .rows-left);
@@ -59,7 +59,7 @@ room-less n t k m l w = record {
 
 -- after the uses fs there is room for so many fewer
 pub room-after : (n : ℕ) (t u : List ℕ) (k m : ℕ) (fs : List (Use Edge)) → length fs + m ≤ k → k ≤ 65535
-    → (w : Room n t k) → EdgeTable n u (w .so-far ++ fs) → Room n u m
+    → (w : EdgeRoom n t k) → EdgeTable n u (w .so-far ++ fs) → EdgeRoom n u m
 room-after n t u k m fs l small w means = record {
   so-far = w .so-far ++ fs;
   rows-left = omega (arith, length-append (w .so-far) fs, w .rows-left);

@@ -4,7 +4,7 @@ use mathlib.Core.Bool.{Bool, true, false, cond}
 use Prim.Native.Nat.{ℕ, _+_, _≤_, _<_}
 use native.Mathlib.Omega.{arith}
 use Rattle.ids.specs.Uses.{bit}
-use Rattle.table.specs.Counts.{upsIn, usesIn}
+use Rattle.table.specs.inner.Counts.{upsIn, usesIn}
 
 module _ (w : ℕ) where
   pub none-used : w ≡ 0 → usesIn w ≡ 0

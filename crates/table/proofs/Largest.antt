@@ -9,8 +9,8 @@ use native.Mathlib.Decide.{decLe}
 use borrow.Author.Tests.{lt-ltb, le-ltb}
 use lib.Dec.{ltb}
 use Rattle.ids.specs.Uses.{Use, keys, sumBy, maxBy, bit}
-use Rattle.table.specs.Rows.{sumTo}
-use Rattle.table.specs.Table.{maxTo, gate, Rows}
+use Rattle.table.specs.inner.Rows.{sumTo}
+use Rattle.table.specs.inner.Table.{maxTo, gate, Rows}
 use Rattle.table.proofs.Sums.{sumTo-same}
 
 pub maxTo-next : (f : ℕ → ℕ) (n : ℕ) → maxTo f (n + 1) ≡ max (maxTo f n) (f n)

@@ -7,7 +7,7 @@ use native.Mathlib.Nat.{mul-le-mul-right}
 use native.Mathlib.Decide.{ℕ-discrete, decLt, decLe}
 use borrow.Author.Tests.{le-leb, lt-leb, eq-eqb, ne-eqb}
 use Rattle.table.proofs.Sums.{sumTo-pos}
-use Rattle.table.specs.Rows.{sumTo, homeRow, nextRow, dist, Passed, Found, Free, Spread}
+use Rattle.table.specs.inner.Rows.{sumTo, homeRow, nextRow, dist, Passed, Found, Free, Spread}
 
 -- ---- the way of a search
 

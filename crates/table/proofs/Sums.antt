@@ -12,8 +12,8 @@ use lib.Dec.{ltb}
 use lib.ListN.{length}
 use borrow.Author.Tests.{lt-ltb}
 use Rattle.ids.specs.Uses.{Use, uses, keys, sumBy, bit}
-use Rattle.table.specs.Rows.{sumTo}
-use Rattle.table.specs.Table.{ups}
+use Rattle.table.specs.inner.Rows.{sumTo}
+use Rattle.table.specs.inner.Table.{ups}
 
 -- one term more
 pub sumTo-next : (f : ℕ → ℕ) (n : ℕ) → sumTo f (n + 1) ≡ sumTo f n + f n

@@ -7,7 +7,7 @@ use native.Mathlib.Decide.{decLt}
 use borrow.Author.Tests.{lt-ltb, le-ltb}
 use lib.Dec.{ltb}
 use Rattle.ids.specs.Uses.{bit}
-use Rattle.table.specs.Rows.{sumTo, Free}
+use Rattle.table.specs.inner.Rows.{sumTo, Free}
 use Rattle.table.proofs.Sums.{sumTo-more}
 use Rattle.table.proofs.Search.{has-free}
 use Rattle.table.proofs.Probe.{sumTo-none}

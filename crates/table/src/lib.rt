@@ -4,7 +4,7 @@ ghost use Prim.Native.Nat.{_≤_, _<_, min, max};
 ghost use lib.ListN.{length};
 ghost use Rattle.ids.specs.Triangles.{distinct as isDistinct, triangle, triangleCount};
 ghost use Rattle.ids.specs.Lent.{cleared, refusal as refusalOf};
-ghost use Rattle.table.specs.Rows.{homeRow, nextRow};
+ghost use Rattle.table.specs.inner.Rows.{homeRow, nextRow};
 
 pub fn lesser(a: u32, b: u32) -> u32
     ensures { λ r. ⌜ r ≡ min a b ⌝ }

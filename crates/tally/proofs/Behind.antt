@@ -7,8 +7,8 @@ use lib.ListN.{length, take, drop, length-drop}
 use Rattle.ids.specs.Lent.{cleared}
 use Rattle.ids.specs.Triangles.{triangleCount}
 use Rattle.table.proofs.Cleared.{front-zero}
-use Rattle.steps.specs.Rows.{EdgeTable}
-use Rattle.faces.specs.Rows.{FaceTable}
+use Rattle.steps.specs.inner.Rows.{EdgeTable}
+use Rattle.faces.specs.inner.Rows.{FaceTable}
 use Rattle.edges.proofs.Tally as edge-tables
 use Rattle.faces.proofs.Rows as face-tables
 

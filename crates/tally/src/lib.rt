@@ -7,8 +7,8 @@ ghost use mathlib.Core.List.{List, []};
 ghost use Rattle.ids.specs.Triangles.{triangleCount};
 ghost use Rattle.ids.specs.EdgeChain.{enough as enoughIds, chain, boundaryFree, overIncident};
 ghost use Rattle.ids.specs.FaceNet.{faces, maxAbs, allCancel};
-ghost use Rattle.steps.specs.Rows.{EdgeTable};
-ghost use Rattle.faces.specs.Rows.{FaceTable};
+ghost use Rattle.steps.specs.inner.Rows.{EdgeTable};
+ghost use Rattle.faces.specs.inner.Rows.{FaceTable};
 
 // What the edge chain and the face net say of ids.
 pub struct Incidence {

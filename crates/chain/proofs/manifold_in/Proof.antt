@@ -4,7 +4,7 @@ use Rattle.ids.proofs.Lent.{cleared-all}
 use Rattle.chain.proofs.Chain.{emptied}
 use Rattle.edges.proofs.Tally.{table-tally}
 use Rattle.ids.specs.EdgeChain.{properEdges, edgesThat, unpaired, closedManifold}
-use Rattle.edges.specs.Tests.{testOf, edgesOf}
+use Rattle.edges.specs.inner.Tests.{testOf, edgesOf}
 use native.Mathlib.Omega.{arith}
 use borrow.Author.Needs.{needs}
 use Rattle.chain.proofs.manifold_in.Statement.{statement}

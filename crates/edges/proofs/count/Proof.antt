@@ -3,9 +3,9 @@ use mathlib.Core.Path.{_≡_, refl}
 use Prim.Native.Nat.{_-_, _≤_}
 use native.Mathlib.Omega.{arith}
 use borrow.Author.Needs.{needs}
-use Rattle.table.specs.Rows.{sumTo}
+use Rattle.table.specs.inner.Rows.{sumTo}
 use Rattle.table.proofs.Sums.{sumTo-next}
-use Rattle.edges.specs.Tests.{testOf, rowBit}
+use Rattle.edges.specs.inner.Tests.{testOf, rowBit}
 use Rattle.edges.proofs.count.Statement.{statement}
 use Rattle.edges.proofs.count.Tie as tie
 

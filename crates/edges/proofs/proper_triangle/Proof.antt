@@ -3,7 +3,7 @@ use mathlib.Core.List.{append-assoc}
 use native.Mathlib.Omega.{arith}
 use borrow.Author.Needs.{needs}
 use Rattle.ids.specs.EdgeChain.{properStep, aroundProper}
-use Rattle.steps.specs.Rows.{Room}
+use Rattle.steps.specs.inner.Rows.{EdgeRoom}
 use Rattle.edges.proofs.Triangles.{step-length}
 use Rattle.steps.proofs.Within.{room-less, room-after}
 use Rattle.edges.proofs.proper_triangle.Statement.{statement}
@@ -15,7 +15,7 @@ proper-step-requires c κs =
     (s .pre .0, s .pre .1, room-less (s .args .n) (s .args .work .now) 3 1 (omega arith) (s .pre .2))
 
 -- after the first step there is room for two
-second : (c : tie.After-proper-step) → Room (c .before .before .before .args .n) (c .proper-step .last .0) 2
+second : (c : tie.After-proper-step) → EdgeRoom (c .before .before .before .args .n) (c .proper-step .last .0) 2
 second c =
     let s = c .before .before .before in
     let k = c .proper-step in

@@ -2,9 +2,9 @@
 use mathlib.Core.Path.{_≡_, refl}
 use Prim.Native.Nat.{_-_, _≤_}
 use Rattle.ids.specs.EdgeChain.{present, unbalanced, crowded}
-use Rattle.table.specs.Rows.{sumTo}
+use Rattle.table.specs.inner.Rows.{sumTo}
 use Rattle.table.proofs.Sums.{sumTo-next}
-use Rattle.edges.specs.Tests.{testOf, rowBit}
+use Rattle.edges.specs.inner.Tests.{testOf, rowBit}
 use borrow.Author.Needs.{needs}
 use native.Mathlib.Omega.{arith}
 use Rattle.edges.proofs.survey_rows.Statement.{statement}

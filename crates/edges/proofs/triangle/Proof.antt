@@ -4,7 +4,7 @@ use mathlib.Core.List.{[], _∷_, append-assoc}
 use borrow.Author.Tests.{not-true, not-false}
 use Rattle.ids.specs.EdgeChain.{step}
 use Rattle.ids.proofs.Triangles.{append-none}
-use Rattle.steps.specs.Rows.{Room}
+use Rattle.steps.specs.inner.Rows.{EdgeRoom}
 use Rattle.edges.proofs.Triangles.{around-none, around-all}
 use Rattle.steps.proofs.Within.{room-less, room-after}
 use native.Mathlib.Omega.{arith}
@@ -19,7 +19,7 @@ walk-requires : tie.Need-walk-requires
 walk-requires c κs = let s = c .before .before .before .before in (s .pre .0, s .pre .1, room-less (s .args .n) (s .args .work .now) 3 1 (omega arith) (s .pre .2))
 
 -- after the first step there is room for two
-second : (c : tie.After-walk) → Room (c .before .before .before .before .before .args .n) (c .walk .last .0) 2
+second : (c : tie.After-walk) → EdgeRoom (c .before .before .before .before .before .args .n) (c .walk .last .0) 2
 second c =
     let s = c .before .before .before .before .before in
     let k = c .walk in

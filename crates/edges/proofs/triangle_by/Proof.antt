@@ -1,6 +1,6 @@
 -- `edges::triangle_by` meets its contract. Assumes nothing.
 use borrow.Author.Needs.{needs}
-use Rattle.edges.specs.Tests.{edgesOf}
+use Rattle.edges.specs.inner.Tests.{edgesOf}
 use Rattle.edges.proofs.triangle_by.Statement.{statement}
 use Rattle.edges.proofs.triangle_by.Tie as tie
 

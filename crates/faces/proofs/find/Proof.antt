@@ -6,16 +6,16 @@ use Prim.Native.Nat.{ℕ, _+_, _-_, _*_, _<_}
 use native.Mathlib.Omega.{arith}
 use borrow.Author.Needs.{needs}
 use Rattle.ids.specs.FaceNet.{Face, sameFace}
-use Rattle.table.specs.Rows.{dist, nextRow, Passed}
+use Rattle.table.specs.inner.Rows.{dist, nextRow, Passed}
 use Rattle.table.proofs.Counts.{none-used, used}
 use Rattle.table.proofs.Search.{dist-here, dist-below, next-below, goes-on}
-use Rattle.faces.specs.Rows.{faceAt, wordAt, usesAt}
+use Rattle.faces.specs.inner.Rows.{faceAt, faceWord, faceUses}
 use Rattle.ids.proofs.Same.{face-eq, face-refl, same-ne}
 use Rattle.faces.proofs.find.Statement.{statement}
 use Rattle.faces.proofs.find.Tie as tie
 
 abbrev Inv-loop : tie.InvT-loop
-Inv-loop ids work n low mid high start r₀ r = (r < n) × Passed n start (faceAt ids work) (usesAt work) (record { low = low; mid = mid; high = high }) r
+Inv-loop ids work n low mid high start r₀ r = (r < n) × Passed n start (faceAt ids work) (faceUses work) (record { low = low; mid = mid; high = high }) r
 
 abbrev μ-loop : tie.MeasureT-loop
 μ-loop ids work n low mid high start r₀ r = n - dist n start r
@@ -41,7 +41,7 @@ module _ (c : tie.After-same Inv-loop μ-loop) where
   key = faceAt (st .args .ids .now) (st .args .work .now)
 
   abbrev mark : ℕ → ℕ
-  mark = usesAt (st .args .work .now)
+  mark = faceUses (st .args .work .now)
 
   abbrev sought : Face
   sought = record { low = st .args .low; mid = st .args .mid; high = st .args .high }
@@ -50,7 +50,7 @@ module _ (c : tie.After-same Inv-loop μ-loop) where
   here told = face-eq (key (at .loop .r)) sought (sym (c .same .ensures) ∙ told)
 
   busy : 0 < mark (at .loop .r)
-  busy = used (wordAt (st .args .work .now) (at .loop .r)) (omega (arith, c .before .before .if1 .left))
+  busy = used (faceWord (st .args .work .now) (at .loop .r)) (omega (arith, c .before .before .if1 .left))
 
   on : c .same .result ≡ false
       → (dist (st .args .n) (st .args .start) (nextRow (st .args .n) (at .loop .r)) ≡ dist (st .args .n) (st .args .start) (at .loop .r) + 1)

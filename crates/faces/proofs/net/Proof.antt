@@ -5,11 +5,11 @@ use native.Mathlib.Omega.{arith}
 use borrow.Author.Needs.{needs}
 use lib.Dec.{ltb}
 use mir.Val.{boolByte}
-use Rattle.table.specs.Rows.{sumTo}
-use Rattle.table.specs.Table.{maxTo}
+use Rattle.table.specs.inner.Rows.{sumTo}
+use Rattle.table.specs.inner.Table.{maxTo}
 use Rattle.table.proofs.Sums.{sumTo-next}
 use Rattle.table.proofs.Largest.{maxTo-next}
-use Rattle.faces.specs.Rows.{rowOff, rowSize}
+use Rattle.faces.specs.inner.Rows.{rowOff, rowSize}
 use Rattle.ids.proofs.Bits.{byte-bit, byte-small}
 use Rattle.faces.proofs.RowSums.{row-size, row-off}
 use Rattle.faces.proofs.net.Statement.{statement}

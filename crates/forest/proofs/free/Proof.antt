@@ -4,7 +4,7 @@ use Prim.Native.Nat.{_-_, _≤_}
 use native.Mathlib.Omega.{arith}
 use borrow.Author.Needs.{needs}
 use lib.ListN.{length, length-set}
-use Rattle.forest.specs.Words.{Freed}
+use Rattle.forest.specs.inner.Words.{Freed}
 use Rattle.forest.proofs.Words.{free-next}
 use Rattle.forest.proofs.free.Statement.{statement}
 use Rattle.forest.proofs.free.Tie as tie

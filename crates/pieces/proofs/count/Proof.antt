@@ -5,9 +5,9 @@ use native.Mathlib.Omega.{arith}
 use borrow.Author.Needs.{needs}
 use lib.ListN.{length}
 use Rattle.ids.specs.Uses.{bit}
-use Rattle.table.specs.Rows.{sumTo}
+use Rattle.table.specs.inner.Rows.{sumTo}
 use Rattle.table.proofs.Sums.{sumTo-next}
-use Rattle.pieces.specs.Joins.{isRoot}
+use Rattle.pieces.specs.inner.Joins.{isRoot}
 use Rattle.pieces.proofs.count.Statement.{statement}
 use Rattle.pieces.proofs.count.Tie as tie
 

@@ -4,16 +4,16 @@ use Prim.Native.Nat.{ℕ, _+_, _-_, _<_}
 use native.Mathlib.Omega.{arith}
 use borrow.Author.Needs.{needs}
 use lib.ListN.{length}
-use Rattle.table.specs.Rows.{dist, Passed}
+use Rattle.table.specs.inner.Rows.{dist, Passed}
 use Rattle.table.proofs.Search.{dist-here}
-use Rattle.forest.specs.Words.{slotIn}
-use Rattle.pieces.specs.Slots.{keyOf, keyIn}
+use Rattle.forest.specs.inner.Words.{slotIn}
+use Rattle.pieces.specs.inner.Slots.{cornerKey, slotKey}
 use Rattle.pieces.proofs.Search.{sought-here, sought-none, sought-on}
 use Rattle.pieces.proofs.find.Statement.{statement}
 use Rattle.pieces.proofs.find.Tie as tie
 
 abbrev Inv-loop : tie.InvT-loop
-Inv-loop ids work k at limit n r₀ left₀ r left = (r < length work) × (dist (length work) at r + left ≡ limit) × (0 < left) × Passed (length work) at (keyIn ids (slotIn work)) (slotIn work) k r
+Inv-loop ids work k at limit n r₀ left₀ r left = (r < length work) × (dist (length work) at r + left ≡ limit) × (0 < left) × Passed (length work) at (slotKey ids (slotIn work)) (slotIn work) k r
 
 abbrev μ-loop : tie.MeasureT-loop
 μ-loop ids work k at limit n r₀ left₀ r left = left
@@ -31,7 +31,7 @@ returns c =
     let l = c .before .before .loop in
     let ids = s .args .ids .now in
     let work = s .args .work .now in
-    sought-here (length work) (s .args .limit) (s .args .at) (s .pre .1) (keyIn ids (slotIn work)) (slotIn work) (s .args .k) (l .r) (l .left) (l .inv .0) (l .inv .1) (l .inv .2) (l .inv .3) (λ u. absurd (omega (arith, c .before .slot .ensures, c .if1 .taken)))
+    sought-here (length work) (s .args .limit) (s .args .at) (s .pre .1) (slotKey ids (slotIn work)) (slotIn work) (s .args .k) (l .r) (l .left) (l .inv .0) (l .inv .1) (l .inv .2) (l .inv .3) (λ u. absurd (omega (arith, c .before .slot .ensures, c .if1 .taken)))
 
 key-requires : tie.Need-key-requires Inv-loop μ-loop
 key-requires c κs =
@@ -47,7 +47,7 @@ returns-2 c =
     let l = c .before .before .before .before .loop in
     let ids = s .args .ids .now in
     let work = s .args .work .now in
-    sought-here (length work) (s .args .limit) (s .args .at) (s .pre .1) (keyIn ids (slotIn work)) (slotIn work) (s .args .k) (l .r) (l .left) (l .inv .0) (l .inv .1) (l .inv .2) (l .inv .3) (λ u. ap (λ (x : ℕ). keyOf ids (x - 1)) (sym (c .before .before .before .slot .ensures)) ∙ sym (c .before .key .ensures) ∙ c .if2 .taken)
+    sought-here (length work) (s .args .limit) (s .args .at) (s .pre .1) (slotKey ids (slotIn work)) (slotIn work) (s .args .k) (l .r) (l .left) (l .inv .0) (l .inv .1) (l .inv .2) (l .inv .3) (λ u. ap (λ (x : ℕ). cornerKey ids (x - 1)) (sym (c .before .before .before .slot .ensures)) ∙ sym (c .before .key .ensures) ∙ c .if2 .taken)
 
 returns-3 : tie.Need-returns-3 Inv-loop μ-loop
 returns-3 c =
@@ -57,7 +57,7 @@ returns-3 c =
     let ids = s .args .ids .now in
     let work = s .args .work .now in
     let used : 0 < slotIn work (l .r) = omega (arith, slot .ensures, c .before .before .before .if1 .left) in
-    sought-none (length work) (s .args .limit) (s .args .at) (s .pre .1) (keyIn ids (slotIn work)) (slotIn work) (s .args .k) (l .r) (l .left) (l .inv .0) (l .inv .1) (l .inv .2) (l .inv .3) used (λ e. c .before .if2 .left (c .before .before .key .ensures ∙ ap (λ (x : ℕ). keyOf ids (x - 1)) (slot .ensures) ∙ e)) (omega arith)
+    sought-none (length work) (s .args .limit) (s .args .at) (s .pre .1) (slotKey ids (slotIn work)) (slotIn work) (s .args .k) (l .r) (l .left) (l .inv .0) (l .inv .1) (l .inv .2) (l .inv .3) used (λ e. c .before .if2 .left (c .before .before .key .ensures ∙ ap (λ (x : ℕ). cornerKey ids (x - 1)) (slot .ensures) ∙ e)) (omega arith)
 
 loop-again : tie.Need-loop-again Inv-loop μ-loop
 loop-again c =
@@ -67,7 +67,7 @@ loop-again c =
     let ids = s .args .ids .now in
     let work = s .args .work .now in
     let used : 0 < slotIn work (l .r) = omega (arith, slot .ensures, c .before .before .before .before .if1 .left) in
-    let w = sought-on (length work) (s .args .limit) (s .args .at) (s .pre .1) (keyIn ids (slotIn work)) (slotIn work) (s .args .k) (l .r) (l .left) (l .inv .0) (l .inv .1) (l .inv .2) (l .inv .3) (s .pre .2 .1) used (λ e. c .before .before .if2 .left (c .before .before .before .key .ensures ∙ ap (λ (x : ℕ). keyOf ids (x - 1)) (slot .ensures) ∙ e)) (omega arith) in
+    let w = sought-on (length work) (s .args .limit) (s .args .at) (s .pre .1) (slotKey ids (slotIn work)) (slotIn work) (s .args .k) (l .r) (l .left) (l .inv .0) (l .inv .1) (l .inv .2) (l .inv .3) (s .pre .2 .1) used (λ e. c .before .before .if2 .left (c .before .before .before .key .ensures ∙ ap (λ (x : ℕ). cornerKey ids (x - 1)) (slot .ensures) ∙ e)) (omega arith) in
     rw (c .next .ensures) (w .0, w .1, omega arith, w .2)
 
 pub find-spec : {M : Type 1} → statement M

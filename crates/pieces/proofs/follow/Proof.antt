@@ -4,9 +4,9 @@ use Prim.Native.Nat.{ℕ, _-_, _*_}
 use native.Mathlib.Omega.{arith}
 use borrow.Author.Needs.{needs}
 use lib.ListN.{length}
-use Rattle.forest.specs.Words.{slotIn}
-use Rattle.pieces.specs.Joins.{Grown}
-use Rattle.pieces.specs.Slots.{Slots, Followed}
+use Rattle.forest.specs.inner.Words.{slotIn}
+use Rattle.pieces.specs.inner.Joins.{Grown}
+use Rattle.pieces.specs.inner.Slots.{Slots, Followed}
 use Rattle.pieces.proofs.Joins.{grown-none, grown-then, grown-map, labelled-then}
 use Rattle.pieces.proofs.Rows.{along}
 use Rattle.pieces.proofs.Passes.{looked-up, FollowedTo, followed-next}

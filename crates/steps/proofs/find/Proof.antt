@@ -5,16 +5,16 @@ use Prim.Native.Nat.{_+_, _-_, _<_}
 use native.Mathlib.Omega.{arith}
 use borrow.Author.Needs.{needs}
 use Rattle.ids.specs.EdgeChain.{Edge, sameEdge}
-use Rattle.table.specs.Rows.{nextRow, dist, Passed}
+use Rattle.table.specs.inner.Rows.{nextRow, dist, Passed}
 use Rattle.table.proofs.Search.{dist-here, dist-below, next-below, goes-on}
-use Rattle.steps.specs.Rows.{edgeAt, wordAt, usesAt}
+use Rattle.steps.specs.inner.Rows.{edgeAt, edgeWord, edgeUses}
 use Rattle.ids.proofs.Same.{edge-eq, edge-refl, same-ne}
 use Rattle.table.proofs.Counts.{none-used, used}
 use Rattle.steps.proofs.find.Statement.{statement}
 use Rattle.steps.proofs.find.Tie as tie
 
 abbrev Inv-loop : tie.InvT-loop
-Inv-loop work n low high start r₀ r = (r < n) × Passed n start (edgeAt work) (usesAt work) (record { low = low; high = high }) r
+Inv-loop work n low high start r₀ r = (r < n) × Passed n start (edgeAt work) (edgeUses work) (record { low = low; high = high }) r
 
 abbrev μ-loop : tie.MeasureT-loop
 μ-loop work n low high start r₀ r = n - dist n start r
@@ -33,7 +33,7 @@ module _ (c : tie.Else2 Inv-loop μ-loop) where
   abbrev edge : Edge
   edge = record { low = st .args .low; high = st .args .high }
 
-  used-here : 0 < usesAt (st .args .work .now) (at .loop .r)
+  used-here : 0 < edgeUses (st .args .work .now) (at .loop .r)
   used-here = used _ (omega arith)
 
   other-here : edgeAt (st .args .work .now) (at .loop .r) ≢ edge
@@ -44,8 +44,8 @@ module _ (c : tie.Else2 Inv-loop μ-loop) where
   below = dist-below (st .args .n) (st .args .start) (st .pre .0) (at .loop .r) (at .loop .inv .0)
 
   on : (dist (st .args .n) (st .args .start) (nextRow (st .args .n) (at .loop .r)) ≡ dist (st .args .n) (st .args .start) (at .loop .r) + 1)
-      × Passed (st .args .n) (st .args .start) (edgeAt (st .args .work .now)) (usesAt (st .args .work .now)) edge (nextRow (st .args .n) (at .loop .r))
-  on = goes-on (st .args .n) (st .args .start) (st .pre .0) (edgeAt (st .args .work .now)) (usesAt (st .args .work .now)) edge (at .loop .r) (at .loop .inv .0) (at .loop .inv .1) used-here other-here (st .pre .3)
+      × Passed (st .args .n) (st .args .start) (edgeAt (st .args .work .now)) (edgeUses (st .args .work .now)) edge (nextRow (st .args .n) (at .loop .r))
+  on = goes-on (st .args .n) (st .args .start) (st .pre .0) (edgeAt (st .args .work .now)) (edgeUses (st .args .work .now)) edge (at .loop .r) (at .loop .inv .0) (at .loop .inv .1) used-here other-here (st .pre .3)
 
 -- That the next row is a row stands before that the search comes to an end: a search that does not wrap still seems to end.
 loop-again : tie.Need-loop-again Inv-loop μ-loop
@@ -60,7 +60,7 @@ loop-less c = rw (c .next .ensures) (omega (arith, on (c .before) .0, below (c .
 returns : tie.Need-returns Inv-loop μ-loop
 returns c =
     let l = c .before .before .loop in
-    let word = wordAt (c .before .before .before .before .args .work .now) (l .r) in
+    let word = edgeWord (c .before .before .before .before .args .work .now) (l .r) in
     record { within = l .inv .0; holds = λ u. absurd (omega (arith, none-used word (omega (arith, c .if1 .taken)))); passed = l .inv .1 }
 
 returns-2 : tie.Need-returns-2 Inv-loop μ-loop

@@ -3,7 +3,7 @@ use native.Mathlib.Omega.{arith}
 use borrow.Author.Needs.{needs}
 use lib.Dec.{ltb}
 use Rattle.ids.specs.EdgeChain.{step}
-use Rattle.steps.specs.Rows.{homeOf}
+use Rattle.steps.specs.inner.Rows.{edgeHome}
 use Rattle.steps.proofs.Added.{added}
 use Rattle.steps.proofs.Within.{room-free, room-word}
 use Rattle.table.proofs.Counts.{more-fits}
@@ -23,7 +23,7 @@ bump-requires c κs =
     (omega (arith, f .ensures .within), omega (arith, f .ensures .within), rw (c .weight .ensures) (more-fits _ room (ltb (s .args .u) (s .args .v))))
 
 returns : tie.Need-returns
-unfolding step homeOf
+unfolding step edgeHome
 returns c =
     let found = c .before .before .before .before .before in
     let homed = found .before .before in

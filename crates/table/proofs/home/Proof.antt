@@ -3,7 +3,7 @@ use mathlib.Core.Path.{refl}
 use Prim.Native.Nat.{_*_, _≤_}
 use native.Mathlib.Omega.{arith}
 use native.Mathlib.Nat.{mul-le-mul-right}
-use Rattle.table.specs.Rows.{homeRow}
+use Rattle.table.specs.inner.Rows.{homeRow}
 use Rattle.table.proofs.home.Statement.{statement}
 use Rattle.table.proofs.home.Tie as tie
 

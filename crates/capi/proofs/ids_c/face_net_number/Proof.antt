@@ -2,7 +2,8 @@
 use native.Mathlib.Omega.{arith}
 use Rattle.ids.proofs.Bits.{byte-bit, byte-small}
 use Prim.Native.Nat.{_≤_}
-use Rattle.chain.specs.Numbers.{faceNetNumber, Small}
+use Rattle.chain.specs.Numbers.{faceNetNumber}
+use Rattle.chain.specs.inner.Small.{Small}
 use borrow.Author.Needs.{needs}
 use Rattle.capi.proofs.ids_c.face_net_number.Statement.{statement}
 use Rattle.capi.proofs.ids_c.face_net_number.Tie as tie

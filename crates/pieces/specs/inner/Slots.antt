@@ -6,22 +6,22 @@ use mathlib.Core.Bool.{Bool, true}
 use mathlib.Core.List.{List}
 use Prim.Native.Nat.{ℕ, _-_, _*_, _/_, _%_, _≤_, _<_}
 use lib.ListN.{getD}
-use Rattle.table.specs.Rows.{homeRow, dist, Found, Spread}
-use Rattle.forest.specs.Words.{slotIn}
+use Rattle.table.specs.inner.Rows.{homeRow, dist, Found, Spread}
+use Rattle.forest.specs.inner.Words.{slotIn}
 use Rattle.ids.specs.Pieces.{solid}
-use Rattle.pieces.specs.Joins.{Good, More}
+use Rattle.pieces.specs.inner.Joins.{Good, More}
 
 -- what corner c is looked up by: its id
-unfoldable pub keyOf : List ℕ → ℕ → ℕ
-keyOf ids c = getD ids c 0
+unfoldable pub cornerKey : List ℕ → ℕ → ℕ
+cornerKey ids c = getD ids c 0
 
 -- the row of n at which a search for key k starts, in a pass with this odd number
-unfoldable pub homeOf : ℕ → ℕ → ℕ → ℕ
-homeOf odd n k = homeRow n ((k * odd) % 4294967296)
+unfoldable pub cornerHome : ℕ → ℕ → ℕ → ℕ
+cornerHome odd n k = homeRow n ((k * odd) % 4294967296)
 
 -- the key of the corner that row r holds, for slots s
-abbrev pub keyIn : List ℕ → (ℕ → ℕ) → ℕ → ℕ
-keyIn ids s r = keyOf ids (s r - 1)
+abbrev pub slotKey : List ℕ → (ℕ → ℕ) → ℕ → ℕ
+slotKey ids s r = cornerKey ids (s r - 1)
 
 -- how many rows a search looks at
 abbrev pub Limited : ℕ → ℕ → Type 0
@@ -44,13 +44,13 @@ pub record Sought (n limit at : ℕ) (key mark : ℕ → ℕ) (k r : ℕ) : Type
 -- n slots as a pass keeps them: a search finds each key, within the limit, and they hold corners of distinct-id triangles
 pub record Slots (ids : List ℕ) (odd limit n : ℕ) (s : ℕ → ℕ) : Type 0 where
   pub corners : Corners n s
-  pub spread : Spread n (homeOf odd n) (keyIn ids s) s
-  pub near : (r : ℕ) → r < n → 0 < s r → dist n (homeOf odd n (keyIn ids s r)) r < limit
+  pub spread : Spread n (cornerHome odd n) (slotKey ids s) s
+  pub near : (r : ℕ) → r < n → 0 < s r → dist n (cornerHome odd n (slotKey ids s r)) r < limit
   pub solids : (r : ℕ) → r < n → 0 < s r → solid ids ((s r - 1) / 3) ≡ true
 
 -- some row holds corner i's key, and the row's corner and corner i have one label
 abbrev pub Has : List ℕ → ℕ → (ℕ → ℕ) → (ℕ → ℕ) → ℕ → Type 0
-Has ids n s f i = (r : ℕ) × (r < n) × (0 < s r) × (keyIn ids s r ≡ keyOf ids i) × (f ((s r - 1) / 3) ≡ f (i / 3))
+Has ids n s f i = (r : ℕ) × (r < n) × (0 < s r) × (slotKey ids s r ≡ cornerKey ids i) × (f ((s r - 1) / 3) ≡ f (i / 3))
 
 -- this is so for each corner of a distinct-id triangle from a on below b
 abbrev pub Covered : List ℕ → ℕ → (ℕ → ℕ) → (ℕ → ℕ) → ℕ → ℕ → Type 0
@@ -58,7 +58,7 @@ Covered ids n s f a b = (i : ℕ) → a ≤ i → i < b → solid ids (i / 3) �
 
 -- whichever row holds corner i's key, the row's corner and corner i have one label
 abbrev pub Followed : List ℕ → ℕ → (ℕ → ℕ) → ℕ → (ℕ → ℕ) → Type 0
-Followed ids n s i f = solid ids (i / 3) ≡ true → (r : ℕ) → r < n → 0 < s r → keyIn ids s r ≡ keyOf ids i → f ((s r - 1) / 3) ≡ f (i / 3)
+Followed ids n s i f = solid ids (i / 3) ≡ true → (r : ℕ) → r < n → 0 < s r → slotKey ids s r ≡ cornerKey ids i → f ((s r - 1) / 3) ≡ f (i / 3)
 
 -- what trying to enter corner c does, from t to u with n slots, and whether it is entered
 pub record Entered (ids : List ℕ) (odd limit n spare c : ℕ) (t u : List ℕ) (entered : Bool) : Type 0 where
@@ -81,7 +81,7 @@ pub record Filled (ids : List ℕ) (odd limit n from next : ℕ) (t u : List ℕ
 
 -- each corner from a on below b has one label with all corners behind it that have its key, where their triangles have distinct ids
 abbrev pub Settled : List ℕ → ℕ → ℕ → ℕ → (ℕ → ℕ) → Type 0
-Settled ids n a b f = (i j : ℕ) → a ≤ i → i < b → i ≤ j → j < 3 * n → solid ids (i / 3) ≡ true → solid ids (j / 3) ≡ true → keyOf ids i ≡ keyOf ids j → f (i / 3) ≡ f (j / 3)
+Settled ids n a b f = (i j : ℕ) → a ≤ i → i < b → i ≤ j → j < 3 * n → solid ids (i / 3) ≡ true → solid ids (j / 3) ≡ true → cornerKey ids i ≡ cornerKey ids j → f (i / 3) ≡ f (j / 3)
 
 -- what a pass does
 pub record Swept (ids : List ℕ) (n from next : ℕ) (t u : List ℕ) : Type 0 where

@@ -6,13 +6,13 @@ use Prim.Native.Nat.{ℕ, _/_, _≤_, _<_}
 use lib.Dec.{eqb}
 use lib.ListN.{length}
 use Rattle.ids.specs.Triangles.{triangle}
-use Rattle.forest.specs.Words.{parentIn, slotIn}
-use Rattle.forest.specs.Labels.{Means}
+use Rattle.forest.specs.inner.Words.{parentIn, slotIn}
+use Rattle.forest.specs.inner.Labels.{LabelledBy}
 use Rattle.ids.specs.Pieces.{solid, shareId}
 
 -- one word a triangle, for as many ids as are not refused
-abbrev pub Sized : List ℕ → List ℕ → Type 0
-Sized ids t = (length t ≡ length ids / 3) × (length ids ≤ 98304)
+abbrev pub OneWordEach : List ℕ → List ℕ → Type 0
+OneWordEach ids t = (length t ≡ length ids / 3) × (length ids ≤ 98304)
 
 -- two distinct-id triangles of n that share an id
 pub record Linked (ids : List ℕ) (n x y : ℕ) : Type 0 where
@@ -26,7 +26,7 @@ Inner ids n f = (h : ℕ → ℕ) → ((x y : ℕ) → Linked ids n x y → h x 
 
 -- the labels of the forest in t are f, and no coarser than the joins ask
 pub record Good (ids t : List ℕ) (f : ℕ → ℕ) : Type 0 where
-  pub means : Means (length t) (parentIn t) f
+  pub means : LabelledBy (length t) (parentIn t) f
   pub inner : Inner ids (length t) f
 
 abbrev pub Labelled : List ℕ → List ℕ → Type 0

@@ -74,7 +74,7 @@ module _ (ids : List ℕ) (n : ℕ) (t : List ℕ) where
     }
 
   pub room-free : FaceRoom ids n t → Free n (faceUses t)
-  room-free w = has-free (faceUses t) n (omega (arith, w .1, w .3 .means .rows .total))
+  room-free w = has-free (faceUses t) n (omega (arith, w .rows-left, w .means .means .rows .total))
 
   -- a row's uses are at most all uses
   pub row-small : (es : List (Use Face)) → FaceTable ids n t es → (i : ℕ) → i < n → faceUses t i ≤ length es

@@ -9,7 +9,7 @@ use lib.ListN.{length}
 use Rattle.forest.specs.inner.Words.{slotIn, Freed}
 use Rattle.ids.specs.Pieces.{solid}
 use Rattle.pieces.specs.inner.Joins.{Linked, Good, More, Grown, Whole}
-use Rattle.pieces.specs.inner.Slots.{cornerKey, AllFree, Slots, Has, Covered, Followed, Entered, Filled, Settled, Swept}
+use Rattle.pieces.specs.inner.Slots.{cornerKey, AllFree, Slots, Has, Covered, Followed, FollowedTo, AllFollowed, Entered, Filled, Settled, Swept}
 use Rattle.pieces.proofs.Shared.{key-share}
 use Rattle.pieces.proofs.Joins.{more-none, more-then, grown-map, good-kept}
 use Rattle.pieces.proofs.Rows.{slots-free}
@@ -88,10 +88,7 @@ module _ {ids : List ℕ} {odd limit n from spare : ℕ} {t : List ℕ} where
 pub looked-up : {ids : List ℕ} {odd limit n c : ℕ} {t u : List ℕ} {entered : Bool} → Entered ids odd limit n 0 c t u entered → Grown ids t u (Followed ids n (slotIn t) c)
 looked-up w = grown-map (record { slots = w .same refl; more = w .more }) (λ g p. p .1)
 
--- each corner from a on below b is looked up
-abbrev pub FollowedTo : List ℕ → ℕ → (ℕ → ℕ) → ℕ → ℕ → (ℕ → ℕ) → Type 0
-FollowedTo ids n s a b g = (i : ℕ) → a ≤ i → i < b → Followed ids n s i g
-
+-- one corner more is looked up
 pub followed-next : (ids : List ℕ) (n : ℕ) (s : ℕ → ℕ) (a b : ℕ) (g h : ℕ → ℕ) → FollowedTo ids n s a b g → ((x y : ℕ) → g x ≡ g y → h x ≡ h y) → Followed ids n s b h → FollowedTo ids n s a (b + 1) h
 followed-next ids n s a b g h p keeps last i la lb = go (ℕ-discrete i b)
   where
@@ -115,8 +112,9 @@ settled {ids} {odd} {limit} {n} {from} {next} {s} {g} {h} z cov keeps fol i j la
 
 -- the slots freed, filled, and the corners behind looked up
 pub swept : {ids : List ℕ} {odd limit n from next : ℕ} {t u v w : List ℕ} → length u ≡ length t → Freed n t u → Filled ids odd limit n from next u v
-    → Grown ids v w (FollowedTo ids n (slotIn v) next (3 * n)) → from < 3 * n → Swept ids n from next t w
-swept lu freed fill rest l =
+    → length v ≡ n → Grown ids v w (AllFollowed ids v next) → from < 3 * n → Swept ids n from next t w
+swept {ids = ids} {next = next} {v = v} {w = w} lu freed fill lv all l =
+    let rest = subst (λ (k : ℕ). Grown ids v w (FollowedTo ids k (slotIn v) next (3 * k))) lv all in
     record {
       within = fill .within;
       ahead = fill .ahead l;

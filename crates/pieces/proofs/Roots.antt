@@ -13,9 +13,9 @@ use Rattle.ids.specs.Triangles.{triangle}
 use Rattle.table.specs.inner.Rows.{sumTo}
 use Rattle.forest.specs.inner.Words.{parentIn}
 use Rattle.forest.specs.inner.Labels.{LabelledBy}
-use Rattle.ids.specs.Pieces.{groups, shareId, those, solid, solids, pieces}
+use Rattle.ids.specs.Pieces.{groups, those, solid, solids, pieces}
 use Rattle.ids.specs.Classes.{mem}
-use Rattle.pieces.specs.inner.Joins.{Linked, Whole, isRoot}
+use Rattle.pieces.specs.inner.Joins.{joins, Linked, Whole, isRoot}
 use Rattle.ids.proofs.Groups.{counted}
 use Rattle.ids.proofs.Shared.{share-both}
 use Rattle.ids.proofs.Solids.{those-mem, mem-those, those-once}
@@ -52,7 +52,7 @@ module _ (ids t : List ℕ) (i : ℕ) where
 
 -- ---- all of them
 
-pub answers : (ids t : List ℕ) → length t ≡ length ids / 3 → Whole ids t → sumTo (λ i. bit (isRoot ids t i)) (length t) ≡ pieces shareId ids
+pub answers : (ids t : List ℕ) → length t ≡ length ids / 3 → Whole ids t → sumTo (λ i. bit (isRoot ids t i)) (length t) ≡ pieces joins ids
 unfolding pieces solids isRoot
 answers ids t e z = those-sum (solid ids) (λ i. eqb (f i) i) (isRoot ids t) n same ∙ total ∙ ap (λ (k : ℕ). length (groups joined (those (solid ids) k))) e
   where
@@ -63,7 +63,7 @@ answers ids t e z = those-sum (solid ids) (λ i. eqb (f i) i) (isRoot ids t) n s
     f = z .label
 
     joined : ℕ → ℕ → Bool
-    joined x y = shareId (triangle ids x) (triangle ids y)
+    joined x y = joins (triangle ids x) (triangle ids y)
 
     -- a triangle hangs on itself where it is its own label
     same : (i : ℕ) → i < length t → solid ids i && eqb (parentIn t i) i ≡ solid ids i && eqb (f i) i

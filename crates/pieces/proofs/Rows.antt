@@ -16,7 +16,7 @@ use Rattle.forest.proofs.Words.{slot-here, slot-else, parents-stay}
 use Rattle.forest.proofs.Labels.{merged-joins}
 use Rattle.ids.specs.Pieces.{solid}
 use Rattle.pieces.specs.inner.Joins.{Linked}
-use Rattle.pieces.specs.inner.Slots.{cornerKey, cornerHome, slotKey, AllFree, Sought, Slots, Has, Followed, Entered}
+use Rattle.pieces.specs.inner.Slots.{cornerKey, cornerHome, slotKey, AllFree, Sought, SoughtFor, Slots, Has, Followed, Entered}
 use Rattle.pieces.proofs.Shared.{share-key}
 use Rattle.pieces.proofs.Joins.{more-joined, more-none, good-kept}
 use Rattle.pieces.proofs.Search.{home-in}
@@ -74,29 +74,36 @@ entered-same z no-corner fol fresh =
 pub never-past : {n limit at : ℕ} {key mark : ℕ → ℕ} {k r : ℕ} → 0 < limit → at < n → Sought n limit at key mark k r → AllFree n mark → r ≡ n → ⊥
 never-past {n = n} {at = at} l home q free e = omega (arith, free at home, q .none e at home (rw (dist-here n at home) l) .0)
 
-module _ (ids t u : List ℕ) (odd limit spare c r : ℕ) (z : Slots ids odd limit (length t) (slotIn t))
-    (q : Sought (length t) limit (cornerHome odd (length t) (cornerKey ids c)) (slotKey ids (slotIn t)) (slotIn t) (cornerKey ids c) r)
-    (lr : r < length t) (lc : c < 3 * length t) (sc : solid ids (c / 3) ≡ true) (s : ℕ) (is : s ≡ slotIn t r) where
+-- corner c, of a distinct-id triangle, and the row r that a search gave for it, which holds s
+pub record AtRow (ids t : List ℕ) (odd limit c r s : ℕ) : Type 0 where
+  pub slots : Slots ids odd limit (length t) (slotIn t)
+  pub sought : SoughtFor ids t odd limit c r
+  pub inside : r < length t
+  pub corner : c < 3 * length t
+  pub of-solid : solid ids (c / 3) ≡ true
+  pub holds : s ≡ slotIn t r
+
+module _ {ids t : List ℕ} {odd limit c r s : ℕ} (w : AtRow ids t odd limit c r s) (u : List ℕ) (spare : ℕ) where
   -- the row's corner and c were joined
   module _ (long : length u ≡ length t) (used : s ≢ 0) (j : Joined t u ((s - 1) / 3) (c / 3)) where
     in-use : 0 < slotIn t r
     in-use = omega arith
 
     link : Linked ids (length t) ((s - 1) / 3) (c / 3)
-    link = rw is (row-linked z c q lr in-use lc sc)
+    link = rw (w .holds) (row-linked (w .slots) c (w .sought) (w .inside) in-use (w .corner) (w .of-solid))
 
     one-label : (f : ℕ → ℕ) → merged f ((s - 1) / 3) (c / 3) ((slotIn t r - 1) / 3) ≡ merged f ((s - 1) / 3) (c / 3) (c / 3)
-    one-label f = ap (λ (x : ℕ). merged f ((s - 1) / 3) (c / 3) ((x - 1) / 3)) (sym is) ∙ merged-joins f ((s - 1) / 3) (c / 3)
+    one-label f = ap (λ (x : ℕ). merged f ((s - 1) / 3) (c / 3) ((x - 1) / 3)) (sym (w .holds)) ∙ merged-joins f ((s - 1) / 3) (c / 3)
 
     pub entered-joined : Entered ids odd limit (length t) spare c t u true
     entered-joined =
         record {
-          slots = along (Slots ids odd limit (length t)) t u (j .slots) z;
+          slots = along (Slots ids odd limit (length t)) t u (j .slots) (w .slots);
           rows = λ x l h. j .slots x;
           same = λ e. j .slots;
           more = more-joined long link j (λ f. (
-            λ e s′. along (λ (o : ℕ → ℕ). Has ids (length t) o (merged f ((s - 1) / 3) (c / 3)) c) t u (j .slots) (r, lr, in-use, q .found lr .holds in-use, one-label f),
-            followed-here z c q (merged f ((s - 1) / 3) (c / 3)) (one-label f),
+            λ e s′. along (λ (o : ℕ → ℕ). Has ids (length t) o (merged f ((s - 1) / 3) (c / 3)) c) t u (j .slots) (r, w .inside, in-use, w .sought .found (w .inside) .holds in-use, one-label f),
+            followed-here (w .slots) c (w .sought) (merged f ((s - 1) / 3) (c / 3)) (one-label f),
           ));
           fresh = λ free l. refl;
         }
@@ -108,11 +115,11 @@ module _ (ids t u : List ℕ) (odd limit spare c r : ℕ) (z : Slots ids odd lim
 
     here : slotIn v r ≡ c + 1
     unfolding v
-    here = slot-here t r (c + 1) lr
+    here = slot-here t r (c + 1) (w .inside)
 
     else : (i : ℕ) → i ≢ r → slotIn v i ≡ slotIn t i
     unfolding v
-    else i ne = slot-else t r (c + 1) lr i ne
+    else i ne = slot-else t r (c + 1) (w .inside) i ne
 
     key-here : slotKey ids (slotIn v) r ≡ cornerKey ids c
     key-here = ap (λ (x : ℕ). cornerKey ids (x - 1)) here ∙ ap (cornerKey ids) (omega arith)
@@ -129,27 +136,27 @@ module _ (ids t u : List ℕ) (odd limit spare c r : ℕ) (z : Slots ids odd lim
     slots-held : Slots ids odd limit (length t) (slotIn v)
     slots-held =
         record {
-          corners = λ i l. by i (λ x. slotIn v x ≤ 3 * length t) (omega (arith, here)) (λ ne. omega (arith, else i ne, z .corners i l));
-          spread = spread-step (length t) (cornerHome odd (length t)) (slotKey ids (slotIn t)) (slotIn t) (cornerKey ids c) r (home-in odd (length t) (cornerKey ids c) (omega arith)) (z .spread) (q .found lr) (slotKey ids (slotIn v)) (slotIn v) written;
+          corners = λ i l. by i (λ x. slotIn v x ≤ 3 * length t) (omega (arith, here)) (λ ne. omega (arith, else i ne, w .slots .corners i l));
+          spread = spread-step (length t) (cornerHome odd (length t)) (slotKey ids (slotIn t)) (slotIn t) (cornerKey ids c) r (home-in odd (length t) (cornerKey ids c) (omega arith)) (w .slots .spread) (w .sought .found (w .inside)) (slotKey ids (slotIn v)) (slotIn v) written;
           near = λ i l. by i (λ x. 0 < slotIn v x → dist (length t) (cornerHome odd (length t) (slotKey ids (slotIn v) x)) x < limit)
-              (λ h. subst (λ (k : ℕ). dist (length t) (cornerHome odd (length t) k) r < limit) (sym key-here) (q .near lr))
-              (λ ne. subst (λ (x : ℕ). 0 < x → dist (length t) (cornerHome odd (length t) (cornerKey ids (x - 1))) i < limit) (sym (else i ne)) (z .near i l));
-          solids = λ i l. by i (λ x. 0 < slotIn v x → solid ids ((slotIn v x - 1) / 3) ≡ true) (λ h. ap (solid ids) corner-here ∙ sc)
-              (λ ne. subst (λ (x : ℕ). 0 < x → solid ids ((x - 1) / 3) ≡ true) (sym (else i ne)) (z .solids i l));
+              (λ h. subst (λ (k : ℕ). dist (length t) (cornerHome odd (length t) k) r < limit) (sym key-here) (w .sought .near (w .inside)))
+              (λ ne. subst (λ (x : ℕ). 0 < x → dist (length t) (cornerHome odd (length t) (cornerKey ids (x - 1))) i < limit) (sym (else i ne)) (w .slots .near i l));
+          solids = λ i l. by i (λ x. 0 < slotIn v x → solid ids ((slotIn v x - 1) / 3) ≡ true) (λ h. ap (solid ids) corner-here ∙ (w .of-solid))
+              (λ ne. subst (λ (x : ℕ). 0 < x → solid ids ((x - 1) / 3) ≡ true) (sym (else i ne)) (w .slots .solids i l));
         }
 
     pub entered-held : spare ≢ 0 → u ≡ withSlot t r (c + 1) → Entered ids odd limit (length t) spare c t u true
     unfolding v
-    entered-held some e = subst (λ (w : List ℕ). Entered ids odd limit (length t) spare c t w true) (sym e) (
+    entered-held some e = subst (λ (v : List ℕ). Entered ids odd limit (length t) spare c t v true) (sym e) (
         record {
           slots = slots-held;
           rows = λ x l h. else x (λ e. omega (arith, ap (slotIn t) e));
           same = λ none. absurd (some none);
           more = λ f g. record {
             label = f;
-            good = good-kept (length-set t r _) (parents-stay t r (c + 1) lr) g;
+            good = good-kept (length-set t r _) (parents-stay t r (c + 1) (w .inside)) g;
             keeps = λ x y e. e;
-            holds = (λ e s′. (r, lr, omega (arith, here), key-here, ap f corner-here), followed-free z c q (sym is ∙ free) f);
+            holds = (λ e s′. (r, w .inside, omega (arith, here), key-here, ap f corner-here), followed-free (w .slots) c (w .sought) (sym (w .holds) ∙ free) f);
           };
           fresh = λ free l. refl;
         })

@@ -6,14 +6,17 @@
 // slots are full enough, then only looks the corners behind up, and the next pass starts where this one stopped
 // entering. Each pass has another hash, and looks at no more than `limit` rows for a corner.
 ghost use mathlib.Core.Path.{_≡_};
-ghost use Prim.Native.Nat.{ℕ, _*_, _/_, _≤_, _<_, min};
-ghost use lib.ListN.{length, replicate};
+ghost use Prim.Native.Nat.{_*_, _≤_, _<_, min};
+ghost use lib.ListN.{length};
 ghost use Rattle.ids.specs.Uses.{bit};
-ghost use Rattle.table.specs.inner.Rows.{sumTo};
-ghost use Rattle.forest.specs.inner.Words.{slotIn};
+ghost use Rattle.ids.specs.Triangles.{triangleCount};
+ghost use Rattle.ids.specs.Lent.{mostEntries};
 ghost use Rattle.ids.specs.Pieces.{shareId, pieces as piecesOf};
+ghost use Rattle.table.specs.inner.Rows.{sumTo};
+ghost use Rattle.table.specs.inner.Words.{Leaves};
 ghost use Rattle.pieces.specs.inner.Joins.{OneWordEach, Labelled, Grown, Whole, isRoot};
-ghost use Rattle.pieces.specs.inner.Slots.{cornerKey, cornerHome, slotKey, Limited, Corners, AllFree, Sought, Slots, Followed, Entered, Filled, Swept};
+ghost use Rattle.pieces.specs.inner.Slots.{cornerKey, cornerHome, SoughtIn, SoughtFor, Seekable, Emptied, Ready};
+ghost use Rattle.pieces.specs.inner.Slots.{AllFollowed, Entered, Filled, Swept};
 ghost use Rattle.pieces.specs.Answer.{PiecesGiven};
 
 // The number of pieces, or the number of the refusal.
@@ -34,7 +37,7 @@ fn key(ids: &[u32], c: usize) -> u32
 
 // The odd number that makes the hash of a pass from a corner on.
 fn odd_of(from: usize) -> u32
-    requires { ⌜ from ≤ 98304 ⌝ }
+    requires { ⌜ from ≤ mostEntries ⌝ }
 {
     ((3008513259 + 3416884090 * from as u64) % 0x1_0000_0000) as u32
 }
@@ -57,8 +60,8 @@ fn start(key: u32, odd: u32, n: usize) -> usize
 
 // The row, from `at` on and round, that holds a corner with the key or is free; n, if `limit` rows hold others.
 fn find(ids: &[u32], work: &[u32], k: u32, at: usize, limit: usize) -> usize
-    requires { ⌜ OneWordEach (now ids) (now work) × (at < length (now work)) × Limited limit (length (now work)) × Corners (length (now work)) (slotIn (now work)) ⌝ }
-    ensures { λ r. ⌜ Sought (length (now (work .entry))) limit at (slotKey (now (ids .entry)) (slotIn (now (work .entry)))) (slotIn (now (work .entry))) k r ⌝ }
+    requires { ⌜ Seekable (now ids) limit (now work) × (at < length (now work)) ⌝ }
+    ensures { λ r. ⌜ SoughtIn (now (ids .entry)) (now (work .entry)) limit at k r ⌝ }
 {
     let n = work.len();
     let mut r = at;
@@ -81,8 +84,8 @@ fn find(ids: &[u32], work: &[u32], k: u32, at: usize, limit: usize) -> usize
 
 // The row of corner c.
 fn seek(ids: &[u32], work: &[u32], odd: u32, limit: usize, c: usize) -> usize
-    requires { ⌜ OneWordEach (now ids) (now work) × (c < 3 * length (now work)) × Limited limit (length (now work)) × Corners (length (now work)) (slotIn (now work)) ⌝ }
-    ensures { λ r. ⌜ Sought (length (now (work .entry))) limit (cornerHome odd (length (now (work .entry))) (cornerKey (now (ids .entry)) c)) (slotKey (now (ids .entry)) (slotIn (now (work .entry)))) (slotIn (now (work .entry))) (cornerKey (now (ids .entry)) c) r ⌝ }
+    requires { ⌜ Seekable (now ids) limit (now work) × (c < 3 * length (now work)) ⌝ }
+    ensures { λ r. ⌜ SoughtFor (now (ids .entry)) (now (work .entry)) odd limit c r ⌝ }
 {
     let k = key(ids, c);
     let at = start(k, odd, work.len());
@@ -99,8 +102,9 @@ struct Entry {
 
 // Enters corner c: joins it to the corner that its row holds, or fills the row if a slot may be filled.
 fn enter(ids: &[u32], work: &mut [u32], odd: u32, limit: usize, spare: usize, c: usize) -> Entry
-    requires { ⌜ OneWordEach (now ids) (now work) × (c < 3 * length (now work)) × Limited limit (length (now work)) × Slots (now ids) odd limit (length (now work)) (slotIn (now work)) × Labelled (now ids) (now work) ⌝ }
-    ensures { λ e. ⌜ Entered (now (ids .entry)) odd limit (length (now (work .entry))) spare c (now (work .entry)) (now (work .exit)) (e .entered) ⌝ }
+    requires { ⌜ Ready (now ids) odd limit (now work) × (c < 3 * length (now work)) ⌝ }
+    ensures { λ e. ⌜ Entered (now (ids .entry)) odd limit (length (now (work .entry))) spare c
+        (now (work .entry)) (now (work .exit)) (e .entered) ⌝ }
 {
     let t = c / 3;
     if !table::distinct_at(ids, t) {
@@ -139,8 +143,9 @@ fn enter(ids: &[u32], work: &mut [u32], odd: u32, limit: usize, spare: usize, c:
 
 // Enters corners from `from` on, up to the first that finds no room: which one that is, or their number.
 fn fill(ids: &[u32], work: &mut [u32], odd: u32, limit: usize, from: usize) -> usize
-    requires { ⌜ OneWordEach (now ids) (now work) × (from ≤ 3 * length (now work)) × Limited limit (length (now work)) × AllFree (length (now work)) (slotIn (now work)) × Labelled (now ids) (now work) ⌝ }
-    ensures { λ next. ⌜ Filled (now (ids .entry)) odd limit (length (now (work .entry))) from next (now (work .entry)) (now (work .exit)) ⌝ }
+    requires { ⌜ Emptied (now ids) limit (now work) × (from ≤ 3 * length (now work)) ⌝ }
+    ensures { λ next. ⌜ Filled (now (ids .entry)) odd limit (length (now (work .entry))) from next
+        (now (work .entry)) (now (work .exit)) ⌝ }
 {
     let n = work.len();
     let mut spare = n / 4 * 3 + 1;
@@ -158,8 +163,9 @@ fn fill(ids: &[u32], work: &mut [u32], odd: u32, limit: usize, from: usize) -> u
 
 // Joins each corner from `from` on to the corner that its row holds, if one does: it enters them with no slot to fill.
 fn follow(ids: &[u32], work: &mut [u32], odd: u32, limit: usize, from: usize)
-    requires { ⌜ OneWordEach (now ids) (now work) × Limited limit (length (now work)) × Slots (now ids) odd limit (length (now work)) (slotIn (now work)) × Labelled (now ids) (now work) ⌝ }
-    ensures { λ _. ⌜ Grown (now (ids .entry)) (now (work .entry)) (now (work .exit)) (λ g. ((i : ℕ) → from ≤ i → i < 3 * length (now (work .entry)) → Followed (now (ids .entry)) (length (now (work .entry))) (slotIn (now (work .entry))) i g)) ⌝ }
+    requires { ⌜ Ready (now ids) odd limit (now work) ⌝ }
+    ensures { λ _. ⌜ Grown (now (ids .entry)) (now (work .entry)) (now (work .exit))
+        (AllFollowed (now (ids .entry)) (now (work .entry)) from) ⌝ }
 {
     let mut c = from;
     while c < 3 * work.len() {
@@ -171,7 +177,7 @@ fn follow(ids: &[u32], work: &mut [u32], odd: u32, limit: usize, from: usize)
 // One pass, from corner `from` on: every corner that it entered is joined with all behind it that have its id. Where it
 // stopped entering.
 fn pass(ids: &[u32], work: &mut [u32], from: usize) -> usize
-    requires { ⌜ OneWordEach (now ids) (now work) × (from < 3 * length (now work)) × Labelled (now ids) (now work) ⌝ }
+    requires { ⌜ OneWordEach (now ids) (now work) × Labelled (now ids) (now work) × (from < 3 * length (now work)) ⌝ }
     ensures { λ next. ⌜ Swept (now (ids .entry)) (length (now (work .entry))) from next (now (work .entry)) (now (work .exit)) ⌝ }
 {
     forest::free(work);
@@ -227,7 +233,7 @@ fn count(ids: &[u32], work: &[u32]) -> u32
 // The number of pieces, over an area of just the words that it takes, which are zero afterwards.
 fn pieces_in(ids: &[u32], work: &mut [u32]) -> u32
     requires { ⌜ OneWordEach (now ids) (now work) ⌝ }
-    ensures { λ r. ⌜ (r ≡ piecesOf shareId (now (ids .entry))) × (now (work .exit) ≡ replicate (length (now (ids .entry)) / 3) 0) ⌝ }
+    ensures { λ r. ⌜ Leaves (triangleCount (now (ids .entry))) (piecesOf shareId (now (ids .entry))) r (now (work .exit)) ⌝ }
 {
     join_all(ids, work);
     let r = count(ids, work);
@@ -245,5 +251,5 @@ pub fn pieces(ids: &[u32], work: &mut [u32]) -> PieceCount
     if 0 < refusal {
         return PieceCount::Refused(refusal);
     }
-    PieceCount::Answer(pieces_in(ids, &mut work[0..n]))
+    PieceCount::Answer(pieces_in(ids, &mut work[..n]))
 }

@@ -1,13 +1,14 @@
 -- The table of faces: rows of 2 words, a triangle and the word that counts the uses of its face. There are 2 rows for a triangle, so at most one in two is used.
-use Prim.Native.Nat.{ℕ, _+_, _*_, _%_, _<_}
-use mathlib.Core.Path.{_≡_}
-use mathlib.Core.List.{List, _++_}
-use lib.ListN.{length, getD, set, take, drop}
+use Prim.Native.Nat.{ℕ, _+_, _*_, _%_, _≤_, _<_}
+use mathlib.Core.List.{List, [], _++_}
+use lib.ListN.{length, getD, set}
 use Rattle.ids.specs.Triangles.{triangle, triangleCount}
 use Rattle.ids.specs.Uses.{Use, bit}
+use Rattle.ids.specs.Lent.{mostEntries}
 use Rattle.ids.specs.EdgeChain.{unbalanced}
 use Rattle.ids.specs.FaceNet.{Face, sameFace, sorted}
-use Rattle.table.specs.inner.Rows.{homeRow}
+use Rattle.table.specs.inner.Rows.{homeRow, Free}
+use Rattle.table.specs.inner.Words.{TriangleOf}
 use Rattle.table.specs.inner.Counts.{upsIn, usesIn, sumSize}
 use Rattle.table.specs.inner.Table.{gate, MeansUses}
 
@@ -44,13 +45,41 @@ pub record FaceTable (ids : List ℕ) (n : ℕ) (t : List ℕ) (es : List (Use F
   pub means : MeansUses sameFace n (faceHome n) (faceAt ids t) (faceUses t) (faceUps t) es
 
 -- they mean some uses, and there is room for one more
-abbrev pub FaceRoom : List ℕ → ℕ → List ℕ → Type 0
-FaceRoom ids n t = (es : List (Use Face)) × (length es < n) × (length es < 32768) × FaceTable ids n t es
+pub record FaceRoom (ids : List ℕ) (n : ℕ) (t : List ℕ) : Type 0 where
+  pub so-far : List (Use Face)
+  pub rows-left : length so-far < n
+  pub counts-left : length so-far < 32768
+  pub means : FaceTable ids n t so-far
 
--- where the ids stand behind the first `at` words of one list with the table, which goes from w to w′: they stay, and the table means the uses fs besides
-pub record AddedBehind (at n : ℕ) (w w′ : List ℕ) (fs : List (Use Face)) : Type 0 where
-  pub same : drop at w′ ≡ drop at w
-  pub adds : (es : List (Use Face)) → FaceTable (drop at w) n (take at w) es → FaceTable (drop at w) n (take at w′) (es ++ fs)
+-- there are words for n rows
+pub record FaceRows (n : ℕ) (t : List ℕ) : Type 0 where
+  pub most : n ≤ 65536
+  pub fits : 2 * n ≤ length t
+
+-- a search in them can start, each row names a triangle, and some row is free
+pub record FaceSearch (ids : List ℕ) (n start : ℕ) (t : List ℕ) : Type 0 where
+  pub few : length ids ≤ mostEntries
+  pub space : FaceRows n t
+  pub starts : start < n
+  pub named : (i : ℕ) → i < n → namedAt t i < triangleCount ids
+  pub free : Free n (faceUses t)
+
+-- there is room for the use that triangle i makes
+pub record FaceToAdd (ids : List ℕ) (n : ℕ) (t : List ℕ) (i : ℕ) : Type 0 where
+  pub of : TriangleOf ids i
+  pub space : FaceRows n t
+  pub room : FaceRoom ids n t
+
+-- no use yet, and rows for all triangles
+pub record FacesToCome (ids : List ℕ) (n : ℕ) (t : List ℕ) : Type 0 where
+  pub few : length ids ≤ mostEntries
+  pub rows : triangleCount ids ≤ n
+  pub space : FaceRows n t
+  pub empty : FaceTable ids n t []
+
+-- from t to u the uses fs were added
+pub record FacesAdded (ids : List ℕ) (n : ℕ) (t u : List ℕ) (fs : List (Use Face)) : Type 0 where
+  pub adds : (es : List (Use Face)) → FaceTable ids n t es → FaceTable ids n u (es ++ fs)
 
 -- what a row adds to the count of sums other than 0, and to the largest
 unfoldable pub rowOff : List ℕ → ℕ → ℕ

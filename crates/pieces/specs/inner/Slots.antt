@@ -1,15 +1,15 @@
--- The slots of a pass: a table of corners by their ids. A corner is a place in the list of ids, of triangle c / 3; a slot holds one more than its corner,
--- or 0. Internal: what a search in the slots finds, and what a pass over the corners does.
+-- The slots of a pass: a table of corners by their ids. A corner is a place in the list of ids, of triangle c / 3; a slot holds one more
+-- than its corner, or 0. What a search in the slots finds, and what a pass over the corners does.
 use mathlib.Core.Path.{_≡_}
 use mathlib.Core.Logic.{_≢_}
 use mathlib.Core.Bool.{Bool, true}
 use mathlib.Core.List.{List}
 use Prim.Native.Nat.{ℕ, _-_, _*_, _/_, _%_, _≤_, _<_}
-use lib.ListN.{getD}
+use lib.ListN.{length, getD}
 use Rattle.table.specs.inner.Rows.{homeRow, dist, Found, Spread}
 use Rattle.forest.specs.inner.Words.{slotIn}
 use Rattle.ids.specs.Pieces.{solid}
-use Rattle.pieces.specs.inner.Joins.{Good, More}
+use Rattle.pieces.specs.inner.Joins.{OneWordEach, Labelled, Good, More}
 
 -- what corner c is looked up by: its id
 unfoldable pub cornerKey : List ℕ → ℕ → ℕ
@@ -34,12 +34,25 @@ Corners n s = (r : ℕ) → r < n → s r ≤ 3 * n
 abbrev pub AllFree : ℕ → (ℕ → ℕ) → Type 0
 AllFree n s = (r : ℕ) → r < n → s r ≡ 0
 
--- what a search for k from row `at` on finds: a row as `Found` has it, among the first `limit`; or n, where all of these hold other keys
+-- what a search for k from row `at` on finds: a row as `Found` has it, among the first `limit`; or n, where all these hold other keys
 pub record Sought (n limit at : ℕ) (key mark : ℕ → ℕ) (k r : ℕ) : Type 0 where
   pub within : r ≤ n
   pub found : r < n → Found n at key mark k r
   pub near : r < n → dist n at r < limit
   pub none : r ≡ n → (j : ℕ) → j < n → dist n at j < limit → (0 < mark j) × (key j ≢ k)
+
+-- the same of the slots in t, and for corner c
+abbrev pub SoughtIn : List ℕ → List ℕ → ℕ → ℕ → ℕ → ℕ → Type 0
+SoughtIn ids t limit at k r = Sought (length t) limit at (slotKey ids (slotIn t)) (slotIn t) k r
+
+abbrev pub SoughtFor : List ℕ → List ℕ → ℕ → ℕ → ℕ → ℕ → Type 0
+SoughtFor ids t odd limit c r = SoughtIn ids t limit (cornerHome odd (length t) (cornerKey ids c)) (cornerKey ids c) r
+
+-- what a search of the slots in t leans on
+pub record Seekable (ids : List ℕ) (limit : ℕ) (t : List ℕ) : Type 0 where
+  pub sized : OneWordEach ids t
+  pub limited : Limited limit (length t)
+  pub corners : Corners (length t) (slotIn t)
 
 -- n slots as a pass keeps them: a search finds each key, within the limit, and they hold corners of distinct-id triangles
 pub record Slots (ids : List ℕ) (odd limit n : ℕ) (s : ℕ → ℕ) : Type 0 where
@@ -47,6 +60,19 @@ pub record Slots (ids : List ℕ) (odd limit n : ℕ) (s : ℕ → ℕ) : Type 0
   pub spread : Spread n (cornerHome odd n) (slotKey ids s) s
   pub near : (r : ℕ) → r < n → 0 < s r → dist n (cornerHome odd n (slotKey ids s r)) r < limit
   pub solids : (r : ℕ) → r < n → 0 < s r → solid ids ((s r - 1) / 3) ≡ true
+
+-- before a pass, and in it
+pub record Emptied (ids : List ℕ) (limit : ℕ) (t : List ℕ) : Type 0 where
+  pub sized : OneWordEach ids t
+  pub limited : Limited limit (length t)
+  pub free : AllFree (length t) (slotIn t)
+  pub labelled : Labelled ids t
+
+pub record Ready (ids : List ℕ) (odd limit : ℕ) (t : List ℕ) : Type 0 where
+  pub sized : OneWordEach ids t
+  pub limited : Limited limit (length t)
+  pub slots : Slots ids odd limit (length t) (slotIn t)
+  pub labelled : Labelled ids t
 
 -- some row holds corner i's key, and the row's corner and corner i have one label
 abbrev pub Has : List ℕ → ℕ → (ℕ → ℕ) → (ℕ → ℕ) → ℕ → Type 0
@@ -58,7 +84,16 @@ Covered ids n s f a b = (i : ℕ) → a ≤ i → i < b → solid ids (i / 3) �
 
 -- whichever row holds corner i's key, the row's corner and corner i have one label
 abbrev pub Followed : List ℕ → ℕ → (ℕ → ℕ) → ℕ → (ℕ → ℕ) → Type 0
-Followed ids n s i f = solid ids (i / 3) ≡ true → (r : ℕ) → r < n → 0 < s r → slotKey ids s r ≡ cornerKey ids i → f ((s r - 1) / 3) ≡ f (i / 3)
+Followed ids n s i f =
+    solid ids (i / 3) ≡ true → (r : ℕ) → r < n → 0 < s r → slotKey ids s r ≡ cornerKey ids i → f ((s r - 1) / 3) ≡ f (i / 3)
+
+-- this is so for each corner from a on below b
+abbrev pub FollowedTo : List ℕ → ℕ → (ℕ → ℕ) → ℕ → ℕ → (ℕ → ℕ) → Type 0
+FollowedTo ids n s a b g = (i : ℕ) → a ≤ i → i < b → Followed ids n s i g
+
+-- and for each from a on, with the slots in t
+abbrev pub AllFollowed : List ℕ → List ℕ → ℕ → (ℕ → ℕ) → Type 0
+AllFollowed ids t a g = FollowedTo ids (length t) (slotIn t) a (3 * length t) g
 
 -- what trying to enter corner c does, from t to u with n slots, and whether it is entered
 pub record Entered (ids : List ℕ) (odd limit n spare c : ℕ) (t u : List ℕ) (entered : Bool) : Type 0 where
@@ -68,7 +103,8 @@ pub record Entered (ids : List ℕ) (odd limit n spare c : ℕ) (t u : List ℕ)
   -- with none to spare, all stay
   pub same : spare ≡ 0 → (i : ℕ) → slotIn u i ≡ slotIn t i
   -- where c is entered a row holds its key; entered or not, c has one label with the row that held its key before
-  pub more : (f : ℕ → ℕ) → Good ids t f → More ids u f (λ g. (entered ≡ true → solid ids (c / 3) ≡ true → Has ids n (slotIn u) g c) × Followed ids n (slotIn t) c g)
+  pub more : (f : ℕ → ℕ) → Good ids t f
+      → More ids u f (λ g. (entered ≡ true → solid ids (c / 3) ≡ true → Has ids n (slotIn u) g c) × Followed ids n (slotIn t) c g)
   -- the first corner is entered
   pub fresh : AllFree n (slotIn t) → 0 < spare → entered ≡ true
 
@@ -79,9 +115,11 @@ pub record Filled (ids : List ℕ) (odd limit n from next : ℕ) (t u : List ℕ
   pub slots : Slots ids odd limit n (slotIn u)
   pub more : (f : ℕ → ℕ) → Good ids t f → More ids u f (λ g. Covered ids n (slotIn u) g from next)
 
--- each corner from a on below b has one label with all corners behind it that have its key, where their triangles have distinct ids
+-- each corner from a on below b has one label with all corners behind it that have its key, where both triangles have distinct ids
 abbrev pub Settled : List ℕ → ℕ → ℕ → ℕ → (ℕ → ℕ) → Type 0
-Settled ids n a b f = (i j : ℕ) → a ≤ i → i < b → i ≤ j → j < 3 * n → solid ids (i / 3) ≡ true → solid ids (j / 3) ≡ true → cornerKey ids i ≡ cornerKey ids j → f (i / 3) ≡ f (j / 3)
+Settled ids n a b f =
+    (i j : ℕ) → a ≤ i → i < b → i ≤ j → j < 3 * n → solid ids (i / 3) ≡ true → solid ids (j / 3) ≡ true → cornerKey ids i ≡ cornerKey ids j
+    → f (i / 3) ≡ f (j / 3)
 
 -- what a pass does
 pub record Swept (ids : List ℕ) (n from next : ℕ) (t u : List ℕ) : Type 0 where

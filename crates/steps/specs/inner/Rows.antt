@@ -1,10 +1,10 @@
 -- The table of edges: rows of 3 words, low id, high id and the word that counts the uses. There are 4 rows for 3 ids, so at most three in four are used.
-use Prim.Native.Nat.{ℕ, _+_, _-_, _*_, _%_, _≤_}
-use mathlib.Core.List.{List}
+use Prim.Native.Nat.{ℕ, _+_, _-_, _*_, _%_, _≤_, _<_}
+use mathlib.Core.List.{List, _++_}
 use lib.ListN.{length, getD, set}
 use Rattle.ids.specs.Uses.{Use, uses}
 use Rattle.ids.specs.EdgeChain.{Edge, sameEdge}
-use Rattle.table.specs.inner.Rows.{homeRow}
+use Rattle.table.specs.inner.Rows.{homeRow, Free}
 use Rattle.table.specs.inner.Counts.{upsIn, usesIn}
 use Rattle.table.specs.inner.Table.{ups, MeansUses}
 
@@ -35,6 +35,21 @@ edgeHome n e = homeRow n (edgeHash e)
 abbrev pub EdgeTable : ℕ → List ℕ → List (Use Edge) → Type 0
 EdgeTable n t es = MeansUses sameEdge n (edgeHome n) (edgeAt t) (edgeUses t) (edgeUps t) es
 
+-- there are words for n rows
+pub record EdgeRows (n : ℕ) (t : List ℕ) : Type 0 where
+  pub most : n ≤ 131072
+  pub fits : 3 * n ≤ length t
+
+-- a search in them can start, and ends: some row is free
+pub record EdgeSearch (n start : ℕ) (t : List ℕ) : Type 0 where
+  pub space : EdgeRows n t
+  pub starts : start < n
+  pub free : Free n (edgeUses t)
+
+-- from t to u the uses fs were added
+pub record EdgesAdded (n : ℕ) (t u : List ℕ) (fs : List (Use Edge)) : Type 0 where
+  pub adds : (es : List (Use Edge)) → EdgeTable n t es → EdgeTable n u (es ++ fs)
+
 -- each edge has at most m uses upwards and at most m downwards
 abbrev pub Within : ℕ → List (Use Edge) → Type 0
 Within m es = (k : Edge) → (ups sameEdge k es ≤ m) × (uses sameEdge k es ≤ ups sameEdge k es + m)
@@ -45,3 +60,8 @@ pub record EdgeRoom (n : ℕ) (t : List ℕ) (m : ℕ) : Type 0 where
   pub rows-left : length so-far + m ≤ n
   pub counts-left : Within (65535 - m) so-far
   pub means : EdgeTable n t so-far
+
+-- and so many rows stand in the words
+pub record EdgesFit (n m : ℕ) (t : List ℕ) : Type 0 where
+  pub space : EdgeRows n t
+  pub room : EdgeRoom n t m

@@ -24,12 +24,14 @@ module _ (ids t u : List ℕ) (long : length u ≡ length t) where
         empty = rw (is, cleared-all m t (lent .long)) (edge-tables.zero-table n m (omega arith));
       }
 
-  pub emptied-faces : Lends (4 * triangleCount ids) ids t → u ≡ cleared (4 * triangleCount ids) t → FacesToCome ids (2 * triangleCount ids) u
+  pub emptied-faces : Lends (4 * triangleCount ids) ids t → u ≡ cleared (4 * triangleCount ids) t
+      → FacesToCome ids (2 * triangleCount ids) u
   emptied-faces lent is =
       let m : ℕ = 4 * triangleCount ids in
       record {
         few = lent .few;
         rows = omega arith;
         space = record { most = omega (arith, lent .few); fits = omega (arith, lent .long) };
-        empty = rw (is, cleared-all m t (lent .long)) (face-tables.zero-table ids (2 * triangleCount ids) m (omega arith) (λ l. omega arith));
+        empty =
+            rw (is, cleared-all m t (lent .long)) (face-tables.zero-table ids (2 * triangleCount ids) m (omega arith) (λ l. omega arith));
       }

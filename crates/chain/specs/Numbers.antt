@@ -31,14 +31,16 @@ verdictNumber (verdict.Refused n) = 2147483648 + n
 
 abbrev pub EdgeChainNumbered : List ℕ → List ℕ → ℕ → List ℕ → Type 0
 EdgeChainNumbered ids area r after =
-    Gives (4 * length ids) (λ n. edgeChainNumber (edge-chain.Refused n)) (edgeChainNumber (edge-chain.Answer (incidenceOf ids))) ids area r after
+    Gives (4 * length ids) (λ n. edgeChainNumber (edge-chain.Refused n))
+    (edgeChainNumber (edge-chain.Answer (incidenceOf ids))) ids area r after
 
 abbrev pub FaceNetNumbered : List ℕ → List ℕ → ℕ → List ℕ → Type 0
 FaceNetNumbered ids area r after =
     Gives (4 * triangleCount ids) (λ n. faceNetNumber (face-net.Refused n)) (faceNetNumber (face-net.Answer (netOf ids))) ids area r after
 
 abbrev pub VerdictNumbered : (List ℕ → Bool) → List ℕ → List ℕ → ℕ → List ℕ → Type 0
-VerdictNumbered holds ids area r after = Gives (4 * length ids) (λ n. verdictNumber (verdict.Refused n)) (verdictNumber (verdict.Answer (holds ids))) ids area r after
+VerdictNumbered holds ids area r after =
+    Gives (4 * length ids) (λ n. verdictNumber (verdict.Refused n)) (verdictNumber (verdict.Answer (holds ids))) ids area r after
 
 abbrev pub ClosedManifoldNumbered : List ℕ → List ℕ → ℕ → List ℕ → Type 0
 ClosedManifoldNumbered = VerdictNumbered closedManifold

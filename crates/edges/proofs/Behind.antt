@@ -1,4 +1,5 @@
--- Ids that stand behind their table: what is written in front leaves them, so each turn reads the triangle that the ids have there. Assumes nothing.
+-- Ids that stand behind their table: what is written in front leaves them, so each turn reads the triangle that the ids have there.
+-- Assumes nothing.
 use mathlib.Core.Path.{_≡_, sym, ap, _∙_}
 use mathlib.Core.Bool.{true}
 use mathlib.Core.List.{List, _++_}
@@ -30,7 +31,8 @@ abbrev pub CountedTo : ℕ → ℕ → List ℕ → ℕ → List ℕ → Type 0
 CountedTo at n w₀ i t = Gathering true (drop at w₀) n t (i - at)
 
 -- w₀ is the area at entry and w the area now, i the place of the next triangle
-module _ {at n : ℕ} {w₀ w : List ℕ} {i : ℕ} (b : Behind at w₀) (past : at ≤ i) (m : i + 2 < length w) (f : InFront at w₀ w (CountedTo at n w₀ i)) where
+module _ {at n : ℕ} {w₀ w : List ℕ} {i : ℕ} (b : Behind at w₀) (past : at ≤ i) (m : i + 2 < length w)
+    (f : InFront at w₀ w (CountedTo at n w₀ i)) where
   pub more-behind : i - at + 2 < length (drop at w₀)
   more-behind = omega (arith, ids-long b, f .long)
 
@@ -40,5 +42,6 @@ module _ {at n : ℕ} {w₀ w : List ℕ} {i : ℕ} (b : Behind at w₀) (past :
   unfolding edgesOf
   counted-next ys len adds =
       let on : i + 3 - at ≡ i - at + 3 = omega arith in
-      let here : EdgesAdded n (take at w) ys (edgesOf true (triangleAt (drop at w₀) (i - at))) = rw (triangle-behind w₀ w at i past (f .same)) adds in
+      let here : EdgesAdded n (take at w) ys (edgesOf true (triangleAt (drop at w₀) (i - at))) =
+      rw (triangle-behind w₀ w at i past (f .same)) adds in
       front-then f (front-wrote (behind-still b (f .long)) ys len (rw on (gathering-next (f .front) more-behind here)))

@@ -1,5 +1,5 @@
--- A loop over the triangles that counts their edges: the table means the uses of the triangles before i, no more than i of them, and no edge more than
--- i / 3 times each way. So there is always room for three more. Assumes nothing.
+-- A loop over the triangles that counts their edges: the table means the uses of the triangles before i, no more than i of them, and no
+-- edge more than i / 3 times each way. So there is always room for three more. Assumes nothing.
 use mathlib.Core.Path.{_≡_, refl}
 use mathlib.Core.Bool.{Bool}
 use mathlib.Core.List.{List, [], _++_}

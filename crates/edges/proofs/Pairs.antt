@@ -1,5 +1,5 @@
--- Two uses of an edge have the sum 0 just where one of them is upwards: what `unpaired` and `incoherent` say of a row, as the code tests it without a
--- branch. Assumes nothing.
+-- Two uses of an edge have the sum 0 just where one of them is upwards: what `unpaired` and `incoherent` say of a row, as the code tests
+-- it without a branch. Assumes nothing.
 use mathlib.Core.Path.{_≡_, refl}
 use mathlib.Core.Bool.{Bool, not, _&&_}
 use mir.Val.{boolByte}
@@ -36,10 +36,14 @@ incoherent-byte : (u p : ℕ) → boolByte (ltb 1 u && not (paired u p)) ≡ gat
 unfolding gate incoherent bit
 incoherent-byte zero p = refl
 incoherent-byte (suc zero) p = refl
-incoherent-byte (suc (suc u)) p = rw (paired-sum (suc (suc u)) p, lt-ltb 1 (suc (suc u)) (omega arith), ne-eqb (suc (suc u)) 1 (λ z. omega arith)) (byte-bit (not (paired (suc (suc u)) p)))
+incoherent-byte (suc (suc u)) p =
+    rw (paired-sum (suc (suc u)) p, lt-ltb 1 (suc (suc u)) (omega arith), ne-eqb (suc (suc u)) 1 (λ z. omega arith))
+    (byte-bit (not (paired (suc (suc u)) p)))
 
-pub unpaired-one : (u p : ℕ) → (boolByte (ltb 0 u && not (paired u p)) ≡ gate u (bit (unpaired u (sumSize u p)))) × (boolByte (ltb 0 u && not (paired u p)) ≤ 1)
+pub unpaired-one : (u p : ℕ) → (boolByte (ltb 0 u && not (paired u p)) ≡ gate u (bit (unpaired u (sumSize u p))))
+    × (boolByte (ltb 0 u && not (paired u p)) ≤ 1)
 unpaired-one u p = (unpaired-byte u p, byte-small (ltb 0 u && not (paired u p)))
 
-pub incoherent-one : (u p : ℕ) → (boolByte (ltb 1 u && not (paired u p)) ≡ gate u (bit (incoherent u (sumSize u p)))) × (boolByte (ltb 1 u && not (paired u p)) ≤ 1)
+pub incoherent-one : (u p : ℕ) → (boolByte (ltb 1 u && not (paired u p)) ≡ gate u (bit (incoherent u (sumSize u p))))
+    × (boolByte (ltb 1 u && not (paired u p)) ≤ 1)
 incoherent-one u p = (incoherent-byte u p, byte-small (ltb 1 u && not (paired u p)))

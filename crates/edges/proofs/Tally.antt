@@ -22,7 +22,8 @@ pub zero-table : (n m : ℕ) → 3 * n ≤ m → EdgeTable n (replicate m 0) []
 zero-table n m l = empty-table n (replicate m 0) (λ i b. getD-replicate m (3 * i + 2) 0 0 (omega arith))
 
 -- the rows' count is the edges'
-pub table-tally : (n : ℕ) (t : List ℕ) (es : List (Use Edge)) (test : ℕ → ℕ → Bool) → EdgeTable n t es → sumTo (rowBit test t) n ≡ edgesThat test es
+pub table-tally : (n : ℕ) (t : List ℕ) (es : List (Use Edge)) (test : ℕ → ℕ → Bool) → EdgeTable n t es
+    → sumTo (rowBit test t) n ≡ edgesThat test es
 unfolding rowBit
 table-tally n t es test m = rows-that sameEdge n (edgeAt t) (edgeUses t) (edgeUps t) es (m .rows) test
 

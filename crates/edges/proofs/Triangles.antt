@@ -1,4 +1,5 @@
--- The uses that one triangle makes: at most three, and of no edge two in one direction. So one triangle raises the bound on an edge's uses each way by one. Assumes nothing.
+-- The uses that one triangle makes: at most three, and of no edge two in one direction. So one triangle raises the bound on an edge's
+-- uses each way by one. Assumes nothing.
 use mathlib.Core.Path.{_≡_, refl, sym, ap, _∙_}
 use mathlib.Core.Logic.{_≢_}
 use mathlib.Core.Bool.{Bool, true, false, _&&_, true≢false}
@@ -62,7 +63,8 @@ module _ (u v w : ℕ) where
   ]
     where
       back : u ≡ w
-      back = let a : min u v ≡ min v w = ap (λ (z : Edge). z .low) e in let b : max u v ≡ max v w = ap (λ (z : Edge). z .high) e in omega arith
+      back =
+          let a : min u v ≡ min v w = ap (λ (z : Edge). z .low) e in let b : max u v ≡ max v w = ap (λ (z : Edge). z .high) e in omega arith
 
   -- two steps, one after the other, use no edge twice in one direction
   two-steps : Within 1 (properStep u v ++ properStep v w)
@@ -111,9 +113,12 @@ pub around-all : (t : Triangle) → distinct t ≡ true → around t ≡ step (t
 unfolding around
 around-all t e = rw e
 
-around-proper : (a b c : ℕ) → a ≢ b → b ≢ c → c ≢ a → around (record { a = a; b = b; c = c }) ≡ aroundProper (record { a = a; b = b; c = c })
+around-proper : (a b c : ℕ) → a ≢ b → b ≢ c → c ≢ a
+    → around (record { a = a; b = b; c = c }) ≡ aroundProper (record { a = a; b = b; c = c })
 unfolding aroundProper
-around-proper a b c n o p = around-all (record { a = a; b = b; c = c }) (repeats-none a b c n o p) ∙ sym (rw (step-proper a b n, step-proper b c o, step-proper c a p))
+around-proper a b c n o p =
+    around-all (record { a = a; b = b; c = c }) (repeats-none a b c n o p)
+    ∙ sym (rw (step-proper a b n, step-proper b c o, step-proper c a p))
 
 -- a triangle makes no use, or just those of its steps between distinct ids
 none-or-proper : (P : List (Use Edge) → Type 0) (t : Triangle) → P [] → P (aroundProper t) → P (around t)

@@ -103,8 +103,8 @@ pub fn gather_behind(area: &mut [u32], at: usize, n: usize)
 
 // ---- tests on the edges
 
-// Their numbers, as `testOf` has them: any edge; a sum other than 0; more than two uses; not used twice, once each way; neither that nor used
-// once.
+// Their numbers, as `testOf` has them: any edge; a sum other than 0; more than two uses; not used twice, once each way;
+// neither that nor used once.
 pub const PRESENT: u8 = 0;
 
 pub const UNBALANCED: u8 = 1;

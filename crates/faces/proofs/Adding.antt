@@ -1,4 +1,5 @@
--- One use more, from what the functions that `add` calls ensure: sort and hash, find the row, weigh, write. So it serves wherever the ids stand.
+-- One use more, from what the functions that `add` calls ensure: sort and hash, find the row, weigh, write. So it serves wherever the ids
+-- stand.
 -- Assumes nothing.
 use mathlib.Core.Path.{_≡_}
 use mathlib.Core.Bool.{cond}
@@ -47,5 +48,6 @@ module _ {ids : List ℕ} {n : ℕ} {table : List ℕ} {t : ℕ} {f : Face} {has
 
   pub adding : FacesAdded ids n table (putFace table r t (faceWord table r + by)) (faceUse (triangle ids t) ∷ [])
   adding =
-      let found = found-face n start hash (sorted (triangle ids t)) f (faceAt ids table) (faceUses table) r (w .sorting) (w .hashing) (w .homing) (w .found) in
+      let found = found-face n start hash (sorted (triangle ids t)) f (faceAt ids table) (faceUses table) r (w .sorting)
+      (w .hashing) (w .homing) (w .found) in
       record { adds = λ es m. rw (w .weighed) (added ids n table es r t (a .space .fits) (a .of .here) (omega (arith, small)) m found) }

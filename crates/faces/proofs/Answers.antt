@@ -1,4 +1,5 @@
--- From the table of all faces to document 01's answers: what `net` reads off the rows is the largest magnitude and whether all sums are 0. Assumes nothing.
+-- From the table of all faces to document 01's answers: what `net` reads off the rows is the largest magnitude and whether all sums are
+-- 0. Assumes nothing.
 use mathlib.Core.Path.{_≡_, ap}
 use mathlib.Core.List.{List}
 use Prim.Native.Nat.{ℕ}

@@ -9,11 +9,16 @@ use Rattle.table.proofs.Search.{home-below}
 use Rattle.faces.specs.inner.Rows.{faceHash, faceHome}
 
 -- a face by its three ids
-pub face-of : (f : Face) (low mid high : ℕ) → f .low ≡ low → f .mid ≡ mid → f .high ≡ high → f ≡ record { low = low; mid = mid; high = high }
+pub face-of : (f : Face) (low mid high : ℕ) → f .low ≡ low → f .mid ≡ mid → f .high ≡ high
+    → f ≡ record { low = low; mid = mid; high = high }
 face-of f low mid high p q r = λ i. record { low = p i; mid = q i; high = r i }
 
 -- the three ids sorted as the code does it
-pub sorted-by : (t : Triangle) → sorted t ≡ record { low = min (min (t .a) (t .b)) (t .c); mid = max (min (t .a) (t .b)) (min (max (t .a) (t .b)) (t .c)); high = max (max (t .a) (t .b)) (t .c) }
+pub sorted-by : (t : Triangle) → sorted t ≡ record {
+  low = min (min (t .a) (t .b)) (t .c);
+  mid = max (min (t .a) (t .b)) (min (max (t .a) (t .b)) (t .c));
+  high = max (max (t .a) (t .b)) (t .c);
+}
 unfolding sorted
 sorted-by t = face-of (sorted t) _ _ _ (omega arith) refl (omega arith)
 

@@ -1,4 +1,5 @@
--- What a row adds to the two numbers of `net`, by the magnitude that its word counts: so the code need not ask whether the row is free. Assumes nothing.
+-- What a row adds to the two numbers of `net`, by the magnitude that its word counts: so the code need not ask whether the row is free.
+-- Assumes nothing.
 use mathlib.Core.Path.{_≡_, refl}
 use mathlib.Core.List.{List}
 use Prim.Native.Nat.{ℕ, zero, suc, _≤_}

@@ -1,4 +1,5 @@
--- The table of faces in lent words: what it means when a row is written for one more use, that there is room for it, and that zeros mean no use. Assumes nothing.
+-- The table of faces in lent words: what it means when a row is written for one more use, that there is room for it, and that zeros mean
+-- no use. Assumes nothing.
 use mathlib.Core.Path.{_≡_, ap, _∙_}
 use mathlib.Core.Logic.{_≢_}
 use mathlib.Core.Bool.{Bool}
@@ -28,7 +29,8 @@ module _ (t : List ℕ) (r named word : ℕ) where
 
   module _ (fits : 2 * r + 1 < length t) where
     put-named : namedAt (putFace t r named word) r ≡ named
-    put-named = getD-set-other (set t (2 * r) named) (2 * r + 1) (2 * r) word 0 (omega arith) ∙ getD-set-same t (2 * r) named 0 (omega arith)
+    put-named =
+        getD-set-other (set t (2 * r) named) (2 * r + 1) (2 * r) word 0 (omega arith) ∙ getD-set-same t (2 * r) named 0 (omega arith)
 
     put-word : faceWord (putFace t r named word) r ≡ word
     put-word = getD-set-same (set t (2 * r) named) (2 * r + 1) word 0 (simp length-set (omega arith))
@@ -36,7 +38,8 @@ module _ (t : List ℕ) (r named word : ℕ) where
 module _ (ids : List ℕ) (n : ℕ) (t : List ℕ) where
   -- row r, which a search found, counts one more use and names its triangle
   module _ (es : List (Use Face)) (r named : ℕ) (fits : 2 * n ≤ length t) (here : named < triangleCount ids) (few : faceUses t r < 65535)
-      (m : FaceTable ids n t es) (found : Found n (faceHome n (sorted (triangle ids named))) (faceAt ids t) (faceUses t) (sorted (triangle ids named)) r) where
+      (m : FaceTable ids n t es) (found : Found n (faceHome n (sorted (triangle ids named))) (faceAt ids t) (faceUses t)
+      (sorted (triangle ids named)) r) where
     abbrev up : Bool
     up = faceUse (triangle ids named) .up
 
@@ -49,7 +52,8 @@ module _ (ids : List ℕ) (n : ℕ) (t : List ℕ) where
     room : 2 * r + 1 < length t
     room = omega (arith, found .within)
 
-    bumped : Bumped r (sorted (triangle ids named)) up (faceAt ids t) (faceAt ids after) (faceUses t) (faceUses after) (faceUps t) (faceUps after)
+    bumped : Bumped r (sorted (triangle ids named)) up (faceAt ids t) (faceAt ids after) (faceUses t) (faceUses after) (faceUps t)
+        (faceUps after)
     bumped =
         let wrote : faceWord after r ≡ word = put-word t r named word room in
         record {
@@ -69,7 +73,9 @@ module _ (ids : List ℕ) (n : ℕ) (t : List ℕ) where
     unfolding faceUse
     added = record {
       named = λ i. still-named i (ℕ-discrete i r);
-      means = step sameFace face-eq face-refl n (faceHome n) (faceAt ids t) (faceUses t) (faceUps t) es (faceUse (triangle ids named)) r (home-in n (sorted (triangle ids named)) (omega (arith, found .within)))
+      means =
+          step sameFace face-eq face-refl n (faceHome n) (faceAt ids t) (faceUses t) (faceUps t) es (faceUse (triangle ids named)) r
+          (home-in n (sorted (triangle ids named)) (omega (arith, found .within)))
           (m .means) found (faceAt ids after) (faceUses after) (faceUps after) bumped;
     }
 
@@ -85,10 +91,13 @@ module _ (ids : List ℕ) (n : ℕ) (t : List ℕ) where
       ]
 
 -- rows of zeros are a table with no use
-pub empty-table : (ids : List ℕ) (n : ℕ) (t : List ℕ) → (0 < n → 0 < triangleCount ids) → ((x : ℕ) → x < 2 * n → getD t x 0 ≡ 0) → FaceTable ids n t []
+pub empty-table : (ids : List ℕ) (n : ℕ) (t : List ℕ) → (0 < n → 0 < triangleCount ids) → ((x : ℕ) → x < 2 * n → getD t x 0 ≡ 0)
+    → FaceTable ids n t []
 empty-table ids n t some none = record {
   named = λ i l. rw (none (2 * i) (omega arith)) (some (omega arith));
-  means = empty sameFace n (faceHome n) (faceAt ids t) (faceUses t) (faceUps t) (λ i l. (none-used _ (none (2 * i + 1) (omega arith)), none-up _ (none (2 * i + 1) (omega arith))));
+  means =
+      empty sameFace n (faceHome n) (faceAt ids t) (faceUses t) (faceUps t)
+      (λ i l. (none-used _ (none (2 * i + 1) (omega arith)), none-up _ (none (2 * i + 1) (omega arith))));
 }
 
 pub zero-table : (ids : List ℕ) (n m : ℕ) → 2 * n ≤ m → (0 < n → 0 < triangleCount ids) → FaceTable ids n (replicate m 0) []

@@ -1,5 +1,5 @@
--- A loop over the triangles that counts their faces: the table means the uses of the first t, no more than t of them, so there is always room
--- for one more. Assumes nothing.
+-- A loop over the triangles that counts their faces: the table means the uses of the first t, no more than t of them, so there is always
+-- room for one more. Assumes nothing.
 use mathlib.Core.Path.{_≡_, refl}
 use mathlib.Core.List.{List, [], _++_}
 use Prim.Native.Nat.{ℕ, _+_, _*_, _≤_, _<_}

@@ -42,7 +42,8 @@ module _ {t u : List ℕ} {a x : ℕ} (c : Climb t u a x) (z : Forest t) where
       let small : q < 32768 = omega (arith, up .above) in
       let at : x < length u = omega (arith, c .inside, c .long) in
       let high : q ≡ parentIn u (parentIn u x) = up .above ∙ ap (parentIn u) (up .parent) in
-      let here : parentIn v x ≡ parentIn u (parentIn u x) = ap (λ (l : List ℕ). parentIn l x) (up .hangs) ∙ parent-here u x q at small ∙ high in
+      let here : parentIn v x ≡ parentIn u (parentIn u x) = ap (λ (l : List ℕ). parentIn l x) (up .hangs)
+      ∙ parent-here u x q at small ∙ high in
       let else : (i : ℕ) → i ≢ x → parentIn v i ≡ parentIn u i =
       λ i n. ap (λ (l : List ℕ). parentIn l i) (up .hangs) ∙ parent-else u x q at small i n in (
         omega (arith, up .above),
@@ -57,7 +58,8 @@ module _ {t u : List ℕ} {a x : ℕ} (c : Climb t u a x) (z : Forest t) where
       )
 
   pub climbed-out : {p : ℕ} → p ≡ parentIn u x → p ≡ x → RootOf t u a x
-  climbed-out ep e = record { is = λ f m. sym (c .means f m .own x (c .inside) (sym ep ∙ e)) ∙ c .label f m; means = c .means; slots = c .slots }
+  climbed-out ep e =
+      record { is = λ f m. sym (c .means f m .own x (c .inside) (sym ep ∙ e)) ∙ c .label f m; means = c .means; slots = c .slots }
 
 -- ---- two roots joined
 
@@ -91,7 +93,8 @@ module _ {t u v : List ℕ} {a b r s : ℕ} (R : TwoRoots t u v a b r s) where
       (omega (arith, R .first .is (R .forest .0) m, m .least a (R .one)), omega (arith, is-b (R .forest .0) m, m .least b (R .two)))
 
   -- x and y are a and b in one order or the other, and y's root is hung on x's
-  module _ (x y lo hi : ℕ) (lx : x < length t) (ly : y < length t) (low : (f : ℕ → ℕ) → Labels f → lo ≡ f x) (high : (f : ℕ → ℕ) → Labels f → hi ≡ f y)
+  module _ (x y lo hi : ℕ) (lx : x < length t) (ly : y < length t) (low : (f : ℕ → ℕ) → Labels f → lo ≡ f x)
+      (high : (f : ℕ → ℕ) → Labels f → hi ≡ f y)
       (le : lo ≤ hi) (merge : (f : ℕ → ℕ) → f x ≤ f y → (z : ℕ) → merged f a b z ≡ cond (eqb (f z) (f y)) (f x) (f z)) where
     inside : (lo < length t) × (hi < length t)
     inside =
@@ -107,11 +110,13 @@ module _ {t u v : List ℕ} {a b r s : ℕ} (R : TwoRoots t u v a b r s) where
         let at : hi < length v = omega (arith, inside .1, R .long, R .still) in
         let small : lo < 32768 = omega (arith, inside .0, R .few) in
         let here = ap (λ (q : List ℕ). parentIn q hi) e ∙ parent-here v hi lo at small in
-        let else : (i : ℕ) → i ≢ hi → parentIn w i ≡ parentIn v i = λ i n. ap (λ (q : List ℕ). parentIn q i) e ∙ parent-else v hi lo at small i n in
+        let else : (i : ℕ) → i ≢ hi → parentIn w i ≡ parentIn v i = λ i n. ap (λ (q : List ℕ). parentIn q i) e
+        ∙ parent-else v hi lo at small i n in
         record {
           means = λ f m.
               subst (LabelledBy (length t) (parentIn w))
-              (fun-ext (λ z. ap (λ (q : ℕ). cond (eqb (f z) q) lo (f z)) (high f m) ∙ ap (λ (q : ℕ). cond (eqb (f z) (f y)) q (f z)) (low f m)
+              (fun-ext (λ z. ap (λ (q : ℕ). cond (eqb (f z) q) lo (f z)) (high f m)
+              ∙ ap (λ (q : ℕ). cond (eqb (f z) (f y)) q (f z)) (low f m)
               ∙ sym (merge f (omega (arith, low f m, high f m)) z)))
               (hung (length t) (parentIn v) (parentIn w) f (through f m) lo hi (inside .0) (inside .1)
               (own f m lo x lx (low f m)) (own f m hi y ly (high f m)) le here else);

@@ -1,4 +1,5 @@
--- A pass over the corners: filling the slots, looking the corners behind up, and what a pass leaves settled; then all passes. Assumes nothing.
+-- A pass over the corners: filling the slots, looking the corners behind up, and what a pass leaves settled; then all passes. Assumes
+-- nothing.
 use mathlib.Core.Path.{_≡_, refl, sym, ap, _∙_, subst}
 use mathlib.Core.Bool.{Bool, true, false, true≢false}
 use mathlib.Core.List.{List}
@@ -9,7 +10,8 @@ use lib.ListN.{length}
 use Rattle.forest.specs.inner.Words.{slotIn, Freed}
 use Rattle.ids.specs.Pieces.{solid}
 use Rattle.pieces.specs.inner.Joins.{Linked, Good, More, Grown, Whole}
-use Rattle.pieces.specs.inner.Slots.{cornerKey, AllFree, Slots, Has, Covered, Followed, FollowedTo, AllFollowed, Entered, Filled, Settled, Swept}
+use Rattle.pieces.specs.inner.Slots.{cornerKey, AllFree, Slots, Has, Covered, Followed, FollowedTo, AllFollowed, Entered, Filled}
+use Rattle.pieces.specs.inner.Slots.{Settled, Swept}
 use Rattle.pieces.proofs.Shared.{key-share}
 use Rattle.pieces.proofs.Joins.{more-none, more-then, grown-map, good-kept}
 use Rattle.pieces.proofs.Rows.{slots-free}
@@ -17,12 +19,19 @@ use Rattle.pieces.proofs.Rows.{slots-free}
 -- ---- filling
 
 -- what is covered stays so where used slots stay and labels get coarser
-module _ (ids : List ℕ) {n : ℕ} {s s′ f g : ℕ → ℕ} (rows : (r : ℕ) → r < n → 0 < s r → s′ r ≡ s r) (keeps : (x y : ℕ) → f x ≡ f y → g x ≡ g y) where
+module _ (ids : List ℕ) {n : ℕ} {s s′ f g : ℕ → ℕ} (rows : (r : ℕ) → r < n → 0 < s r → s′ r ≡ s r)
+    (keeps : (x y : ℕ) → f x ≡ f y → g x ≡ g y) where
   has-kept : (i : ℕ) → Has ids n s f i → Has ids n s′ g i
   has-kept i h =
       let r = h .0 in
-      let e : s′ r ≡ s r = rows r (h .1) (h .2) in
-      (r, h .1, rw e (h .2), ap (λ (x : ℕ). cornerKey ids (x - 1)) e ∙ h .3, ap (λ (x : ℕ). g ((x - 1) / 3)) e ∙ keeps ((s r - 1) / 3) (i / 3) (h .4))
+      let e : s′ r ≡ s r = rows r (h .1) (h .2) in (
+        r,
+        h .1,
+        rw e (h .2),
+        ap (λ (x : ℕ). cornerKey ids (x - 1)) e ∙ h .3,
+        ap (λ (x : ℕ). g ((x - 1) / 3)) e
+            ∙ keeps ((s r - 1) / 3) (i / 3) (h .4),
+      )
 
   covered-kept : (a b : ℕ) → Covered ids n s f a b → Covered ids n s′ g a b
   covered-kept a b c i la lb si = has-kept i (c i la lb si)
@@ -53,7 +62,8 @@ module _ {ids : List ℕ} {odd limit n from spare : ℕ} {t : List ℕ} where
         fresh = λ e. (free, some);
       }
 
-  module _ {c : ℕ} {u v : List ℕ} (z : Filling ids odd limit n from c spare t u) {entered : Bool} (w : Entered ids odd limit n spare c u v entered) where
+  module _ {c : ℕ} {u v : List ℕ} (z : Filling ids odd limit n from c spare t u) {entered : Bool}
+      (w : Entered ids odd limit n spare c u v entered) where
     -- corner c is entered
     pub filling-next : (left : ℕ) → c < 3 * n → entered ≡ true → Filling ids odd limit n from (c + 1) left t v
     filling-next left l yes-entered =
@@ -85,11 +95,13 @@ module _ {ids : List ℕ} {odd limit n from spare : ℕ} {t : List ℕ} where
 -- ---- a pass
 
 -- entering corner c with no slot to fill only looks it up
-pub looked-up : {ids : List ℕ} {odd limit n c : ℕ} {t u : List ℕ} {entered : Bool} → Entered ids odd limit n 0 c t u entered → Grown ids t u (Followed ids n (slotIn t) c)
+pub looked-up : {ids : List ℕ} {odd limit n c : ℕ} {t u : List ℕ} {entered : Bool} → Entered ids odd limit n 0 c t u entered
+    → Grown ids t u (Followed ids n (slotIn t) c)
 looked-up w = grown-map (record { slots = w .same refl; more = w .more }) (λ g p. p .1)
 
 -- one corner more is looked up
-pub followed-next : (ids : List ℕ) (n : ℕ) (s : ℕ → ℕ) (a b : ℕ) (g h : ℕ → ℕ) → FollowedTo ids n s a b g → ((x y : ℕ) → g x ≡ g y → h x ≡ h y) → Followed ids n s b h → FollowedTo ids n s a (b + 1) h
+pub followed-next : (ids : List ℕ) (n : ℕ) (s : ℕ → ℕ) (a b : ℕ) (g h : ℕ → ℕ) → FollowedTo ids n s a b g
+    → ((x y : ℕ) → g x ≡ g y → h x ≡ h y) → Followed ids n s b h → FollowedTo ids n s a (b + 1) h
 followed-next ids n s a b g h p keeps last i la lb = go (ℕ-discrete i b)
   where
     go : Dec (i ≡ b) → Followed ids n s i h
@@ -97,7 +109,8 @@ followed-next ids n s a b g h p keeps last i la lb = go (ℕ-discrete i b)
     go (no ne) = λ si r lr used k. keeps ((s r - 1) / 3) (i / 3) (p i la (omega arith) si r lr used k)
 
 -- corners entered before `next`, and all behind looked up
-settled : {ids : List ℕ} {odd limit n from next : ℕ} {s g h : ℕ → ℕ} → Slots ids odd limit n s → Covered ids n s g from next → ((x y : ℕ) → g x ≡ g y → h x ≡ h y) → FollowedTo ids n s next (3 * n) h → Settled ids n from next h
+settled : {ids : List ℕ} {odd limit n from next : ℕ} {s g h : ℕ → ℕ} → Slots ids odd limit n s → Covered ids n s g from next
+    → ((x y : ℕ) → g x ≡ g y → h x ≡ h y) → FollowedTo ids n s next (3 * n) h → Settled ids n from next h
 settled {ids} {odd} {limit} {n} {from} {next} {s} {g} {h} z cov keeps fol i j la lb le lj si sj e = go (decLt j next)
   where
     a : Has ids n s g i
@@ -111,7 +124,8 @@ settled {ids} {odd} {limit} {n} {from} {next} {s} {g} {h} z cov keeps fol i j la
     go (no l) = sym (keeps ((s (a .0) - 1) / 3) (i / 3) (a .4)) ∙ fol j (omega arith) lj sj (a .0) (a .1) (a .2) (a .3 ∙ e)
 
 -- the slots freed, filled, and the corners behind looked up
-pub swept : {ids : List ℕ} {odd limit n from next : ℕ} {t u v w : List ℕ} → length u ≡ length t → Freed n t u → Filled ids odd limit n from next u v
+pub swept : {ids : List ℕ} {odd limit n from next : ℕ} {t u v w : List ℕ} → length u ≡ length t → Freed n t u
+    → Filled ids odd limit n from next u v
     → length v ≡ n → Grown ids v w (AllFollowed ids v next) → from < 3 * n → Swept ids n from next t w
 swept {ids = ids} {next = next} {v = v} {w = w} lu freed fill lv all l =
     let rest = subst (λ (k : ℕ). Grown ids v w (FollowedTo ids k (slotIn v) next (3 * k))) lv all in
@@ -140,7 +154,12 @@ joining-next {ids} {t} {u} {n} {c} {d} z w = record { label = p .label; good = p
     p = w .more (z .label) (z .good)
 
     done : Settled ids n 0 d (p .label)
-    done i j la lb le lj si sj e = elim (decLt i c) [ yes l ↦ p .keeps (i / 3) (j / 3) (z .done i j la l le lj si sj e) | no l ↦ p .holds i j (omega arith) lb le lj si sj e ]
+    done i j la lb le lj si sj e =
+        elim (decLt i c) [
+          | yes l ↦ p .keeps (i / 3) (j / 3) (z .done i j la l le lj si sj e)
+          | no l
+              ↦ p .holds i j (omega arith) lb le lj si sj e
+        ]
 
 pub joined-all : {ids t : List ℕ} {n c : ℕ} → length t ≡ n → Joining ids t n c → 3 * n ≤ c → Whole ids t
 joined-all {ids} {t} {n} {c} long z l = record { label = z .label; good = z .good; follows = follows }

@@ -1,5 +1,5 @@
--- The row that a search of the slots gave for a corner: it is the only one with the corner's key, so joining with it, or filling it, is all that there is
--- to do. Assumes nothing.
+-- The row that a search of the slots gave for a corner: it is the only one with the corner's key, so joining with it, or filling it, is
+-- all that there is to do. Assumes nothing.
 use mathlib.Core.Path.{_≡_, refl, sym, ap, _∙_, subst, fun-ext}
 use mathlib.Core.Logic.{_≢_}
 use mathlib.Core.Bool.{Bool, true}
@@ -30,7 +30,12 @@ pub slots-free : {ids : List ℕ} {odd limit n : ℕ} {s : ℕ → ℕ} → AllF
 slots-free free =
     record {
       corners = λ r l. omega (arith, free r l);
-      spread = record { one = λ i j li ui lj uj e. absurd (omega (arith, free i li)); reach = λ i j li ui lj d. absurd (omega (arith, free i li)) };
+      spread =
+          record {
+            one = λ i j li ui lj uj e. absurd (omega (arith, free i li));
+            reach =
+                λ i j li ui lj d. absurd (omega (arith, free i li));
+          };
       near = λ r l u. absurd (omega (arith, free r l));
       solids = λ r l u. absurd (omega (arith, free r l));
     }
@@ -43,7 +48,9 @@ module _ {ids : List ℕ} {odd limit n : ℕ} {s : ℕ → ℕ} (z : Slots ids o
     where
       go : Dec (r < n) → Dec (x ≡ r) → x ≡ r
       go d (yes p) = p
-      go (yes l) (no ne) = absurd (other n (cornerHome odd n) (slotKey ids s) s (cornerKey ids c) r (home-in odd n (cornerKey ids c) (omega arith)) (z .spread) (q .found l) x lx used ne e)
+      go (yes l) (no ne) =
+          absurd (other n (cornerHome odd n) (slotKey ids s) s (cornerKey ids c) r (home-in odd n (cornerKey ids c) (omega arith))
+          (z .spread) (q .found l) x lx used ne e)
       go (no l) (no ne) =
           let w : r ≡ n = omega (arith, q .within) in
           absurd (q .none w x lx (subst (λ (k : ℕ). dist n (cornerHome odd n k) x < limit) e (z .near x lx used)) .1 e)
@@ -51,7 +58,12 @@ module _ {ids : List ℕ} {odd limit n : ℕ} {s : ℕ → ℕ} (z : Slots ids o
   -- its corner and c are of linked triangles
   pub row-linked : r < n → 0 < s r → c < 3 * n → solid ids (c / 3) ≡ true → Linked ids n ((s r - 1) / 3) (c / 3)
   row-linked lr used lc sc =
-      record { within = (omega (arith, z .corners r lr), omega arith); solids = (z .solids r lr used, sc); share = share-key ids (s r - 1) c (q .found lr .holds used) }
+      record {
+        within = (omega (arith, z .corners r lr), omega arith);
+        solids = (z .solids r lr used, sc);
+        share =
+            share-key ids (s r - 1) c (q .found lr .holds used);
+      }
 
   -- where no row was found, or a free one, no row has the key
   pub followed-past : r ≡ n → (f : ℕ → ℕ) → Followed ids n s c f
@@ -68,10 +80,18 @@ pub entered-same : {ids : List ℕ} {odd limit spare c : ℕ} {t : List ℕ} {en
     → (entered ≡ true → solid ids (c / 3) ≡ true → ⊥) → ((f : ℕ → ℕ) → Followed ids (length t) (slotIn t) c f)
     → (AllFree (length t) (slotIn t) → 0 < spare → entered ≡ true) → Entered ids odd limit (length t) spare c t t entered
 entered-same z no-corner fol fresh =
-    record { slots = z; rows = λ r l u. refl; same = λ e i. refl; more = λ f g. more-none g (λ e sc. absurd (no-corner e sc), fol f); fresh = fresh }
+    record {
+      slots = z;
+      rows = λ r l u. refl;
+      same = λ e i. refl;
+      more =
+          λ f g. more-none g (λ e sc. absurd (no-corner e sc), fol f);
+      fresh = fresh;
+    }
 
 -- in free slots a search finds a row
-pub never-past : {n limit at : ℕ} {key mark : ℕ → ℕ} {k r : ℕ} → 0 < limit → at < n → Sought n limit at key mark k r → AllFree n mark → r ≡ n → ⊥
+pub never-past : {n limit at : ℕ} {key mark : ℕ → ℕ} {k r : ℕ} → 0 < limit → at < n → Sought n limit at key mark k r
+    → AllFree n mark → r ≡ n → ⊥
 never-past {n = n} {at = at} l home q free e = omega (arith, free at home, q .none e at home (rw (dist-here n at home) l) .0)
 
 -- corner c, of a distinct-id triangle, and the row r that a search gave for it, which holds s
@@ -102,7 +122,8 @@ module _ {ids t : List ℕ} {odd limit c r s : ℕ} (w : AtRow ids t odd limit c
           rows = λ x l h. j .slots x;
           same = λ e. j .slots;
           more = more-joined long link j (λ f. (
-            λ e s′. along (λ (o : ℕ → ℕ). Has ids (length t) o (merged f ((s - 1) / 3) (c / 3)) c) t u (j .slots) (r, w .inside, in-use, w .sought .found (w .inside) .holds in-use, one-label f),
+            λ e s′. along (λ (o : ℕ → ℕ). Has ids (length t) o (merged f ((s - 1) / 3) (c / 3)) c) t u (j .slots)
+                (r, w .inside, in-use, w .sought .found (w .inside) .holds in-use, one-label f),
             followed-here (w .slots) c (w .sought) (merged f ((s - 1) / 3) (c / 3)) (one-label f),
           ));
           fresh = λ free l. refl;
@@ -131,17 +152,30 @@ module _ {ids t : List ℕ} {odd limit c r s : ℕ} (w : AtRow ids t odd limit c
     by i P a b = elim (ℕ-discrete i r) [ yes e ↦ subst P (sym e) a | no ne ↦ b ne ]
 
     written : Written (length t) r (cornerKey ids c) (slotKey ids (slotIn t)) (slotKey ids (slotIn v)) (slotIn t) (slotIn v)
-    written = record { key-at = key-here; mark-at = omega (arith, here); key-off = λ i l ne u. ap (λ (x : ℕ). cornerKey ids (x - 1)) (else i ne); mark-off = λ i l ne. else i ne }
+    written =
+        record {
+          key-at = key-here;
+          mark-at = omega (arith, here);
+          key-off =
+              λ i l ne u. ap (λ (x : ℕ). cornerKey ids (x - 1)) (else i ne);
+          mark-off = λ i l ne. else i ne;
+        }
 
     slots-held : Slots ids odd limit (length t) (slotIn v)
     slots-held =
         record {
-          corners = λ i l. by i (λ x. slotIn v x ≤ 3 * length t) (omega (arith, here)) (λ ne. omega (arith, else i ne, w .slots .corners i l));
-          spread = spread-step (length t) (cornerHome odd (length t)) (slotKey ids (slotIn t)) (slotIn t) (cornerKey ids c) r (home-in odd (length t) (cornerKey ids c) (omega arith)) (w .slots .spread) (w .sought .found (w .inside)) (slotKey ids (slotIn v)) (slotIn v) written;
+          corners =
+              λ i l. by i (λ x. slotIn v x ≤ 3 * length t) (omega (arith, here)) (λ ne. omega (arith, else i ne, w .slots .corners i l));
+          spread =
+              spread-step (length t) (cornerHome odd (length t)) (slotKey ids (slotIn t)) (slotIn t) (cornerKey ids c) r
+              (home-in odd (length t) (cornerKey ids c) (omega arith)) (w .slots .spread) (w .sought .found (w .inside))
+              (slotKey ids (slotIn v)) (slotIn v) written;
           near = λ i l. by i (λ x. 0 < slotIn v x → dist (length t) (cornerHome odd (length t) (slotKey ids (slotIn v) x)) x < limit)
               (λ h. subst (λ (k : ℕ). dist (length t) (cornerHome odd (length t) k) r < limit) (sym key-here) (w .sought .near (w .inside)))
-              (λ ne. subst (λ (x : ℕ). 0 < x → dist (length t) (cornerHome odd (length t) (cornerKey ids (x - 1))) i < limit) (sym (else i ne)) (w .slots .near i l));
-          solids = λ i l. by i (λ x. 0 < slotIn v x → solid ids ((slotIn v x - 1) / 3) ≡ true) (λ h. ap (solid ids) corner-here ∙ (w .of-solid))
+              (λ ne. subst (λ (x : ℕ). 0 < x → dist (length t) (cornerHome odd (length t) (cornerKey ids (x - 1))) i < limit)
+              (sym (else i ne)) (w .slots .near i l));
+          solids =
+              λ i l. by i (λ x. 0 < slotIn v x → solid ids ((slotIn v x - 1) / 3) ≡ true) (λ h. ap (solid ids) corner-here ∙ (w .of-solid))
               (λ ne. subst (λ (x : ℕ). 0 < x → solid ids ((x - 1) / 3) ≡ true) (sym (else i ne)) (w .slots .solids i l));
         }
 
@@ -156,7 +190,10 @@ module _ {ids t : List ℕ} {odd limit c r s : ℕ} (w : AtRow ids t odd limit c
             label = f;
             good = good-kept (length-set t r _) (parents-stay t r (c + 1) (w .inside)) g;
             keeps = λ x y e. e;
-            holds = (λ e s′. (r, w .inside, omega (arith, here), key-here, ap f corner-here), followed-free (w .slots) c (w .sought) (sym (w .holds) ∙ free) f);
+            holds = (
+              λ e s′. (r, w .inside, omega (arith, here), key-here, ap f corner-here),
+              followed-free (w .slots) c (w .sought) (sym (w .holds) ∙ free) f,
+            );
           };
           fresh = λ free l. refl;
         })

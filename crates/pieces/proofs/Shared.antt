@@ -1,4 +1,5 @@
--- Two triangles share an id where a corner of the one has the key of a corner of the other. What changes with what joins triangles is here. Assumes nothing.
+-- Two triangles share an id where a corner of the one has the key of a corner of the other. What changes with what joins triangles is
+-- here. Assumes nothing.
 use mathlib.Core.Path.{_≡_, refl, sym, ap, _∙_}
 use mathlib.Core.Bool.{true}
 use mathlib.Core.List.{List}
@@ -25,7 +26,8 @@ corner-at ids i =
 
 -- corners with one key are of triangles that share an id
 pub share-key : (ids : List ℕ) (i j : ℕ) → cornerKey ids i ≡ cornerKey ids j → joins (triangle ids (i / 3)) (triangle ids (j / 3)) ≡ true
-share-key ids i j e = share-corner (triangle ids (i / 3)) (triangle ids (j / 3)) (i % 3) (j % 3) (sym (corner-at ids i) ∙ e ∙ corner-at ids j)
+share-key ids i j e =
+    share-corner (triangle ids (i / 3)) (triangle ids (j / 3)) (i % 3) (j % 3) (sym (corner-at ids i) ∙ e ∙ corner-at ids j)
 
 -- and triangles that share an id have such corners
 pub key-share : (ids : List ℕ) (x y : ℕ) → joins (triangle ids x) (triangle ids y) ≡ true

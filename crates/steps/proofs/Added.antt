@@ -15,7 +15,8 @@ use Rattle.table.specs.inner.Counts.{usesIn, upsIn}
 use Rattle.table.proofs.Search.{home-below}
 use Rattle.table.proofs.Probe as probe
 use Rattle.table.proofs.Probe.{Bumped}
-use Rattle.steps.specs.inner.Rows.{EdgeTable, EdgeRows, EdgesFit, EdgesAdded, edgeHome, edgeHash, edgeAt, edgeWord, edgeUses, edgeUps, putEdge}
+use Rattle.steps.specs.inner.Rows.{EdgeTable, EdgeRows, EdgesFit, EdgesAdded, edgeHome, edgeHash, edgeAt, edgeWord, edgeUses, edgeUps}
+use Rattle.steps.specs.inner.Rows.{putEdge}
 use Rattle.ids.proofs.Same.{edge-eq, edge-refl}
 use Rattle.table.proofs.Counts.{weigh, Roomy, more-fits, more-uses, more-ups}
 use Rattle.steps.proofs.Within.{room-word}

@@ -1,5 +1,5 @@
--- How often an edge is used each way, at most: the bound of lists put together. With it a table that has room still has room after a step. Assumes
--- nothing.
+-- How often an edge is used each way, at most: the bound of lists put together. With it a table that has room still has room after a
+-- step. Assumes nothing.
 use mathlib.Core.Path.{_≡_}
 use mathlib.Core.List.{List, [], _∷_, _++_, append-assoc}
 use Prim.Native.Nat.{ℕ, _+_, _-_, _≤_, _<_}

@@ -1,4 +1,5 @@
-// Steps from id to id in a table of edges, in lent words: each is found there, or a free row for it, and counted. Internal: `edges` asks it.
+// Steps from id to id in a table of edges, in lent words: each is found there, or a free row for it, and counted. Internal: `edges` asks
+// it.
 ghost use mathlib.Core.Path.{_≡_};
 ghost use mathlib.Core.Bool.{cond};
 ghost use mathlib.Core.List.{[], _∷_};

@@ -1,4 +1,5 @@
--- The word in which a row counts uses: it is 0 just where there are none, and one use more, upwards or downwards, adds its weight. Assumes nothing.
+-- The word in which a row counts uses: it is 0 just where there are none, and one use more, upwards or downwards, adds its weight.
+-- Assumes nothing.
 use mathlib.Core.Path.{_≡_}
 use mathlib.Core.Bool.{Bool, true, false, cond}
 use Prim.Native.Nat.{ℕ, _+_, _≤_, _<_}

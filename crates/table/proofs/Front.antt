@@ -1,4 +1,5 @@
--- An area with a table in front of ids: whatever is written in front, the ids stay, so a table in front of its ids is a table. Assumes nothing.
+-- An area with a table in front of ids: whatever is written in front, the ids stay, so a table in front of its ids is a table. Assumes
+-- nothing.
 use mathlib.Core.Path.{_≡_, refl, _∙_}
 use mathlib.Core.List.{List, _++_}
 use Prim.Native.Nat.{ℕ, _-_, _≤_, _<_}
@@ -43,7 +44,8 @@ front-then a b = record { long = b .long ∙ a .long; same = b .same ∙ a .same
 -- ---- Q and R are said of ids and of the table in front of them
 
 -- what is asked of both holds after a write in front
-pub asked-front : (Q : List ℕ → List ℕ → Type 0) {at : ℕ} {w u : List ℕ} → Behind at w → InFront at w u (Q (drop at w)) → Behind at u × Q (drop at u) (take at u)
+pub asked-front : (Q : List ℕ → List ℕ → Type 0) {at : ℕ} {w u : List ℕ} → Behind at w → InFront at w u (Q (drop at w))
+    → Behind at u × Q (drop at u) (take at u)
 asked-front Q b f = (behind-still b (f .long), rw (f .same) (f .front))
 
 -- and what a second write makes of both holds of the ids that were there at first

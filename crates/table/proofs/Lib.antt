@@ -1,4 +1,5 @@
--- Laws of tables whatever they hold, of those that count uses, and of areas: cleared in front, with ids behind, or lent to just the words needed.
+-- Laws of tables whatever they hold, of those that count uses, and of areas: cleared in front, with ids behind, or lent to just the words
+-- needed.
 pub mod Search
 pub mod Turn
 pub mod Sums

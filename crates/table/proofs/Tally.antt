@@ -24,12 +24,14 @@ module _ {K : Type 0} (same : K → K → Bool) (n : ℕ) (key : ℕ → K) (cnt
   pub rows-that : (test : ℕ → ℕ → Bool) → sumTo (λ i. gate (cnt i) (bit (test (cnt i) (sumSize (cnt i) (up i))))) n ≡ keysThat same test es
   unfolding keysThat
   rows-that test =
-      sumTo-same (λ i. gate (cnt i) (bit (test (uses same (key i) es) (natAbs (signedSum same (key i) es))))) (λ i. gate (cnt i) (bit (test (cnt i) (sumSize (cnt i) (up i))))) n
+      sumTo-same (λ i. gate (cnt i) (bit (test (uses same (key i) es) (natAbs (signedSum same (key i) es)))))
+      (λ i. gate (cnt i) (bit (test (cnt i) (sumSize (cnt i) (up i))))) n
       (λ i l. row (λ a b. bit (test a b)) i l (cnt i) refl)
       ∙ m .sums (λ k. bit (test (uses same k es) (natAbs (signedSum same k es))))
 
   pub rows-largest : maxTo (λ i. gate (cnt i) (sumSize (cnt i) (up i))) n ≡ largest same es
   unfolding largest
   rows-largest =
-      maxTo-same (λ i. gate (cnt i) (natAbs (signedSum same (key i) es))) (λ i. gate (cnt i) (sumSize (cnt i) (up i))) n (λ i l. row (λ a b. b) i l (cnt i) refl)
+      maxTo-same (λ i. gate (cnt i) (natAbs (signedSum same (key i) es))) (λ i. gate (cnt i) (sumSize (cnt i) (up i))) n
+      (λ i l. row (λ a b. b) i l (cnt i) refl)
       ∙ maxes same n key cnt up es m (λ k. natAbs (signedSum same k es))

@@ -1,5 +1,5 @@
--- One turn of a search, whatever the rows hold: row r is free or holds the key, and the search ends there; or it is another key's, and the search goes on
--- at the next row, with fewer rows to come. Assumes nothing.
+-- One turn of a search, whatever the rows hold: row r is free or holds the key, and the search ends there; or it is another key's, and
+-- the search goes on at the next row, with fewer rows to come. Assumes nothing.
 use mathlib.Core.Path.{_≡_}
 use mathlib.Core.Logic.{_≢_}
 use Prim.Native.Nat.{ℕ, _+_, _-_, _≤_, _<_}

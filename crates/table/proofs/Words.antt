@@ -1,4 +1,5 @@
--- A routine on ids that refuses, or answers over just the words that it needs and leaves them zero: what it gives is its contract's. Assumes nothing.
+-- A routine on ids that refuses, or answers over just the words that it needs and leaves them zero: what it gives is its contract's.
+-- Assumes nothing.
 use mathlib.Core.Path.{_≡_, ap, _∙_}
 use mathlib.Core.List.{List, _++_}
 use Prim.Native.Nat.{ℕ, _≤_}
@@ -24,5 +25,6 @@ module _ (needed : ℕ) (ids area : List ℕ) {k : ℕ} (told : k ≡ refusal (l
       record { answers = ap wrap (said .answers) ∙ g .answers; leaves = rw (said .zeros) (g .leaves) }
 
 -- the words that were lent are cleared at the end, whatever stood there
-pub leaves : {A : Type 0} {needed : ℕ} {answer r : A} (t : List ℕ) {u : List ℕ} → r ≡ answer → length t ≡ needed → u ≡ cleared needed t → Leaves needed answer r u
+pub leaves : {A : Type 0} {needed : ℕ} {answer r : A} (t : List ℕ) {u : List ℕ} → r ≡ answer → length t ≡ needed
+    → u ≡ cleared needed t → Leaves needed answer r u
 leaves {needed = needed} t e long is = record { answers = e; zeros = is ∙ cleared-all needed t long }

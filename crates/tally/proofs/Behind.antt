@@ -27,7 +27,8 @@ module _ {at : ℕ} {w : List ℕ} (b : Behind at w) (u : List ℕ) (same : leng
         empty = edge-tables.empty-table n (take at u) (λ j l. zero (3 * j + 2) (omega arith));
       })
 
-  pub empty-faces : (m : ℕ) → m ≡ (length w - at) / 3 → 4 * m ≤ at → u ≡ cleared (2 * (2 * m)) w → InFront at w u (FacesToCome (drop at w) (2 * m))
+  pub empty-faces : (m : ℕ) → m ≡ (length w - at) / 3 → 4 * m ≤ at → u ≡ cleared (2 * (2 * m)) w
+      → InFront at w u (FacesToCome (drop at w) (2 * m))
   empty-faces m count fits is =
       let long : length (take at u) ≡ at = front-long (behind-still b same) in
       let triangles : triangleCount (drop at w) ≡ m = omega (arith, ids-long b) in

@@ -18,7 +18,8 @@ unfolding testOf closedManifold
 returns c =
     λ ids m.
     let st = c .before .before in
-    let e : c .count .result ≡ edgesThat unpaired (properEdges ids) = c .count .ensures .0 ∙ table-tally (st .args .n) (st .args .part .now) (properEdges ids) unpaired m in
+    let e : c .count .result ≡ edgesThat unpaired (properEdges ids) = c .count .ensures .0
+    ∙ table-tally (st .args .n) (st .args .part .now) (properEdges ids) unpaired m in
     elim (ℕ-discrete (edgesThat unpaired (properEdges ids)) 0) [
       | yes none ↦ simp (e, none)
       | no some ↦ let more : 0 < edgesThat unpaired (properEdges ids) = omega arith in simp (e, tests)

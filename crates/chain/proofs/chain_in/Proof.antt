@@ -1,4 +1,5 @@
--- `chain::chain_in` meets its contract: the cleared part is an empty table, and what the table of all uses says is the answer. Assumes nothing.
+-- `chain::chain_in` meets its contract: the cleared part is an empty table, and what the table of all uses says is the answer. Assumes
+-- nothing.
 use native.Mathlib.Omega.{arith}
 use borrow.Author.Needs.{needs}
 use Rattle.table.proofs.Words.{leaves}
@@ -23,7 +24,8 @@ returns c =
     let g = told .before .before .before .before in
     let k = cleared (g .before) in
     let said = told .tally-edges .ensures (start k .args .ids .now) (g .gather-chain .ensures) in
-    leaves _ (rw (said .0, said .1)) (omega (arith, start k .pre .long, g .gather-chain .kept, k .clear .kept)) (c .before .before .clear2 .ensures)
+    leaves _ (rw (said .0, said .1)) (omega (arith, start k .pre .long, g .gather-chain .kept, k .clear .kept))
+    (c .before .before .clear2 .ensures)
 
 pub chain-in-spec : {M : Type 1} → statement M
 chain-in-spec =

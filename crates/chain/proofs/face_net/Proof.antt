@@ -22,7 +22,8 @@ module _ (c : tie.Else1) where
   fit : 4 * triangleCount (st .args .ids .now) ≤ length (st .args .work .now)
   fit = fits _ (st .args .ids .now) (st .args .work .now) (c .before .refusal .ensures) (c .if1 .left)
 
-  lent : Lends (4 * triangleCount (st .args .ids .now)) (st .args .ids .now) (take (4 * triangleCount (st .args .ids .now)) (st .args .work .now))
+  lent : Lends (4 * triangleCount (st .args .ids .now)) (st .args .ids .now)
+      (take (4 * triangleCount (st .args .ids .now)) (st .args .work .now))
   lent = lends _ _ _ (c .before .refusal .ensures) (c .if1 .left)
 
 slice-aggregate-net-in : tie.Need-slice-aggregate-net-in

@@ -1,4 +1,5 @@
--- `chain::most_cohere` meets its contract, by what it means: whether there are edges, and whether fifty times the incoherent are more. Assumes nothing.
+-- `chain::most_cohere` meets its contract, by what it means: whether there are edges, and whether fifty times the incoherent are more.
+-- Assumes nothing.
 use mathlib.Core.Path.{_≡_, _∙_}
 use Prim.Native.Nat.{_*_, _≤_, _<_}
 use native.Mathlib.Decide.{decLt, decLe}

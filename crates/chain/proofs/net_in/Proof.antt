@@ -1,4 +1,5 @@
--- `chain::net_in` meets its contract: the cleared part is an empty table, and what the table of all uses says is the answer. Assumes nothing.
+-- `chain::net_in` meets its contract: the cleared part is an empty table, and what the table of all uses says is the answer. Assumes
+-- nothing.
 use native.Mathlib.Omega.{arith}
 use borrow.Author.Needs.{needs}
 use Rattle.table.proofs.Words.{leaves}
@@ -21,7 +22,8 @@ returns c =
     let g = told .before .before .before .before in
     let k = cleared (g .before) in
     let said = told .tally-faces .ensures (start k .args .ids .now) (g .gather .ensures) in
-    leaves _ (rw (said .0, said .1)) (omega (arith, start k .pre .long, g .gather .kept, k .clear .kept)) (c .before .before .clear2 .ensures)
+    leaves _ (rw (said .0, said .1)) (omega (arith, start k .pre .long, g .gather .kept, k .clear .kept))
+    (c .before .before .clear2 .ensures)
 
 pub net-in-spec : {M : Type 1} → statement M
 net-in-spec =

@@ -1,4 +1,5 @@
--- `chain::question_in` meets its contract: the cleared part is an empty table, and what the table of all uses says is the answer. Assumes nothing.
+-- `chain::question_in` meets its contract: the cleared part is an empty table, and what the table of all uses says is the answer. Assumes
+-- nothing.
 use mathlib.Core.Path.{ap, _∙_}
 use mathlib.Core.Bool.{Bool, _&&_}
 use native.Mathlib.Omega.{arith}

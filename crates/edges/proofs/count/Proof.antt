@@ -24,8 +24,11 @@ unfolding rowBit
 loop-again c =
     let s = c .before .before .before .before .before in
     let l = c .before .before .before .loop in
-    let e : c .passes .result ≡ rowBit (testOf (s .args .test)) (s .args .work .now) (l .i) = c .passes .ensures .0 in
-    (omega arith, omega (arith, sumTo-next (rowBit (testOf (s .args .test)) (s .args .work .now)) (l .i)), omega (arith, c .passes .ensures .1))
+    let e : c .passes .result ≡ rowBit (testOf (s .args .test)) (s .args .work .now) (l .i) = c .passes .ensures .0 in (
+      omega arith,
+      omega (arith, sumTo-next (rowBit (testOf (s .args .test)) (s .args .work .now)) (l .i)),
+      omega (arith, c .passes .ensures .1),
+    )
 
 returns : tie.Need-returns Inv-loop μ-loop
 returns c =

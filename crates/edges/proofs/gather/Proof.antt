@@ -1,4 +1,5 @@
--- `edges::gather` meets its contract: turn by turn the table means the uses of the triangles before i, by the laws of `Gathering`. Assumes nothing.
+-- `edges::gather` meets its contract: turn by turn the table means the uses of the triangles before i, by the laws of `Gathering`.
+-- Assumes nothing.
 use mathlib.Core.Path.{_≡_, refl, _∙_}
 use Prim.Native.Nat.{_-_, _≤_}
 use native.Mathlib.Omega.{arith}

@@ -1,4 +1,5 @@
--- `edges::gather_behind` meets its contract: each turn writes in front of the ids, so what `gather` keeps of its table is kept in front. Assumes nothing.
+-- `edges::gather_behind` meets its contract: each turn writes in front of the ids, so what `gather` keeps of its table is kept in front.
+-- Assumes nothing.
 use mathlib.Core.Path.{_≡_, sym, _∙_}
 use Prim.Native.Nat.{_-_, _≤_}
 use native.Mathlib.Omega.{arith}
@@ -38,14 +39,16 @@ triangle-requires c κs =
     let at = turn c in
     let b = start at .pre .0 in
     let f = at .loop .inv .2 in
-    gathering-fits (f .front) (more-behind b (at .loop .inv .0) (omega arith) f) (start at .pre .1) (front-long (behind-still b (f .long)) ∙ sym (front-long b))
+    gathering-fits (f .front) (more-behind b (at .loop .inv .0) (omega arith) f) (start at .pre .1)
+    (front-long (behind-still b (f .long)) ∙ sym (front-long b))
 
 loop-again : tie.Need-loop-again Inv-loop μ-loop
 loop-again c =
     let k = c .before .before in
     let at = turn (k .before) in
     let l = at .loop in
-    let more = counted-next (start at .pre .0) (l .inv .0) (omega arith) (l .inv .2) (k .triangle .last .0) (k .triangle .kept .0) (k .triangle .ensures) in
+    let more = counted-next (start at .pre .0) (l .inv .0) (omega arith) (l .inv .2) (k .triangle .last .0) (k .triangle .kept .0)
+    (k .triangle .ensures) in
     (omega (arith, l .inv .0), omega (arith, l .inv .2 .long), more)
 
 same-length : tie.Need-same-length Inv-loop μ-loop

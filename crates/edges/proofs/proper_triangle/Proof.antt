@@ -19,7 +19,8 @@ start c = c .before .before .before
 proper-step-requires-2 : tie.Need-proper-step-requires-2
 proper-step-requires-2 c κs =
     let one = first c in
-    second-fits (start one .pre) (step-length (start one .args .a) (start one .args .b)) (one .proper-step .kept .0) (one .proper-step .ensures)
+    second-fits (start one .pre) (step-length (start one .args .a) (start one .args .b)) (one .proper-step .kept .0)
+    (one .proper-step .ensures)
 
 proper-step-requires-3 : tie.Need-proper-step-requires-3
 proper-step-requires-3 c κs =

@@ -1,5 +1,5 @@
--- `edges::triangle` meets its contract: a triangle that repeats an id makes no use, another makes three, each with room for those to come. Assumes
--- nothing.
+-- `edges::triangle` meets its contract: a triangle that repeats an id makes no use, another makes three, each with room for those to
+-- come. Assumes nothing.
 use mathlib.Core.Path.{sym, _∙_}
 use native.Mathlib.Omega.{arith}
 use borrow.Author.Needs.{needs}
@@ -32,7 +32,8 @@ walk-requires-3 : tie.Need-walk-requires-3
 walk-requires-3 c κs =
     let two = c .before .before .before in
     let one = first (two .before) in
-    third-fits (start one .pre) (omega arith) (one .walk .kept .0) (one .walk .ensures) (omega arith) (two .walk2 .kept .0) (two .walk2 .ensures)
+    third-fits (start one .pre) (omega arith) (one .walk .kept .0) (one .walk .ensures) (omega arith) (two .walk2 .kept .0)
+    (two .walk2 .ensures)
 
 returns-2 : tie.Need-returns-2
 returns-2 c =

@@ -1,6 +1,7 @@
 -- `faces::add` meets its contract: from what the search found and what was written, by the law `adding`. Assumes nothing.
 use borrow.Author.Needs.{needs}
 use Rattle.faces.proofs.Adding.{Sought, seekable, bump-fits, adding}
+use Rattle.faces.specs.declared.Sorted.{Sorted}
 use Rattle.faces.proofs.add.Statement.{statement}
 use Rattle.faces.proofs.add.Tie as tie
 
@@ -17,8 +18,11 @@ module _ (c : tie.After-weight) where
   abbrev st : tie.Start
   st = hashed .before .before .before .before
 
+  abbrev ids : Sorted
+  ids = hashed .before .sort .result
+
   sought : Sought (st .args .ids .now) (st .args .n) (st .args .work .now) (st .args .t)
-      (record { low = hashed .before .sort .result .low; mid = hashed .before .sort .result .mid; high = hashed .before .sort .result .high })
+      (record { low = ids .low; mid = ids .mid; high = ids .high })
       (hashed .hash .result) (homed .home .result) (c .before .before .find .result) (c .weight .result)
   sought = record {
     sorting = hashed .before .sort .ensures;

@@ -1,10 +1,12 @@
--- `faces::add_behind` meets its contract: by the law `adding` over the two parts of the area; the write in front leaves the ids. Assumes nothing.
+-- `faces::add_behind` meets its contract: by the law `adding` over the two parts of the area; the write in front leaves the ids. Assumes
+-- nothing.
 use mathlib.Core.Path.{sym}
 use borrow.Rule.Slice.PartAt.{part-to-end}
 use borrow.Author.Needs.{needs}
 use lib.ListN.{take, drop}
 use Rattle.table.proofs.Front.{front-long, front-wrote}
 use Rattle.faces.proofs.Adding.{Sought, seekable, bump-fits, adding}
+use Rattle.faces.specs.declared.Sorted.{Sorted}
 use Rattle.faces.proofs.add_behind.Statement.{statement}
 use Rattle.faces.proofs.add_behind.Tie as tie
 
@@ -38,8 +40,11 @@ module _ (c : tie.After-weight) where
   abbrev st : tie.Start
   st = start hashed
 
+  abbrev ids : Sorted
+  ids = hashed .before .sort .result
+
   sought : Sought (drop (st .args .at) (st .args .area .now)) (st .args .n) (take (st .args .at) (st .args .area .now)) (st .args .t)
-      (record { low = hashed .before .sort .result .low; mid = hashed .before .sort .result .mid; high = hashed .before .sort .result .high })
+      (record { low = ids .low; mid = ids .mid; high = ids .high })
       (hashed .hash .result) (found .before .before .home .result) (found .find-behind .result) (c .weight .result)
   sought =
       let whole = part-to-end (st .args .area .now) (st .args .at) in
@@ -61,7 +66,8 @@ returns : tie.Need-returns
 returns c =
     let bumped = c .before .before in
     let w = bumped .before .before in
-    front-wrote (st w .pre .0) (bumped .bump .last .0) (bumped .bump .kept .0) (rw (bumped .bump .ensures) (adding (st w .pre .1) (sought w)))
+    front-wrote (st w .pre .0) (bumped .bump .last .0) (bumped .bump .kept .0)
+    (rw (bumped .bump .ensures) (adding (st w .pre .1) (sought w)))
 
 pub add-behind-spec : {M : Type 1} → statement M
 add-behind-spec =

@@ -9,7 +9,9 @@ use Rattle.faces.proofs.bump.Statement.{statement}
 use Rattle.faces.proofs.bump.Tie as tie
 
 add-word-2 : tie.Need-add-word-2
-add-word-2 c = let few : faceUses (c .before .args .work .now) (c .before .args .r) < 65535 = omega (arith, c .before .pre .4) in omega (arith, more-fits _ (few-roomy _ few) true)
+add-word-2 c =
+    let few : faceUses (c .before .args .work .now) (c .before .args .r) < 65535 = omega (arith, c .before .pre .4) in
+    omega (arith, more-fits _ (few-roomy _ few) true)
 
 pub bump-spec : {M : Type 1} → statement M
 bump-spec =

@@ -1,4 +1,5 @@
--- `faces::find` meets its contract, by the law of a turn: each row passed is used by another face. As some row is free, it ends. Assumes nothing.
+-- `faces::find` meets its contract, by the law of a turn: each row passed is used by another face. As some row is free, it ends. Assumes
+-- nothing.
 use mathlib.Core.Path.{sym, _∙_}
 use Prim.Native.Nat.{ℕ, _-_, _*_}
 use native.Mathlib.Omega.{arith}
@@ -13,7 +14,8 @@ use Rattle.faces.proofs.find.Statement.{statement}
 use Rattle.faces.proofs.find.Tie as tie
 
 abbrev Inv-loop : tie.InvT-loop
-Inv-loop ids work n low mid high start r₀ r = Looking n start (faceAt ids work) (faceUses work) (record { low = low; mid = mid; high = high }) r
+Inv-loop ids work n low mid high start r₀ r =
+    Looking n start (faceAt ids work) (faceUses work) (record { low = low; mid = mid; high = high }) r
 
 abbrev μ-loop : tie.MeasureT-loop
 μ-loop ids work n low mid high start r₀ r = n - dist n start r
@@ -42,7 +44,8 @@ module _ (c : tie.After-same Inv-loop μ-loop) where
   sought = record { low = st .args .low; mid = st .args .mid; high = st .args .high }
 
 on : (c : tie.Else2 Inv-loop μ-loop) → let s = c .before in
-    Onward (st s .args .n) (st s .args .start) (faceAt (st s .args .ids .now) (st s .args .work .now)) (faceUses (st s .args .work .now)) (sought s) (at s .loop .r)
+    Onward (st s .args .n) (st s .args .start) (faceAt (st s .args .ids .now) (st s .args .work .now))
+    (faceUses (st s .args .work .now)) (sought s) (at s .loop .r)
 on c =
     let s = c .before in
     let other = same-ne sameFace face-refl _ (sought s) (sym (s .same .ensures) ∙ c .if2 .left) in

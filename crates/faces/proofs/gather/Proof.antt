@@ -1,4 +1,5 @@
--- `faces::gather` meets its contract: turn by turn the table means the uses of the first t triangles, by the laws of `Summing`. Assumes nothing.
+-- `faces::gather` meets its contract: turn by turn the table means the uses of the first t triangles, by the laws of `Summing`. Assumes
+-- nothing.
 use mathlib.Core.Path.{_≡_, refl, _∙_}
 use Prim.Native.Nat.{_-_, _≤_}
 use native.Mathlib.Omega.{arith}

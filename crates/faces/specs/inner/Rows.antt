@@ -1,4 +1,5 @@
--- The table of faces: rows of 2 words, a triangle and the word that counts the uses of its face. There are 2 rows for a triangle, so at most one in two is used.
+-- The table of faces: rows of 2 words, a triangle and the word that counts the uses of its face. There are 2 rows for a triangle, so at
+-- most one in two is used.
 use Prim.Native.Nat.{ℕ, _+_, _*_, _%_, _≤_, _<_}
 use mathlib.Core.List.{List, [], _++_}
 use lib.ListN.{length, getD, set}

@@ -23,7 +23,8 @@ module _ (c : tie.After-root2) where
   abbrev st : tie.Start
   st = one .before .before .before
 
-  two : TwoRoots (st .args .work .now) (one .root .last .0) (c .root2 .last .0) (st .args .a) (st .args .b) (one .root .result) (c .root2 .result)
+  two : TwoRoots (st .args .work .now) (one .root .last .0) (c .root2 .last .0) (st .args .a) (st .args .b) (one .root .result)
+      (c .root2 .result)
   two = record {
     one = st .pre .0;
     two = st .pre .1;
@@ -35,7 +36,8 @@ module _ (c : tie.After-root2) where
     second = c .root2 .ensures;
   }
 
-  both-inside : (one .root .result < length (c .root2 .last .0)) × (c .root2 .result < length (c .root2 .last .0)) × (length (c .root2 .last .0) ≤ 32768)
+  both-inside : (one .root .result < length (c .root2 .last .0)) × (c .root2 .result < length (c .root2 .last .0))
+      × (length (c .root2 .last .0) ≤ 32768)
   both-inside =
       let inside = roots-inside two in
       let long : length (c .root2 .last .0) ≡ length (st .args .work .now) = two .still ∙ two .long in
@@ -48,10 +50,14 @@ hang-requires-2 : tie.Need-hang-requires-2
 hang-requires-2 c κs = let i = both-inside (c .before .before .before .before) in (i .0, omega (arith, i .1, i .2))
 
 returns : tie.Need-returns
-returns c = let test = c .before .before .before .before in joined-up (two (test .before .before .before)) (test .if1 .taken) (c .before .before .hang .ensures)
+returns c =
+    let test = c .before .before .before .before in
+    joined-up (two (test .before .before .before)) (test .if1 .taken) (c .before .before .hang .ensures)
 
 returns-2 : tie.Need-returns-2
-returns-2 c = let test = c .before .before .before .before in joined-down (two (test .before .before .before)) (test .if1 .left) (c .before .before .hang2 .ensures)
+returns-2 c =
+    let test = c .before .before .before .before in
+    joined-down (two (test .before .before .before)) (test .if1 .left) (c .before .before .hang2 .ensures)
 
 pub join-spec : {M : Type 1} → statement M
 join-spec =

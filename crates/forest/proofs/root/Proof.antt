@@ -1,4 +1,5 @@
--- `forest::root` meets its contract. The loop climbs: the labels stay, and x has the label that t has. The measure is x, since no parent is larger than its child. Assumes nothing.
+-- `forest::root` meets its contract. The loop climbs: the labels stay, and x has the label that t has. The measure is x, since no parent
+-- is larger than its child. Assumes nothing.
 use mathlib.Core.Path.{refl}
 use Prim.Native.Nat.{ℕ, _<_}
 use native.Mathlib.Omega.{arith}

@@ -1,4 +1,5 @@
--- `pieces::enter` meets its contract. A corner of a repeated-id triangle asks for nothing; a row found is joined, a free one filled. Assumes nothing.
+-- `pieces::enter` meets its contract. A corner of a repeated-id triangle asks for nothing; a row found is joined, a free one filled.
+-- Assumes nothing.
 use mathlib.Core.Path.{_≡_, refl, sym, _∙_}
 use mathlib.Core.Bool.{true, false, true≢false}
 use Prim.Native.Nat.{_/_, _<_}
@@ -23,7 +24,8 @@ unfolding solid
 returns c =
     let test = c .before in
     let st = test .before .before .before in
-    let flat : solid (st .args .ids .now) (st .args .c / 3) ≡ false = sym (test .distinct-at .ensures) ∙ not-true (test .distinct-at .result) (c .if1 .taken) in
+    let flat : solid (st .args .ids .now) (st .args .c / 3) ≡ false = sym (test .distinct-at .ensures)
+    ∙ not-true (test .distinct-at .result) (c .if1 .taken) in
     entered-same (st .pre .0 .slots) (λ e y. true≢false (sym y ∙ flat)) (λ f y. absurd (true≢false (sym y ∙ flat))) (λ free some. refl)
 
 -- where the search came back, in the end from the start
@@ -46,7 +48,8 @@ module _ (c : tie.After-slot) where
   abbrev st : tie.Start
   st = start seek
 
-  row : AtRow (st .args .ids .now) (st .args .work .now) (st .args .odd) (st .args .limit) (st .args .c) (seek .seek .result) (c .slot .result)
+  row : AtRow (st .args .ids .now) (st .args .work .now) (st .args .odd) (st .args .limit) (st .args .c) (seek .seek .result)
+      (c .slot .result)
   unfolding solid
   row =
       let test = seek .before .before in
@@ -63,19 +66,25 @@ join-requires : tie.Need-join-requires
 join-requires c κs =
     let s = c .before .before in
     let held = st s .pre .0 .slots .corners (seek s .seek .result) (row s .inside) in
-    let long = st s .pre .0 .sized in
-    (omega (arith, s .slot .ensures, c .before .if3 .taken, held), omega arith, omega (arith, long .long, long .few), good-forest (st s .pre .0 .labelled))
+    let long = st s .pre .0 .sized in (
+      omega (arith, s .slot .ensures, c .before .if3 .taken, held),
+      omega arith,
+      omega (arith, long .long, long .few),
+      good-forest (st s .pre .0 .labelled),
+    )
 
 returns-3 : tie.Need-returns-3
 returns-3 c =
     let joined = c .before .before in
     let test = joined .before .before in
-    entered-joined (row (test .before)) _ (st (test .before) .args .spare) (joined .join .kept .0) (test .if3 .taken) (joined .join .ensures)
+    entered-joined (row (test .before)) _ (st (test .before) .args .spare) (joined .join .kept .0) (test .if3 .taken)
+    (joined .join .ensures)
 
 returns-4 : tie.Need-returns-4
 returns-4 c =
     let s = c .before .before in
-    let free = followed-free (st s .pre .0 .slots) (st s .args .c) (seek s .seek .ensures) (sym (s .slot .ensures) ∙ c .before .if3 .left) in
+    let free = followed-free (st s .pre .0 .slots) (st s .args .c) (seek s .seek .ensures)
+    (sym (s .slot .ensures) ∙ c .before .if3 .left) in
     entered-same (st s .pre .0 .slots) (λ e y. true≢false (sym e)) free (λ free some. absurd (omega arith))
 
 returns-5 : tie.Need-returns-5

@@ -1,4 +1,5 @@
--- `pieces::fill` meets its contract. The corners from `from` on below c are entered. The first one always is, so a pass gets ahead. Assumes nothing.
+-- `pieces::fill` meets its contract. The corners from `from` on below c are entered. The first one always is, so a pass gets ahead.
+-- Assumes nothing.
 use mathlib.Core.Path.{_≡_, refl, _∙_}
 use Prim.Native.Nat.{_-_, _*_}
 use native.Mathlib.Omega.{arith}
@@ -11,7 +12,8 @@ use Rattle.pieces.proofs.fill.Statement.{statement}
 use Rattle.pieces.proofs.fill.Tie as tie
 
 abbrev Inv-loop : tie.InvT-loop
-Inv-loop ids work₀ odd limit from n spare₀ c₀ work spare c = (length work ≡ length work₀) × Filling ids odd limit (length work₀) from c spare work₀ work
+Inv-loop ids work₀ odd limit from n spare₀ c₀ work spare c =
+    (length work ≡ length work₀) × Filling ids odd limit (length work₀) from c spare work₀ work
 
 abbrev μ-loop : tie.MeasureT-loop
 μ-loop ids work₀ odd limit from n spare₀ c₀ work spare c = 3 * length work₀ - c
@@ -45,8 +47,11 @@ loop-again c =
     let k = c .before .before .before .before in
     let enter = k .enter in
     let l = k .before .before .before .loop in
-    let entered = not-false (enter .result .entered) (c .if1 .left) in
-    (omega (arith, enter .kept, l .inv .0), filling-next (l .inv .1) (rw (l .inv .0) at (enter .ensures)) (enter .result .spare) (omega arith) entered)
+    let entered = not-false (enter .result .entered) (c .if1 .left) in (
+      omega (arith, enter .kept, l .inv .0),
+      filling-next (l .inv .1) (rw (l .inv .0) at (enter .ensures)) (enter .result .spare)
+          (omega arith) entered,
+    )
 
 returns-2 : tie.Need-returns-2 Inv-loop μ-loop
 returns-2 c = filled-all (c .before .loop .inv .1) (omega arith)

@@ -1,4 +1,5 @@
--- `pieces::find` meets its contract, by the law of a turn: each row passed is used by another key, and the rows passed and those left make the limit.
+-- `pieces::find` meets its contract, by the law of a turn: each row passed is used by another key, and the rows passed and those left
+-- make the limit.
 -- Assumes nothing.
 use mathlib.Core.Path.{sym, ap, _∙_}
 use mathlib.Core.Logic.{_≢_}

@@ -14,7 +14,8 @@ use Rattle.pieces.proofs.follow.Statement.{statement}
 use Rattle.pieces.proofs.follow.Tie as tie
 
 abbrev Inv-loop : tie.InvT-loop
-Inv-loop ids work₀ odd limit from c₀ work c = (length work ≡ length work₀) × Grown ids work₀ work (FollowedTo ids (length work₀) (slotIn work₀) from c)
+Inv-loop ids work₀ odd limit from c₀ work c =
+    (length work ≡ length work₀) × Grown ids work₀ work (FollowedTo ids (length work₀) (slotIn work₀) from c)
 
 abbrev μ-loop : tie.MeasureT-loop
 μ-loop ids work₀ odd limit from c₀ work c = 3 * length work₀ - c
@@ -32,7 +33,9 @@ enter-requires c κs =
       record {
         sized = record { few = st .pre .sized .few; long = l .inv .0 ∙ st .pre .sized .long };
         limited = (st .pre .limited .0, omega (arith, st .pre .limited .1, l .inv .0));
-        slots = rw (l .inv .0) (along (Slots (st .args .ids .now) (st .args .odd) (st .args .limit) (length t)) t (l .work) (g .slots) (st .pre .slots));
+        slots =
+            rw (l .inv .0) (along (Slots (st .args .ids .now) (st .args .odd) (st .args .limit) (length t)) t (l .work) (g .slots)
+            (st .pre .slots));
         labelled = labelled-then (st .pre .labelled) (g .more);
       },
       omega arith,
@@ -48,7 +51,8 @@ loop-again c =
     let l = at .loop in
     let g = l .inv .1 in
     let w = looked-up (rw (l .inv .0) at (enter .ensures)) in
-    let n = along (λ (o : ℕ → ℕ). Grown ids (l .work) (enter .last .1 .0) (Followed ids (length t) o (l .c))) (l .work) t (λ i. sym (g .slots i)) w in
+    let n = along (λ (o : ℕ → ℕ). Grown ids (l .work) (enter .last .1 .0) (Followed ids (length t) o (l .c))) (l .work) t
+    (λ i. sym (g .slots i)) w in
     (omega (arith, enter .kept, l .inv .0), grown-then g n (followed-next ids (length t) (slotIn t) (st .args .from) (l .c)))
 
 returns : tie.Need-returns Inv-loop μ-loop

@@ -1,4 +1,5 @@
--- Labels of the triangles while they are joined: never coarser than the joins ask, and at the end as coarse. The parts of the piece count keep this.
+-- Labels of the triangles while they are joined: never coarser than the joins ask, and at the end as coarse. The parts of the piece count
+-- keep this.
 use mathlib.Core.Path.{_≡_}
 use mathlib.Core.Bool.{Bool, true, _&&_}
 use mathlib.Core.List.{List}

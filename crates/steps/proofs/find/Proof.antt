@@ -1,5 +1,5 @@
--- `steps::find` meets its contract, by the law of a turn: each row passed is used by another edge. As some row is free, the search ends before it has
--- gone round. Assumes nothing.
+-- `steps::find` meets its contract, by the law of a turn: each row passed is used by another edge. As some row is free, the search ends
+-- before it has gone round. Assumes nothing.
 use Prim.Native.Nat.{_-_}
 use native.Mathlib.Omega.{arith}
 use borrow.Author.Needs.{needs}

@@ -8,7 +8,12 @@ use Rattle.steps.proofs.walk.Tie as tie
 find-requires : tie.Need-find-requires
 find-requires c κs =
     let st = c .before .before .before .before .before .before in
-    record { space = st .pre .space; starts = c .before .home .ensures .1; free = room-free (st .args .n) (st .args .work .now) (st .pre .room) }
+    record {
+      space = st .pre .space;
+      starts = c .before .home .ensures .1;
+      free =
+          room-free (st .args .n) (st .args .work .now) (st .pre .room);
+    }
 
 module _ (c : tie.After-weight) where
   abbrev homed : tie.After-home
@@ -20,7 +25,8 @@ module _ (c : tie.After-weight) where
   abbrev st : tie.Start
   st = ordered .before .before .before
 
-  reached : Reached (st .args .n) (st .args .work .now) (st .args .u) (st .args .v) (ordered .before .lesser .result) (ordered .greater .result)
+  reached : Reached (st .args .n) (st .args .work .now) (st .args .u) (st .args .v) (ordered .before .lesser .result)
+      (ordered .greater .result)
       (homed .before .hash .result) (homed .home .result) (c .before .before .find .result) (c .weight .result)
   reached = record {
     lower = ordered .before .lesser .ensures;

@@ -1,4 +1,5 @@
--- The table of edges: rows of 3 words, low id, high id and the word that counts the uses. There are 4 rows for 3 ids, so at most three in four are used.
+-- The table of edges: rows of 3 words, low id, high id and the word that counts the uses. There are 4 rows for 3 ids, so at most three in
+-- four are used.
 use Prim.Native.Nat.{ℕ, _+_, _-_, _*_, _%_, _≤_, _<_}
 use mathlib.Core.List.{List, _++_}
 use lib.ListN.{length, getD, set}

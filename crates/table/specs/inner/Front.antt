@@ -1,4 +1,5 @@
--- An area with a table in its first `at` words and the ids behind them: what is asked of it, and what a routine does that writes in front alone.
+-- An area with a table in its first `at` words and the ids behind them: what is asked of it, and what a routine does that writes in front
+-- alone.
 use mathlib.Core.Path.{_≡_}
 use mathlib.Core.List.{List}
 use Prim.Native.Nat.{ℕ, _+_, _≤_}

@@ -1,4 +1,5 @@
--- What a table of rows means: it holds the keys of a list of uses, each in one row, with its uses and its uses upwards. A row with no uses is free.
+-- What a table of rows means: it holds the keys of a list of uses, each in one row, with its uses and its uses upwards. A row with no
+-- uses is free.
 use mathlib.Core.Path.{_≡_}
 use Prim.Native.Nat.{ℕ, zero, suc, _+_, _<_, max}
 use mathlib.Core.Bool.{Bool, _&&_}

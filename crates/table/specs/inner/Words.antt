@@ -1,4 +1,5 @@
--- A triangle of a list of ids that is not too long; and a routine on ids over just the words that it needs: what it is lent, and what it leaves.
+-- A triangle of a list of ids that is not too long; and a routine on ids over just the words that it needs: what it is lent, and what it
+-- leaves.
 use mathlib.Core.Path.{_≡_}
 use mathlib.Core.List.{List}
 use Prim.Native.Nat.{ℕ, _≤_, _<_}

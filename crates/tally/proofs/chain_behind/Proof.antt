@@ -1,4 +1,5 @@
--- `tally::chain_behind` meets its contract: the cleared front is an empty table, and the ids stay under all that is written. Assumes nothing.
+-- `tally::chain_behind` meets its contract: the cleared front is an empty table, and the ids stay under all that is written. Assumes
+-- nothing.
 use mathlib.Core.Path.{_≡_, sym}
 use native.Mathlib.Omega.{arith}
 use borrow.Author.Needs.{needs}
@@ -22,8 +23,11 @@ module _ (c : tie.After-clear) where
   behind : Behind (st .args .at) (st .args .area .now)
   behind = record { inside = st .pre .0; few = st .pre .1 }
 
-  emptied : InFront (st .args .at) (st .args .area .now) (c .clear .last .0) (EdgesToCome (drop (st .args .at) (st .args .area .now)) (sized .rows .result))
-  emptied = empty-edges behind (c .clear .last .0) (c .clear .kept .0) (sized .rows .result) (st .pre .2) (sized .rows .ensures) (c .clear .ensures)
+  emptied : InFront (st .args .at) (st .args .area .now) (c .clear .last .0)
+      (EdgesToCome (drop (st .args .at) (st .args .area .now)) (sized .rows .result))
+  emptied =
+      empty-edges behind (c .clear .last .0) (c .clear .kept .0) (sized .rows .result) (st .pre .2) (sized .rows .ensures)
+      (c .clear .ensures)
 
 gather-chain-behind-requires : tie.Need-gather-chain-behind-requires
 gather-chain-behind-requires c κs =

@@ -30,11 +30,13 @@ module _ (c : tie.After-clear) where
   behind : Behind (st .args .at) (st .args .area .now)
   behind = record { inside = st .pre .0; few = st .pre .1 }
 
-  emptied : InFront (st .args .at) (st .args .area .now) (c .clear .last .0) (FacesToCome (drop (st .args .at) (st .args .area .now)) (2 * many st))
+  emptied : InFront (st .args .at) (st .args .area .now) (c .clear .last .0)
+      (FacesToCome (drop (st .args .at) (st .args .area .now)) (2 * many st))
   emptied = empty-faces behind (c .clear .last .0) (c .clear .kept .0) (many st) refl (fits st) (c .clear .ensures)
 
 gather-behind-requires : tie.Need-gather-behind-requires
-gather-behind-requires c κs = let k = c .before .before .before in asked-front (λ ids. FacesToCome ids (2 * many (st k))) (behind k) (emptied k)
+gather-behind-requires c κs =
+    let k = c .before .before .before in asked-front (λ ids. FacesToCome ids (2 * many (st k))) (behind k) (emptied k)
 
 module _ (c : tie.After-gather-behind) where
   abbrev cleared : tie.After-clear
@@ -44,7 +46,8 @@ module _ (c : tie.After-gather-behind) where
   start = st cleared
 
   counted : InFront (start .args .at) (start .args .area .now) (c .gather-behind .last .0)
-      (λ t. FaceTable (drop (start .args .at) (start .args .area .now)) (2 * many start) t (faces (drop (start .args .at) (start .args .area .now))))
+      (λ t. FaceTable (drop (start .args .at) (start .args .area .now)) (2 * many start) t
+      (faces (drop (start .args .at) (start .args .area .now))))
   counted = made-front (λ ids t. FaceTable ids (2 * many start) t (faces ids)) (emptied cleared) (c .gather-behind .ensures)
 
   long : length (take (start .args .at) (c .gather-behind .last .0)) ≡ start .args .at

@@ -9,7 +9,7 @@ use lib.ListN.{length, getD, take, drop}
 use lib.Seq.{getD-drop}
 use Rattle.ids.specs.EdgeChain.{around}
 use Rattle.ids.proofs.Triangles.{triangleAt}
-use Rattle.table.specs.inner.Front.{Behind, InFront}
+use Rattle.table.specs.inner.Front.{IdsBehind, InFront}
 use Rattle.table.proofs.Front.{ids-long, behind-still, front-wrote, front-then}
 use Rattle.steps.specs.inner.Rows.{EdgesAdded}
 use Rattle.edges.specs.inner.Tests.{edgesOf}
@@ -31,7 +31,7 @@ abbrev pub CountedTo : ℕ → ℕ → List ℕ → ℕ → List ℕ → Type 0
 CountedTo at n w₀ i t = Gathering true (drop at w₀) n t (i - at)
 
 -- w₀ is the area at entry and w the area now, i the place of the next triangle
-module _ {at n : ℕ} {w₀ w : List ℕ} {i : ℕ} (b : Behind at w₀) (past : at ≤ i) (m : i + 2 < length w)
+module _ {at n : ℕ} {w₀ w : List ℕ} {i : ℕ} (b : IdsBehind at w₀) (past : at ≤ i) (m : i + 2 < length w)
     (f : InFront at w₀ w (CountedTo at n w₀ i)) where
   pub more-behind : i - at + 2 < length (drop at w₀)
   more-behind = omega (arith, ids-long b, f .long)

@@ -10,7 +10,7 @@ use Rattle.ids.specs.Triangles.{overTriangles}
 use Rattle.ids.specs.Uses.{Use}
 use Rattle.ids.specs.EdgeChain.{Edge}
 use Rattle.ids.proofs.Triangles.{triangleAt, turn, turned}
-use Rattle.steps.specs.inner.Rows.{EdgeTable, Within, EdgesFit, EdgesAdded}
+use Rattle.steps.specs.inner.Rows.{EdgeTable, UsesWithin, EdgesFit, EdgesAdded}
 use Rattle.steps.proofs.Within.{within-length, within-le, within-append}
 use Rattle.edges.specs.inner.Tests.{edgesOf}
 use Rattle.edges.specs.inner.Gather.{EdgesToCome}
@@ -21,7 +21,7 @@ pub record Gathering (whole : Bool) (ids : List ℕ) (n : ℕ) (t : List ℕ) (i
   pub so-far : List (Use Edge)
   pub with-rest : so-far ++ overTriangles (edgesOf whole) (drop i ids) ≡ overTriangles (edgesOf whole) ids
   pub few : length so-far ≤ i
-  pub within : Within (i / 3) so-far
+  pub within : UsesWithin (i / 3) so-far
   pub means : EdgeTable n t so-far
 
 pub gathering-none : {whole : Bool} {ids : List ℕ} {n : ℕ} {t : List ℕ} → EdgesToCome ids n t → Gathering whole ids n t 0

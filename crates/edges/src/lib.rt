@@ -10,7 +10,7 @@ ghost use Rattle.ids.specs.EdgeChain.{properStep, around, aroundProper, present
 ghost use Rattle.table.specs.inner.Rows.{sumTo};
 ghost use Rattle.table.specs.inner.Counts.{usesIn, upsIn, sumSize};
 ghost use Rattle.table.specs.inner.Table.{gate};
-ghost use Rattle.table.specs.inner.Front.{Behind, InFront};
+ghost use Rattle.table.specs.inner.Front.{IdsBehind, InFront};
 ghost use Rattle.steps.specs.inner.Rows.{EdgeTable, EdgeRows, EdgesFit, EdgesAdded};
 ghost use Rattle.edges.specs.inner.Tests.{testOf, edgesOf, rowBit};
 ghost use Rattle.edges.specs.inner.Gather.{EdgesToCome};
@@ -87,7 +87,7 @@ pub fn gather(ids: &[u32], work: &mut [u32], n: usize, whole: bool)
 
 // The same, of whole triangles, where the ids stand in the lent area itself: from `at` on, behind the table.
 pub fn gather_behind(area: &mut [u32], at: usize, n: usize)
-    requires { ⌜ Behind at (now area) × EdgesToCome (drop at (now area)) n (take at (now area)) ⌝ }
+    requires { ⌜ IdsBehind at (now area) × EdgesToCome (drop at (now area)) n (take at (now area)) ⌝ }
     ensures { λ _. ⌜ InFront at (now (area .entry)) (now (area .exit))
         (λ t. EdgeTable n t (overTriangles (edgesOf true) (drop at (now (area .entry))))) ⌝ }
 {

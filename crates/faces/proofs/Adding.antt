@@ -26,7 +26,7 @@ seekable {ids} {n} {table} a l = record {
 }
 
 -- for triangle t: the sorted ids f, their hash, the row r found from `start` on, and the weight `by`
-pub record Sought (ids : List ℕ) (n : ℕ) (table : List ℕ) (t : ℕ) (f : Face) (hash start r by : ℕ) : Type 0 where
+pub record FaceSought (ids : List ℕ) (n : ℕ) (table : List ℕ) (t : ℕ) (f : Face) (hash start r by : ℕ) : Type 0 where
   pub sorting : sorted (triangle ids t) ≡ f
   pub hashing : hash ≡ faceHash f
   pub homing : start ≡ homeRow n hash
@@ -34,7 +34,7 @@ pub record Sought (ids : List ℕ) (n : ℕ) (table : List ℕ) (t : ℕ) (f : F
   pub weighed : by ≡ cond (faceUse (triangle ids t) .up) 65536 1
 
 module _ {ids : List ℕ} {n : ℕ} {table : List ℕ} {t : ℕ} {f : Face} {hash start r by : ℕ} (a : FaceToAdd ids n table t)
-    (w : Sought ids n table t f hash start r by) where
+    (w : FaceSought ids n table t f hash start r by) where
   small : faceUses table r < 32768
   small = omega (arith, row-small ids n table (a .room .so-far) (a .room .means) r (w .found .within), a .room .counts-left)
 

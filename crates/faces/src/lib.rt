@@ -9,7 +9,7 @@ ghost use Rattle.ids.specs.FaceNet.{sameFace, sorted, faceUse, face, faces};
 ghost use Rattle.table.specs.inner.Rows.{sumTo, Found};
 ghost use Rattle.table.specs.inner.Counts.{usesIn, upsIn, sumSize};
 ghost use Rattle.table.specs.inner.Table.{maxTo};
-ghost use Rattle.table.specs.inner.Front.{Behind, InFront};
+ghost use Rattle.table.specs.inner.Front.{IdsBehind, InFront};
 ghost use Rattle.table.specs.inner.Words.{TriangleOf};
 ghost use Rattle.faces.specs.inner.Rows.{faceAt, faceWord, faceUses, putFace, faceHash, FaceTable, FaceRows};
 ghost use Rattle.faces.specs.inner.Rows.{FaceSearch, FaceToAdd, FacesToCome, FacesAdded, rowOff, rowSize};
@@ -152,7 +152,7 @@ fn find_behind(
     high: u32,
     start: usize,
 ) -> usize
-    requires { ⌜ Behind at (now area) × FaceSearch (drop at (now area)) n start (take at (now area)) ⌝ }
+    requires { ⌜ IdsBehind at (now area) × FaceSearch (drop at (now area)) n start (take at (now area)) ⌝ }
     ensures { λ r. ⌜ Found n start (faceAt (drop at (now (area .entry))) (take at (now (area .entry))))
         (faceUses (take at (now (area .entry)))) (record { low = low; mid = mid; high = high }) r ⌝ }
 {
@@ -161,7 +161,7 @@ fn find_behind(
 
 // Adds the use that triangle t makes of its face.
 fn add_behind(area: &mut [u32], at: usize, n: usize, t: usize)
-    requires { ⌜ Behind at (now area) × FaceToAdd (drop at (now area)) n (take at (now area)) t ⌝ }
+    requires { ⌜ IdsBehind at (now area) × FaceToAdd (drop at (now area)) n (take at (now area)) t ⌝ }
     ensures { λ _. ⌜ InFront at (now (area .entry)) (now (area .exit))
         (λ u. FacesAdded (drop at (now (area .entry))) n (take at (now (area .entry))) u
         (faceUse (triangle (drop at (now (area .entry))) t) ∷ [])) ⌝ }
@@ -178,7 +178,7 @@ fn add_behind(area: &mut [u32], at: usize, n: usize, t: usize)
 
 // Adds the use that triangle t makes: none if it repeats an id.
 fn triangle_behind(area: &mut [u32], at: usize, n: usize, t: usize)
-    requires { ⌜ Behind at (now area) × FaceToAdd (drop at (now area)) n (take at (now area)) t ⌝ }
+    requires { ⌜ IdsBehind at (now area) × FaceToAdd (drop at (now area)) n (take at (now area)) t ⌝ }
     ensures { λ _. ⌜ InFront at (now (area .entry)) (now (area .exit))
         (λ u. FacesAdded (drop at (now (area .entry))) n (take at (now (area .entry))) u
         (face (triangle (drop at (now (area .entry))) t))) ⌝ }
@@ -191,7 +191,7 @@ fn triangle_behind(area: &mut [u32], at: usize, n: usize, t: usize)
 
 // Adds the uses of all triangles to an empty table of n rows.
 pub fn gather_behind(area: &mut [u32], at: usize, n: usize)
-    requires { ⌜ Behind at (now area) × FacesToCome (drop at (now area)) n (take at (now area)) ⌝ }
+    requires { ⌜ IdsBehind at (now area) × FacesToCome (drop at (now area)) n (take at (now area)) ⌝ }
     ensures { λ _. ⌜ InFront at (now (area .entry)) (now (area .exit))
         (λ u. FaceTable (drop at (now (area .entry))) n u (faces (drop at (now (area .entry))))) ⌝ }
 {

@@ -7,7 +7,7 @@ use Prim.Native.Nat.{ℕ, _+_, _*_, _≤_, _<_}
 use native.Mathlib.Omega.{arith}
 use lib.Dec.{eqb}
 use lib.ListN.{length, length-set}
-use Rattle.forest.specs.inner.Words.{parentIn, slotIn, withParent}
+use Rattle.forest.specs.inner.Words.{parentIn, heldIn, withParent}
 use Rattle.forest.specs.inner.Labels.{LabelledBy, Forest, merged, RootOf, Joined}
 use Rattle.forest.proofs.Words.{parent-here, parent-else, slots-stay}
 use Rattle.forest.proofs.Labels.{halved, hung, merged-up, merged-down}
@@ -19,7 +19,7 @@ pub record Climb (t u : List ℕ) (a x : ℕ) : Type 0 where
   pub long : length u ≡ length t
   pub means : (f : ℕ → ℕ) → LabelledBy (length t) (parentIn t) f → LabelledBy (length t) (parentIn u) f
   pub label : (f : ℕ → ℕ) → LabelledBy (length t) (parentIn t) f → f x ≡ f a
-  pub slots : (i : ℕ) → slotIn u i ≡ slotIn t i
+  pub slots : (i : ℕ) → heldIn u i ≡ heldIn t i
 
 -- two steps up: in u x hangs on p, which is another, and p on q; in v x hangs on q
 pub record Raised (u v : List ℕ) (x p q : ℕ) : Type 0 where
@@ -49,11 +49,11 @@ module _ {t u : List ℕ} {a x : ℕ} (c : Climb t u a x) (z : Forest t) where
         omega (arith, up .above),
         record {
           inside = omega (arith, c .inside, up .above);
-          long = ap length (up .hangs) ∙ length-set u x (slotIn u x * 32768 + q) ∙ c .long;
+          long = ap length (up .hangs) ∙ length-set u x (heldIn u x * 32768 + q) ∙ c .long;
           means = λ f m. halved (length t) (parentIn u) (parentIn v) f (c .means f m) x (c .inside) here else;
           label = λ f m.
               ap f high ∙ c .means f m .same (parentIn u x) (omega (arith, up .parent)) ∙ c .means f m .same x (c .inside) ∙ c .label f m;
-          slots = λ i. ap (λ (l : List ℕ). slotIn l i) (up .hangs) ∙ slots-stay u x q at small i ∙ c .slots i;
+          slots = λ i. ap (λ (l : List ℕ). heldIn l i) (up .hangs) ∙ slots-stay u x q at small i ∙ c .slots i;
         },
       )
 
@@ -120,7 +120,7 @@ module _ {t u v : List ℕ} {a b r s : ℕ} (R : TwoRoots t u v a b r s) where
               ∙ sym (merge f (omega (arith, low f m, high f m)) z)))
               (hung (length t) (parentIn v) (parentIn w) f (through f m) lo hi (inside .0) (inside .1)
               (own f m lo x lx (low f m)) (own f m hi y ly (high f m)) le here else);
-          slots = λ i. ap (λ (q : List ℕ). slotIn q i) e ∙ slots-stay v hi lo at small i ∙ R .second .slots i ∙ R .first .slots i;
+          slots = λ i. ap (λ (q : List ℕ). heldIn q i) e ∙ slots-stay v hi lo at small i ∙ R .second .slots i ∙ R .first .slots i;
         }
 
   pub joined-up : {w : List ℕ} → r < s → w ≡ withParent v s r → Joined t w a b

@@ -3,7 +3,7 @@
 ghost use mathlib.Core.Path.{_≡_};
 ghost use Prim.Native.Nat.{_≤_, _<_};
 ghost use lib.ListN.{length};
-ghost use Rattle.forest.specs.inner.Words.{parentIn, slotIn, withParent, withSlot, Planted, Freed};
+ghost use Rattle.forest.specs.inner.Words.{parentIn, heldIn, withParent, withSlot, Planted, Freed};
 ghost use Rattle.forest.specs.inner.Labels.{Forest, RootOf, Joined};
 
 // What triangle t hangs on: itself, if on none.
@@ -17,7 +17,7 @@ pub fn parent(work: &[u32], t: usize) -> usize
 // What slot r holds: 0, if it is free.
 pub fn slot(work: &[u32], r: usize) -> usize
     requires { ⌜ r < length (now work) ⌝ }
-    ensures { λ s. ⌜ s ≡ slotIn (now (work .entry)) r ⌝ }
+    ensures { λ s. ⌜ s ≡ heldIn (now (work .entry)) r ⌝ }
 {
     (work[r] / 32768) as usize
 }

@@ -10,7 +10,7 @@ use native.Mathlib.Decide.{ℕ-discrete, decLt}
 use lib.ListN.{length, length-set}
 use Rattle.table.specs.inner.Rows.{dist}
 use Rattle.table.proofs.Search.{dist-here, other, Written, spread-step}
-use Rattle.forest.specs.inner.Words.{slotIn, withSlot}
+use Rattle.forest.specs.inner.Words.{heldIn, withSlot}
 use Rattle.forest.specs.inner.Labels.{merged, Joined}
 use Rattle.forest.proofs.Words.{slot-here, slot-else, parents-stay}
 use Rattle.forest.proofs.Labels.{merged-joins}
@@ -22,7 +22,7 @@ use Rattle.pieces.proofs.Joins.{more-joined, more-none, good-kept}
 use Rattle.pieces.proofs.Search.{home-in}
 
 -- what holds of slots holds of equal ones
-pub along : (P : (ℕ → ℕ) → Type 0) (t u : List ℕ) → ((i : ℕ) → slotIn u i ≡ slotIn t i) → P (slotIn t) → P (slotIn u)
+pub along : (P : (ℕ → ℕ) → Type 0) (t u : List ℕ) → ((i : ℕ) → heldIn u i ≡ heldIn t i) → P (heldIn t) → P (heldIn u)
 along P t u same p = subst P (fun-ext (λ i. sym (same i))) p
 
 -- free slots are in order
@@ -76,9 +76,9 @@ module _ {ids : List ℕ} {odd limit n : ℕ} {s : ℕ → ℕ} (z : Slots ids o
   followed-here f e sc x lx used k = ap (λ (y : ℕ). f ((s y - 1) / 3)) (row-is x lx used k) ∙ e
 
 -- nothing is changed
-pub entered-same : {ids : List ℕ} {odd limit spare c : ℕ} {t : List ℕ} {entered : Bool} → Slots ids odd limit (length t) (slotIn t)
-    → (entered ≡ true → solid ids (c / 3) ≡ true → ⊥) → ((f : ℕ → ℕ) → Followed ids (length t) (slotIn t) c f)
-    → (AllFree (length t) (slotIn t) → 0 < spare → entered ≡ true) → Entered ids odd limit (length t) spare c t t entered
+pub entered-same : {ids : List ℕ} {odd limit spare c : ℕ} {t : List ℕ} {entered : Bool} → Slots ids odd limit (length t) (heldIn t)
+    → (entered ≡ true → solid ids (c / 3) ≡ true → ⊥) → ((f : ℕ → ℕ) → Followed ids (length t) (heldIn t) c f)
+    → (AllFree (length t) (heldIn t) → 0 < spare → entered ≡ true) → Entered ids odd limit (length t) spare c t t entered
 entered-same z no-corner fol fresh =
     record {
       slots = z;
@@ -96,23 +96,23 @@ never-past {n = n} {at = at} l home q free e = omega (arith, free at home, q .no
 
 -- corner c, of a distinct-id triangle, and the row r that a search gave for it, which holds s
 pub record AtRow (ids t : List ℕ) (odd limit c r s : ℕ) : Type 0 where
-  pub slots : Slots ids odd limit (length t) (slotIn t)
+  pub slots : Slots ids odd limit (length t) (heldIn t)
   pub sought : SoughtFor ids t odd limit c r
   pub inside : r < length t
   pub corner : c < 3 * length t
   pub of-solid : solid ids (c / 3) ≡ true
-  pub holds : s ≡ slotIn t r
+  pub holds : s ≡ heldIn t r
 
 module _ {ids t : List ℕ} {odd limit c r s : ℕ} (w : AtRow ids t odd limit c r s) (u : List ℕ) (spare : ℕ) where
   -- the row's corner and c were joined
   module _ (long : length u ≡ length t) (used : s ≢ 0) (j : Joined t u ((s - 1) / 3) (c / 3)) where
-    in-use : 0 < slotIn t r
+    in-use : 0 < heldIn t r
     in-use = omega arith
 
     link : Linked ids (length t) ((s - 1) / 3) (c / 3)
     link = rw (w .holds) (row-linked (w .slots) c (w .sought) (w .inside) in-use (w .corner) (w .of-solid))
 
-    one-label : (f : ℕ → ℕ) → merged f ((s - 1) / 3) (c / 3) ((slotIn t r - 1) / 3) ≡ merged f ((s - 1) / 3) (c / 3) (c / 3)
+    one-label : (f : ℕ → ℕ) → merged f ((s - 1) / 3) (c / 3) ((heldIn t r - 1) / 3) ≡ merged f ((s - 1) / 3) (c / 3) (c / 3)
     one-label f = ap (λ (x : ℕ). merged f ((s - 1) / 3) (c / 3) ((x - 1) / 3)) (sym (w .holds)) ∙ merged-joins f ((s - 1) / 3) (c / 3)
 
     pub entered-joined : Entered ids odd limit (length t) spare c t u true
@@ -134,24 +134,24 @@ module _ {ids t : List ℕ} {odd limit c r s : ℕ} (w : AtRow ids t odd limit c
     v : List ℕ
     v = withSlot t r (c + 1)
 
-    here : slotIn v r ≡ c + 1
+    here : heldIn v r ≡ c + 1
     unfolding v
     here = slot-here t r (c + 1) (w .inside)
 
-    else : (i : ℕ) → i ≢ r → slotIn v i ≡ slotIn t i
+    else : (i : ℕ) → i ≢ r → heldIn v i ≡ heldIn t i
     unfolding v
     else i ne = slot-else t r (c + 1) (w .inside) i ne
 
-    key-here : slotKey ids (slotIn v) r ≡ cornerKey ids c
+    key-here : slotKey ids (heldIn v) r ≡ cornerKey ids c
     key-here = ap (λ (x : ℕ). cornerKey ids (x - 1)) here ∙ ap (cornerKey ids) (omega arith)
 
-    corner-here : (slotIn v r - 1) / 3 ≡ c / 3
+    corner-here : (heldIn v r - 1) / 3 ≡ c / 3
     corner-here = ap (λ (x : ℕ). (x - 1) / 3) here ∙ ap (λ (x : ℕ). x / 3) (omega arith)
 
     by : (i : ℕ) (P : ℕ → Type 0) → P r → (i ≢ r → P i) → P i
     by i P a b = elim (ℕ-discrete i r) [ yes e ↦ subst P (sym e) a | no ne ↦ b ne ]
 
-    written : Written (length t) r (cornerKey ids c) (slotKey ids (slotIn t)) (slotKey ids (slotIn v)) (slotIn t) (slotIn v)
+    written : Written (length t) r (cornerKey ids c) (slotKey ids (heldIn t)) (slotKey ids (heldIn v)) (heldIn t) (heldIn v)
     written =
         record {
           key-at = key-here;
@@ -161,21 +161,21 @@ module _ {ids t : List ℕ} {odd limit c r s : ℕ} (w : AtRow ids t odd limit c
           mark-off = λ i l ne. else i ne;
         }
 
-    slots-held : Slots ids odd limit (length t) (slotIn v)
+    slots-held : Slots ids odd limit (length t) (heldIn v)
     slots-held =
         record {
           corners =
-              λ i l. by i (λ x. slotIn v x ≤ 3 * length t) (omega (arith, here)) (λ ne. omega (arith, else i ne, w .slots .corners i l));
+              λ i l. by i (λ x. heldIn v x ≤ 3 * length t) (omega (arith, here)) (λ ne. omega (arith, else i ne, w .slots .corners i l));
           spread =
-              spread-step (length t) (cornerHome odd (length t)) (slotKey ids (slotIn t)) (slotIn t) (cornerKey ids c) r
+              spread-step (length t) (cornerHome odd (length t)) (slotKey ids (heldIn t)) (heldIn t) (cornerKey ids c) r
               (home-in odd (length t) (cornerKey ids c) (omega arith)) (w .slots .spread) (w .sought .found (w .inside))
-              (slotKey ids (slotIn v)) (slotIn v) written;
-          near = λ i l. by i (λ x. 0 < slotIn v x → dist (length t) (cornerHome odd (length t) (slotKey ids (slotIn v) x)) x < limit)
+              (slotKey ids (heldIn v)) (heldIn v) written;
+          near = λ i l. by i (λ x. 0 < heldIn v x → dist (length t) (cornerHome odd (length t) (slotKey ids (heldIn v) x)) x < limit)
               (λ h. subst (λ (k : ℕ). dist (length t) (cornerHome odd (length t) k) r < limit) (sym key-here) (w .sought .near (w .inside)))
               (λ ne. subst (λ (x : ℕ). 0 < x → dist (length t) (cornerHome odd (length t) (cornerKey ids (x - 1))) i < limit)
               (sym (else i ne)) (w .slots .near i l));
           solids =
-              λ i l. by i (λ x. 0 < slotIn v x → solid ids ((slotIn v x - 1) / 3) ≡ true) (λ h. ap (solid ids) corner-here ∙ (w .of-solid))
+              λ i l. by i (λ x. 0 < heldIn v x → solid ids ((heldIn v x - 1) / 3) ≡ true) (λ h. ap (solid ids) corner-here ∙ (w .of-solid))
               (λ ne. subst (λ (x : ℕ). 0 < x → solid ids ((x - 1) / 3) ≡ true) (sym (else i ne)) (w .slots .solids i l));
         }
 
@@ -184,7 +184,7 @@ module _ {ids t : List ℕ} {odd limit c r s : ℕ} (w : AtRow ids t odd limit c
     entered-held some e = subst (λ (v : List ℕ). Entered ids odd limit (length t) spare c t v true) (sym e) (
         record {
           slots = slots-held;
-          rows = λ x l h. else x (λ e. omega (arith, ap (slotIn t) e));
+          rows = λ x l h. else x (λ e. omega (arith, ap (heldIn t) e));
           same = λ none. absurd (some none);
           more = λ f g. record {
             label = f;

@@ -15,8 +15,8 @@ ghost use Rattle.ids.specs.Pieces.{shareId, pieces as piecesOf};
 ghost use Rattle.table.specs.inner.Rows.{sumTo};
 ghost use Rattle.table.specs.inner.Words.{Leaves};
 ghost use Rattle.pieces.specs.inner.Joins.{OneWordEach, Labelled, Grown, Whole, isRoot};
-ghost use Rattle.pieces.specs.inner.Slots.{cornerKey, cornerHome, SoughtIn, SoughtFor, Seekable, Emptied, Ready};
-ghost use Rattle.pieces.specs.inner.Slots.{AllFollowed, Entered, Filled, Swept};
+ghost use Rattle.pieces.specs.inner.Slots.{cornerKey, cornerHome, SoughtIn, SoughtFor, Seekable, Emptied, SlotsReady};
+ghost use Rattle.pieces.specs.inner.Slots.{AllFollowed, Entered, SlotsFilled, Swept};
 ghost use Rattle.pieces.specs.Answer.{PiecesGiven};
 
 // The number of pieces, or the number of the refusal.
@@ -102,7 +102,7 @@ struct Entry {
 
 // Enters corner c: joins it to the corner that its row holds, or fills the row if a slot may be filled.
 fn enter(ids: &[u32], work: &mut [u32], odd: u32, limit: usize, spare: usize, c: usize) -> Entry
-    requires { ⌜ Ready (now ids) odd limit (now work) × (c < 3 * length (now work)) ⌝ }
+    requires { ⌜ SlotsReady (now ids) odd limit (now work) × (c < 3 * length (now work)) ⌝ }
     ensures { λ e. ⌜ Entered (now (ids .entry)) odd limit (length (now (work .entry))) spare c
         (now (work .entry)) (now (work .exit)) (e .entered) ⌝ }
 {
@@ -144,7 +144,7 @@ fn enter(ids: &[u32], work: &mut [u32], odd: u32, limit: usize, spare: usize, c:
 // Enters corners from `from` on, up to the first that finds no room: which one that is, or their number.
 fn fill(ids: &[u32], work: &mut [u32], odd: u32, limit: usize, from: usize) -> usize
     requires { ⌜ Emptied (now ids) limit (now work) × (from ≤ 3 * length (now work)) ⌝ }
-    ensures { λ next. ⌜ Filled (now (ids .entry)) odd limit (length (now (work .entry))) from next
+    ensures { λ next. ⌜ SlotsFilled (now (ids .entry)) odd limit (length (now (work .entry))) from next
         (now (work .entry)) (now (work .exit)) ⌝ }
 {
     let n = work.len();
@@ -163,7 +163,7 @@ fn fill(ids: &[u32], work: &mut [u32], odd: u32, limit: usize, from: usize) -> u
 
 // Joins each corner from `from` on to the corner that its row holds, if one does: it enters them with no slot to fill.
 fn follow(ids: &[u32], work: &mut [u32], odd: u32, limit: usize, from: usize)
-    requires { ⌜ Ready (now ids) odd limit (now work) ⌝ }
+    requires { ⌜ SlotsReady (now ids) odd limit (now work) ⌝ }
     ensures { λ _. ⌜ Grown (now (ids .entry)) (now (work .entry)) (now (work .exit))
         (AllFollowed (now (ids .entry)) (now (work .entry)) from) ⌝ }
 {

@@ -12,7 +12,7 @@ use Rattle.table.specs.inner.Rows.{Free}
 use Rattle.table.specs.inner.Table.{ups}
 use Rattle.table.proofs.Search.{has-free}
 use Rattle.table.proofs.Sums.{ups-le, uses-le}
-use Rattle.steps.specs.inner.Rows.{edgeAt, edgeWord, edgeUses, Within, EdgeRoom, EdgesFit, EdgesAdded}
+use Rattle.steps.specs.inner.Rows.{edgeAt, edgeWord, edgeUses, UsesWithin, EdgeRoom, EdgesFit, EdgesAdded}
 use Rattle.table.proofs.Counts.{Roomy}
 
 pub uses-append : (k : Edge) (es fs : List (Use Edge)) → uses sameEdge k (es ++ fs) ≡ uses sameEdge k es + uses sameEdge k fs
@@ -26,13 +26,13 @@ ups-append k [] fs = omega arith
 ups-append k (e ∷ es) fs = omega (arith, ups-append k es fs)
 
 -- no list uses an edge more often than it is long
-pub within-length : (m : ℕ) (es : List (Use Edge)) → length es ≤ m → Within m es
+pub within-length : (m : ℕ) (es : List (Use Edge)) → length es ≤ m → UsesWithin m es
 within-length m es l k = (omega (arith, ups-le sameEdge k es, uses-le sameEdge k es), omega (arith, uses-le sameEdge k es))
 
-pub within-le : (m o : ℕ) (es : List (Use Edge)) → m ≤ o → Within m es → Within o es
+pub within-le : (m o : ℕ) (es : List (Use Edge)) → m ≤ o → UsesWithin m es → UsesWithin o es
 within-le m o es l w k = (omega (arith, w k .0), omega (arith, w k .1))
 
-pub within-append : (m o : ℕ) (es fs : List (Use Edge)) → Within m es → Within o fs → Within (m + o) (es ++ fs)
+pub within-append : (m o : ℕ) (es fs : List (Use Edge)) → UsesWithin m es → UsesWithin o fs → UsesWithin (m + o) (es ++ fs)
 within-append m o es fs v w k =
     (omega (arith, ups-append k es fs, v k .0, w k .0), omega (arith, ups-append k es fs, uses-append k es fs, v k .1, w k .1))
 

@@ -7,10 +7,10 @@ use native.Mathlib.Omega.{arith}
 use lib.ListN.{length, getD, take, drop, length-drop}
 use lib.Seq.{length-take-le, length-front, take-at, drop-at}
 use Rattle.ids.specs.Lent.{cleared, mostEntries}
-use Rattle.table.specs.inner.Front.{Behind, InFront}
+use Rattle.table.specs.inner.Front.{IdsBehind, InFront}
 use Rattle.table.proofs.Cleared.{front-zero, behind-kept}
 
-module _ {at : ℕ} {w : List ℕ} (b : Behind at w) where
+module _ {at : ℕ} {w : List ℕ} (b : IdsBehind at w) where
   pub front-long : length (take at w) ≡ at
   front-long = length-take-le at w (b .inside)
 
@@ -20,7 +20,7 @@ module _ {at : ℕ} {w : List ℕ} (b : Behind at w) where
   pub ids-few : length (drop at w) ≤ mostEntries
   ids-few = rw length-drop (omega (arith, b .few))
 
-  pub behind-still : {w′ : List ℕ} → length w′ ≡ length w → Behind at w′
+  pub behind-still : {w′ : List ℕ} → length w′ ≡ length w → IdsBehind at w′
   behind-still e = record { inside = omega (arith, b .inside); few = omega (arith, b .few) }
 
   -- the front is written
@@ -44,8 +44,8 @@ front-then a b = record { long = b .long ∙ a .long; same = b .same ∙ a .same
 -- ---- Q and R are said of ids and of the table in front of them
 
 -- what is asked of both holds after a write in front
-pub asked-front : (Q : List ℕ → List ℕ → Type 0) {at : ℕ} {w u : List ℕ} → Behind at w → InFront at w u (Q (drop at w))
-    → Behind at u × Q (drop at u) (take at u)
+pub asked-front : (Q : List ℕ → List ℕ → Type 0) {at : ℕ} {w u : List ℕ} → IdsBehind at w → InFront at w u (Q (drop at w))
+    → IdsBehind at u × Q (drop at u) (take at u)
 asked-front Q b f = (behind-still b (f .long), rw (f .same) (f .front))
 
 -- and what a second write makes of both holds of the ids that were there at first

@@ -6,14 +6,14 @@ use native.Mathlib.Omega.{arith}
 use lib.ListN.{length, take, drop}
 use Rattle.ids.specs.Lent.{cleared}
 use Rattle.ids.specs.Triangles.{triangleCount}
-use Rattle.table.specs.inner.Front.{Behind, InFront}
+use Rattle.table.specs.inner.Front.{IdsBehind, InFront}
 use Rattle.table.proofs.Front.{front-long, ids-long, ids-few, behind-still, front-cleared}
 use Rattle.edges.specs.inner.Gather.{EdgesToCome}
 use Rattle.faces.specs.inner.Rows.{FacesToCome}
 use Rattle.edges.proofs.Tally as edge-tables
 use Rattle.faces.proofs.Rows as face-tables
 
-module _ {at : ℕ} {w : List ℕ} (b : Behind at w) (u : List ℕ) (same : length u ≡ length w) where
+module _ {at : ℕ} {w : List ℕ} (b : IdsBehind at w) (u : List ℕ) (same : length u ≡ length w) where
   -- 4 words an id are more than the rows take
   pub empty-edges : (n : ℕ) → 4 * (length w - at) ≤ at → n ≡ (length w - at) * 4 / 3 → u ≡ cleared (4 * (length w - at)) w
       → InFront at w u (EdgesToCome (drop at w) n)

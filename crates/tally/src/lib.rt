@@ -9,7 +9,7 @@ ghost use Rattle.ids.specs.Triangles.{triangleCount};
 ghost use Rattle.ids.specs.Lent.{mostEntries};
 ghost use Rattle.ids.specs.EdgeChain.{enough as enoughIds, chain, boundaryFree, overIncident};
 ghost use Rattle.ids.specs.FaceNet.{faces, maxAbs, allCancel};
-ghost use Rattle.table.specs.inner.Front.{Behind, InFront};
+ghost use Rattle.table.specs.inner.Front.{IdsBehind, InFront};
 ghost use Rattle.steps.specs.inner.Rows.{EdgeTable, EdgeRows};
 ghost use Rattle.edges.specs.inner.Gather.{EdgesToCome};
 ghost use Rattle.faces.specs.inner.Rows.{FaceTable, FaceRows};
@@ -64,7 +64,7 @@ pub fn tally_faces(part: &[u32], n: usize) -> Net
 
 // Adds the uses of the chain to an empty table: none unless there are enough ids.
 fn gather_chain_behind(area: &mut [u32], at: usize, n: usize)
-    requires { ⌜ Behind at (now area) × EdgesToCome (drop at (now area)) n (take at (now area)) ⌝ }
+    requires { ⌜ IdsBehind at (now area) × EdgesToCome (drop at (now area)) n (take at (now area)) ⌝ }
     ensures { λ _. ⌜ InFront at (now (area .entry)) (now (area .exit))
         (λ t. EdgeTable n t (chain (drop at (now (area .entry))))) ⌝ }
 {

@@ -25,8 +25,9 @@ loop-holds c = (omega arith, refl, refl, refl, omega arith, omega arith, omega a
 loop-again : tie.Need-loop-again Inv-loop μ-loop
 unfolding rowBit testOf
 loop-again c =
-    let t = c .before .before .before .before .before .before .before .args .work .now in
-    let l = c .before .before .before .before .before .loop in
+    let at = c .before .before .before .before .before in
+    let t = at .before .before .args .work .now in
+    let l = at .loop in
     let p : c .before .before .passes .result ≡ rowBit present t (l .i) = c .before .before .passes .ensures .0 in
     let u : c .before .passes2 .result ≡ rowBit unbalanced t (l .i) = c .before .passes2 .ensures .0 in
     let k : c .passes3 .result ≡ rowBit crowded t (l .i) = c .passes3 .ensures .0 in (

@@ -1,6 +1,6 @@
 -- `faces::add` meets its contract: from what the search found and what was written, by the law `adding`. Assumes nothing.
 use borrow.Author.Needs.{needs}
-use Rattle.faces.proofs.Adding.{Sought, seekable, bump-fits, adding}
+use Rattle.faces.proofs.Adding.{FaceSought, seekable, bump-fits, adding}
 use Rattle.faces.specs.declared.Sorted.{Sorted}
 use Rattle.faces.proofs.add.Statement.{statement}
 use Rattle.faces.proofs.add.Tie as tie
@@ -21,7 +21,7 @@ module _ (c : tie.After-weight) where
   abbrev ids : Sorted
   ids = hashed .before .sort .result
 
-  sought : Sought (st .args .ids .now) (st .args .n) (st .args .work .now) (st .args .t)
+  sought : FaceSought (st .args .ids .now) (st .args .n) (st .args .work .now) (st .args .t)
       (record { low = ids .low; mid = ids .mid; high = ids .high })
       (hashed .hash .result) (homed .home .result) (c .before .before .find .result) (c .weight .result)
   sought = record {

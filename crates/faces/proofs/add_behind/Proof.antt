@@ -5,7 +5,7 @@ use borrow.Rule.Slice.PartAt.{part-to-end}
 use borrow.Author.Needs.{needs}
 use lib.ListN.{take, drop}
 use Rattle.table.proofs.Front.{front-long, front-wrote}
-use Rattle.faces.proofs.Adding.{Sought, seekable, bump-fits, adding}
+use Rattle.faces.proofs.Adding.{FaceSought, seekable, bump-fits, adding}
 use Rattle.faces.specs.declared.Sorted.{Sorted}
 use Rattle.faces.proofs.add_behind.Statement.{statement}
 use Rattle.faces.proofs.add_behind.Tie as tie
@@ -43,7 +43,7 @@ module _ (c : tie.After-weight) where
   abbrev ids : Sorted
   ids = hashed .before .sort .result
 
-  sought : Sought (drop (st .args .at) (st .args .area .now)) (st .args .n) (take (st .args .at) (st .args .area .now)) (st .args .t)
+  sought : FaceSought (drop (st .args .at) (st .args .area .now)) (st .args .n) (take (st .args .at) (st .args .area .now)) (st .args .t)
       (record { low = ids .low; mid = ids .mid; high = ids .high })
       (hashed .hash .result) (found .before .before .home .result) (found .find-behind .result) (c .weight .result)
   sought =

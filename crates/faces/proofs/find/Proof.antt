@@ -1,6 +1,7 @@
 -- `faces::find` meets its contract, by the law of a turn: each row passed is used by another face. As some row is free, it ends. Assumes
 -- nothing.
-use mathlib.Core.Path.{sym, _∙_}
+use mathlib.Core.Path.{_≡_, sym, _∙_}
+use mathlib.Core.Bool.{false}
 use Prim.Native.Nat.{ℕ, _-_, _*_}
 use native.Mathlib.Omega.{arith}
 use borrow.Author.Needs.{needs}
@@ -40,28 +41,31 @@ module _ (c : tie.After-same Inv-loop μ-loop) where
   abbrev st : tie.Start Inv-loop μ-loop
   st = at .before .before .before
 
+  abbrev key : ℕ → Face
+  key = faceAt (st .args .ids .now) (st .args .work .now)
+
   abbrev sought : Face
   sought = record { low = st .args .low; mid = st .args .mid; high = st .args .high }
 
-on : (c : tie.Else2 Inv-loop μ-loop) → let s = c .before in
-    Onward (st s .args .n) (st s .args .start) (faceAt (st s .args .ids .now) (st s .args .work .now))
-    (faceUses (st s .args .work .now)) (sought s) (at s .loop .r)
-on c =
-    let s = c .before in
-    let other = same-ne sameFace face-refl _ (sought s) (sym (s .same .ensures) ∙ c .if2 .left) in
-    turn-on (at s .loop .inv) (used _ (omega (arith, s .before .before .if1 .left))) other (st s .pre .free)
+  told : sameFace (key (at .loop .r)) sought ≡ c .same .result
+  told = sym (c .same .ensures)
+
+  on : c .same .result ≡ false → Onward (st .args .n) (st .args .start) key (faceUses (st .args .work .now)) sought (at .loop .r)
+  on differs =
+      let other = same-ne sameFace face-refl (key (at .loop .r)) sought (told ∙ differs) in
+      turn-on (at .loop .inv) (used _ (omega (arith, c .before .before .if1 .left))) other (st .pre .free)
 
 loop-less : tie.Need-loop-less Inv-loop μ-loop
-loop-less c = rw (c .next .ensures) (on (c .before) .less)
+loop-less c = rw (c .next .ensures) (on (c .before .before) (c .before .if2 .left) .less)
 
 loop-again : tie.Need-loop-again Inv-loop μ-loop
-loop-again c = rw (c .next .ensures) (on (c .before) .next)
+loop-again c = rw (c .next .ensures) (on (c .before .before) (c .before .if2 .left) .next)
 
 returns : tie.Need-returns Inv-loop μ-loop
 returns c = turn-ends (c .before .before .loop .inv) (λ u. absurd (omega (arith, none-used _ (c .if1 .taken))))
 
 returns-2 : tie.Need-returns-2 Inv-loop μ-loop
-returns-2 c = let s = c .before in turn-ends (at s .loop .inv) (λ u. face-eq _ (sought s) (sym (s .same .ensures) ∙ c .if2 .taken))
+returns-2 c = let s = c .before in turn-ends (at s .loop .inv) (λ u. face-eq (key s (at s .loop .r)) (sought s) (told s ∙ c .if2 .taken))
 
 pub find-spec : {M : Type 1} → statement M
 find-spec =

@@ -5,7 +5,7 @@ use mathlib.Core.List.{List}
 use Prim.Native.Nat.{ℕ, _≤_, _<_, min, max}
 use lib.Dec.{eqb}
 use lib.ListN.{length}
-use Rattle.forest.specs.inner.Words.{parentIn, slotIn}
+use Rattle.forest.specs.inner.Words.{parentIn, heldIn}
 
 -- n triangles with the parents p are labelled by f: each by the root above it, and no parent is larger than its child
 pub record LabelledBy (n : ℕ) (p f : ℕ → ℕ) : Type 0 where
@@ -26,9 +26,9 @@ merged f a b x = cond (eqb (f x) (max (f a) (f b))) (min (f a) (f b)) (f x)
 pub record RootOf (t u : List ℕ) (x r : ℕ) : Type 0 where
   pub is : (f : ℕ → ℕ) → LabelledBy (length t) (parentIn t) f → r ≡ f x
   pub means : (f : ℕ → ℕ) → LabelledBy (length t) (parentIn t) f → LabelledBy (length t) (parentIn u) f
-  pub slots : (i : ℕ) → slotIn u i ≡ slotIn t i
+  pub slots : (i : ℕ) → heldIn u i ≡ heldIn t i
 
 -- after a and b were joined: their labels are one, and the slots are the same
 pub record Joined (t u : List ℕ) (a b : ℕ) : Type 0 where
   pub means : (f : ℕ → ℕ) → LabelledBy (length t) (parentIn t) f → LabelledBy (length t) (parentIn u) (merged f a b)
-  pub slots : (i : ℕ) → slotIn u i ≡ slotIn t i
+  pub slots : (i : ℕ) → heldIn u i ≡ heldIn t i

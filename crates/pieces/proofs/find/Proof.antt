@@ -7,14 +7,14 @@ use Prim.Native.Nat.{ℕ, _-_, _<_}
 use native.Mathlib.Omega.{arith}
 use borrow.Author.Needs.{needs}
 use lib.ListN.{length}
-use Rattle.forest.specs.inner.Words.{slotIn}
+use Rattle.forest.specs.inner.Words.{heldIn}
 use Rattle.pieces.specs.inner.Slots.{cornerKey, slotKey}
 use Rattle.pieces.proofs.Search.{Seeking, seek-first, seek-ends, seek-none, seek-on}
 use Rattle.pieces.proofs.find.Statement.{statement}
 use Rattle.pieces.proofs.find.Tie as tie
 
 abbrev Inv-loop : tie.InvT-loop
-Inv-loop ids work k at limit n r₀ left₀ r left = Seeking (length work) limit at (slotKey ids (slotIn work)) (slotIn work) k r left
+Inv-loop ids work k at limit n r₀ left₀ r left = Seeking (length work) limit at (slotKey ids (heldIn work)) (heldIn work) k r left
 
 abbrev μ-loop : tie.MeasureT-loop
 μ-loop ids work k at limit n r₀ left₀ r left = left
@@ -50,10 +50,10 @@ module _ (c : tie.Else2 Inv-loop μ-loop) where
   abbrev st : tie.Start Inv-loop μ-loop
   st = at .before .before .before
 
-  used : 0 < slotIn (st .args .work .now) (at .loop .r)
+  used : 0 < heldIn (st .args .work .now) (at .loop .r)
   used = omega (arith, slot .slot .ensures, c .before .before .if1 .left)
 
-  other : slotKey (st .args .ids .now) (slotIn (st .args .work .now)) (at .loop .r) ≢ st .args .k
+  other : slotKey (st .args .ids .now) (heldIn (st .args .work .now)) (at .loop .r) ≢ st .args .k
   other e = c .if2 .left (c .before .key .ensures ∙ ap (λ (x : ℕ). cornerKey (st .args .ids .now) (x - 1)) (slot .slot .ensures) ∙ e)
 
 returns-3 : tie.Need-returns-3 Inv-loop μ-loop

@@ -4,7 +4,7 @@ use Prim.Native.Nat.{ℕ, _-_, _*_}
 use native.Mathlib.Omega.{arith}
 use borrow.Author.Needs.{needs}
 use lib.ListN.{length}
-use Rattle.forest.specs.inner.Words.{slotIn}
+use Rattle.forest.specs.inner.Words.{heldIn}
 use Rattle.pieces.specs.inner.Joins.{Grown}
 use Rattle.pieces.specs.inner.Slots.{Slots, Followed, FollowedTo}
 use Rattle.pieces.proofs.Joins.{grown-none, grown-then, grown-map, labelled-then}
@@ -15,7 +15,7 @@ use Rattle.pieces.proofs.follow.Tie as tie
 
 abbrev Inv-loop : tie.InvT-loop
 Inv-loop ids work₀ odd limit from c₀ work c =
-    (length work ≡ length work₀) × Grown ids work₀ work (FollowedTo ids (length work₀) (slotIn work₀) from c)
+    (length work ≡ length work₀) × Grown ids work₀ work (FollowedTo ids (length work₀) (heldIn work₀) from c)
 
 abbrev μ-loop : tie.MeasureT-loop
 μ-loop ids work₀ odd limit from c₀ work c = 3 * length work₀ - c
@@ -53,7 +53,7 @@ loop-again c =
     let w = looked-up (rw (l .inv .0) at (enter .ensures)) in
     let n = along (λ (o : ℕ → ℕ). Grown ids (l .work) (enter .last .1 .0) (Followed ids (length t) o (l .c))) (l .work) t
     (λ i. sym (g .slots i)) w in
-    (omega (arith, enter .kept, l .inv .0), grown-then g n (followed-next ids (length t) (slotIn t) (st .args .from) (l .c)))
+    (omega (arith, enter .kept, l .inv .0), grown-then g n (followed-next ids (length t) (heldIn t) (st .args .from) (l .c)))
 
 returns : tie.Need-returns Inv-loop μ-loop
 returns c = grown-map (c .before .loop .inv .1) (λ g p i la lb. p i la (omega arith))

@@ -8,7 +8,7 @@ use lib.Dec.{eqb}
 use lib.ListN.{length}
 use Rattle.ids.specs.Triangles.{Triangle, triangle, triangleCount}
 use Rattle.table.specs.inner.Words.{Lends}
-use Rattle.forest.specs.inner.Words.{parentIn, slotIn}
+use Rattle.forest.specs.inner.Words.{parentIn, heldIn}
 use Rattle.forest.specs.inner.Labels.{LabelledBy}
 use Rattle.ids.specs.Pieces.{solid, shareId}
 
@@ -47,7 +47,7 @@ pub record More (ids u : List ℕ) (f : ℕ → ℕ) (Q : (ℕ → ℕ) → Type
 
 -- what a routine that only joins does from t to u: the slots stay, and Q holds of the labels behind it
 pub record Grown (ids t u : List ℕ) (Q : (ℕ → ℕ) → Type 0) : Type 0 where
-  pub slots : (i : ℕ) → slotIn u i ≡ slotIn t i
+  pub slots : (i : ℕ) → heldIn u i ≡ heldIn t i
   pub more : (f : ℕ → ℕ) → Good ids t f → More ids u f Q
 
 -- when all is joined: labels that are as coarse as the joins ask, and no coarser

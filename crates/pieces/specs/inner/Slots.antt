@@ -7,7 +7,7 @@ use mathlib.Core.List.{List}
 use Prim.Native.Nat.{ℕ, _-_, _*_, _/_, _%_, _≤_, _<_}
 use lib.ListN.{length, getD}
 use Rattle.table.specs.inner.Rows.{homeRow, dist, Found, Spread}
-use Rattle.forest.specs.inner.Words.{slotIn}
+use Rattle.forest.specs.inner.Words.{heldIn}
 use Rattle.ids.specs.Pieces.{solid}
 use Rattle.pieces.specs.inner.Joins.{OneWordEach, Labelled, Good, More}
 
@@ -43,7 +43,7 @@ pub record Sought (n limit at : ℕ) (key mark : ℕ → ℕ) (k r : ℕ) : Type
 
 -- the same of the slots in t, and for corner c
 abbrev pub SoughtIn : List ℕ → List ℕ → ℕ → ℕ → ℕ → ℕ → Type 0
-SoughtIn ids t limit at k r = Sought (length t) limit at (slotKey ids (slotIn t)) (slotIn t) k r
+SoughtIn ids t limit at k r = Sought (length t) limit at (slotKey ids (heldIn t)) (heldIn t) k r
 
 abbrev pub SoughtFor : List ℕ → List ℕ → ℕ → ℕ → ℕ → ℕ → Type 0
 SoughtFor ids t odd limit c r = SoughtIn ids t limit (cornerHome odd (length t) (cornerKey ids c)) (cornerKey ids c) r
@@ -52,7 +52,7 @@ SoughtFor ids t odd limit c r = SoughtIn ids t limit (cornerHome odd (length t) 
 pub record Seekable (ids : List ℕ) (limit : ℕ) (t : List ℕ) : Type 0 where
   pub sized : OneWordEach ids t
   pub limited : Limited limit (length t)
-  pub corners : Corners (length t) (slotIn t)
+  pub corners : Corners (length t) (heldIn t)
 
 -- n slots as a pass keeps them: a search finds each key, within the limit, and they hold corners of distinct-id triangles
 pub record Slots (ids : List ℕ) (odd limit n : ℕ) (s : ℕ → ℕ) : Type 0 where
@@ -65,13 +65,13 @@ pub record Slots (ids : List ℕ) (odd limit n : ℕ) (s : ℕ → ℕ) : Type 0
 pub record Emptied (ids : List ℕ) (limit : ℕ) (t : List ℕ) : Type 0 where
   pub sized : OneWordEach ids t
   pub limited : Limited limit (length t)
-  pub free : AllFree (length t) (slotIn t)
+  pub free : AllFree (length t) (heldIn t)
   pub labelled : Labelled ids t
 
-pub record Ready (ids : List ℕ) (odd limit : ℕ) (t : List ℕ) : Type 0 where
+pub record SlotsReady (ids : List ℕ) (odd limit : ℕ) (t : List ℕ) : Type 0 where
   pub sized : OneWordEach ids t
   pub limited : Limited limit (length t)
-  pub slots : Slots ids odd limit (length t) (slotIn t)
+  pub slots : Slots ids odd limit (length t) (heldIn t)
   pub labelled : Labelled ids t
 
 -- some row holds corner i's key, and the row's corner and corner i have one label
@@ -79,8 +79,8 @@ abbrev pub Has : List ℕ → ℕ → (ℕ → ℕ) → (ℕ → ℕ) → ℕ �
 Has ids n s f i = (r : ℕ) × (r < n) × (0 < s r) × (slotKey ids s r ≡ cornerKey ids i) × (f ((s r - 1) / 3) ≡ f (i / 3))
 
 -- this is so for each corner of a distinct-id triangle from a on below b
-abbrev pub Covered : List ℕ → ℕ → (ℕ → ℕ) → (ℕ → ℕ) → ℕ → ℕ → Type 0
-Covered ids n s f a b = (i : ℕ) → a ≤ i → i < b → solid ids (i / 3) ≡ true → Has ids n s f i
+abbrev pub CornersCovered : List ℕ → ℕ → (ℕ → ℕ) → (ℕ → ℕ) → ℕ → ℕ → Type 0
+CornersCovered ids n s f a b = (i : ℕ) → a ≤ i → i < b → solid ids (i / 3) ≡ true → Has ids n s f i
 
 -- whichever row holds corner i's key, the row's corner and corner i have one label
 abbrev pub Followed : List ℕ → ℕ → (ℕ → ℕ) → ℕ → (ℕ → ℕ) → Type 0
@@ -93,31 +93,31 @@ FollowedTo ids n s a b g = (i : ℕ) → a ≤ i → i < b → Followed ids n s 
 
 -- and for each from a on, with the slots in t
 abbrev pub AllFollowed : List ℕ → List ℕ → ℕ → (ℕ → ℕ) → Type 0
-AllFollowed ids t a g = FollowedTo ids (length t) (slotIn t) a (3 * length t) g
+AllFollowed ids t a g = FollowedTo ids (length t) (heldIn t) a (3 * length t) g
 
 -- what trying to enter corner c does, from t to u with n slots, and whether it is entered
 pub record Entered (ids : List ℕ) (odd limit n spare c : ℕ) (t u : List ℕ) (entered : Bool) : Type 0 where
-  pub slots : Slots ids odd limit n (slotIn u)
+  pub slots : Slots ids odd limit n (heldIn u)
   -- a slot in use stays
-  pub rows : (r : ℕ) → r < n → 0 < slotIn t r → slotIn u r ≡ slotIn t r
+  pub rows : (r : ℕ) → r < n → 0 < heldIn t r → heldIn u r ≡ heldIn t r
   -- with none to spare, all stay
-  pub same : spare ≡ 0 → (i : ℕ) → slotIn u i ≡ slotIn t i
+  pub same : spare ≡ 0 → (i : ℕ) → heldIn u i ≡ heldIn t i
   -- where c is entered a row holds its key; entered or not, c has one label with the row that held its key before
   pub more : (f : ℕ → ℕ) → Good ids t f
-      → More ids u f (λ g. (entered ≡ true → solid ids (c / 3) ≡ true → Has ids n (slotIn u) g c) × Followed ids n (slotIn t) c g)
+      → More ids u f (λ g. (entered ≡ true → solid ids (c / 3) ≡ true → Has ids n (heldIn u) g c) × Followed ids n (heldIn t) c g)
   -- the first corner is entered
-  pub fresh : AllFree n (slotIn t) → 0 < spare → entered ≡ true
+  pub fresh : AllFree n (heldIn t) → 0 < spare → entered ≡ true
 
 -- what entering the corners from `from` on below `next` does
-pub record Filled (ids : List ℕ) (odd limit n from next : ℕ) (t u : List ℕ) : Type 0 where
+pub record SlotsFilled (ids : List ℕ) (odd limit n from next : ℕ) (t u : List ℕ) : Type 0 where
   pub within : next ≤ 3 * n
   pub ahead : from < 3 * n → from < next
-  pub slots : Slots ids odd limit n (slotIn u)
-  pub more : (f : ℕ → ℕ) → Good ids t f → More ids u f (λ g. Covered ids n (slotIn u) g from next)
+  pub slots : Slots ids odd limit n (heldIn u)
+  pub more : (f : ℕ → ℕ) → Good ids t f → More ids u f (λ g. CornersCovered ids n (heldIn u) g from next)
 
 -- each corner from a on below b has one label with all corners behind it that have its key, where both triangles have distinct ids
-abbrev pub Settled : List ℕ → ℕ → ℕ → ℕ → (ℕ → ℕ) → Type 0
-Settled ids n a b f =
+abbrev pub CornersSettled : List ℕ → ℕ → ℕ → ℕ → (ℕ → ℕ) → Type 0
+CornersSettled ids n a b f =
     (i j : ℕ) → a ≤ i → i < b → i ≤ j → j < 3 * n → solid ids (i / 3) ≡ true → solid ids (j / 3) ≡ true → cornerKey ids i ≡ cornerKey ids j
     → f (i / 3) ≡ f (j / 3)
 
@@ -125,4 +125,4 @@ Settled ids n a b f =
 pub record Swept (ids : List ℕ) (n from next : ℕ) (t u : List ℕ) : Type 0 where
   pub within : next ≤ 3 * n
   pub ahead : from < next
-  pub more : (f : ℕ → ℕ) → Good ids t f → More ids u f (Settled ids n from next)
+  pub more : (f : ℕ → ℕ) → Good ids t f → More ids u f (CornersSettled ids n from next)

@@ -52,14 +52,14 @@ pub record EdgesAdded (n : ℕ) (t u : List ℕ) (fs : List (Use Edge)) : Type 0
   pub adds : (es : List (Use Edge)) → EdgeTable n t es → EdgeTable n u (es ++ fs)
 
 -- each edge has at most m uses upwards and at most m downwards
-abbrev pub Within : ℕ → List (Use Edge) → Type 0
-Within m es = (k : Edge) → (ups sameEdge k es ≤ m) × (uses sameEdge k es ≤ ups sameEdge k es + m)
+abbrev pub UsesWithin : ℕ → List (Use Edge) → Type 0
+UsesWithin m es = (k : Edge) → (ups sameEdge k es ≤ m) × (uses sameEdge k es ≤ ups sameEdge k es + m)
 
 -- the words mean some uses, and there is room for m more: rows for them, and words that can count them
 pub record EdgeRoom (n : ℕ) (t : List ℕ) (m : ℕ) : Type 0 where
   pub so-far : List (Use Edge)
   pub rows-left : length so-far + m ≤ n
-  pub counts-left : Within (65535 - m) so-far
+  pub counts-left : UsesWithin (65535 - m) so-far
   pub means : EdgeTable n t so-far
 
 -- and so many rows stand in the words

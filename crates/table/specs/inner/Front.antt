@@ -6,7 +6,7 @@ use Prim.Native.Nat.{ℕ, _+_, _≤_}
 use lib.ListN.{length, take, drop}
 use Rattle.ids.specs.Lent.{mostEntries}
 
-pub record Behind (at : ℕ) (w : List ℕ) : Type 0 where
+pub record IdsBehind (at : ℕ) (w : List ℕ) : Type 0 where
   pub inside : at ≤ length w
   pub few : length w ≤ at + mostEntries
 

@@ -5,7 +5,7 @@ use native.Mathlib.Omega.{arith}
 use borrow.Author.Needs.{needs}
 use lib.ListN.{length, take, drop, length-drop}
 use Rattle.ids.specs.FaceNet.{faces}
-use Rattle.table.specs.inner.Front.{Behind, InFront}
+use Rattle.table.specs.inner.Front.{IdsBehind, InFront}
 use Rattle.table.proofs.Front.{front-long, behind-still, asked-front, made-front}
 use Rattle.faces.specs.inner.Rows.{FaceTable, FacesToCome}
 use Rattle.tally.proofs.Behind.{empty-faces}
@@ -27,7 +27,7 @@ module _ (c : tie.After-clear) where
   abbrev st : tie.Start
   st = c .before .before .before
 
-  behind : Behind (st .args .at) (st .args .area .now)
+  behind : IdsBehind (st .args .at) (st .args .area .now)
   behind = record { inside = st .pre .0; few = st .pre .1 }
 
   emptied : InFront (st .args .at) (st .args .area .now) (c .clear .last .0)

@@ -4,6 +4,6 @@ use Rattle.ids.specs.Lent.{mostEntries}
 use Rattle.chain.specs.declared.FaceNet.{FaceNet}
 use Rattle.chain.specs.declared.FaceNet.the-variants.{Answer, Refused}
 
-unfoldable pub Small : FaceNet → Type 0
-Small (Answer said) = said .«max_abs» ≤ mostEntries
-Small (Refused n) = Unit {0}
+unfoldable pub NetSmall : FaceNet → Type 0
+NetSmall (Answer said) = said .«max_abs» ≤ mostEntries
+NetSmall (Refused n) = Unit {0}

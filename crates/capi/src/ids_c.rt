@@ -1,7 +1,8 @@
 // The id routines under the names of the C interface: each is the routine of `chain` or `pieces`, and its answer as a number.
 ghost use mathlib.Core.Path.{_≡_};
-ghost use Rattle.chain.specs.Numbers.{edgeChainNumber, faceNetNumber, verdictNumber, Small};
+ghost use Rattle.chain.specs.Numbers.{edgeChainNumber, faceNetNumber, verdictNumber};
 ghost use Rattle.chain.specs.Numbers.{EdgeChainNumbered, FaceNetNumbered, ClosedManifoldNumbered, WindingCoherentNumbered};
+ghost use Rattle.chain.specs.inner.NetSmall.{NetSmall};
 ghost use Rattle.pieces.specs.Numbers.{pieceCountNumber, PiecesNumbered};
 use chain::EdgeChain;
 use chain::FaceNet;
@@ -23,7 +24,7 @@ fn edge_chain_number(answer: EdgeChain) -> u32
 }
 
 fn face_net_number(answer: FaceNet) -> u32
-    requires { ⌜ Small answer ⌝ }
+    requires { ⌜ NetSmall answer ⌝ }
     ensures { λ r. ⌜ r ≡ faceNetNumber answer ⌝ }
 {
     match answer {

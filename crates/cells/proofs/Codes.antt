@@ -7,7 +7,7 @@ use borrow.Author.Tests.{eqb-true, eq-eqb}
 use lib.Dec.{eqb}
 use lib.IntN.{ℤ, pos, negsuc}
 use Rattle.ids.proofs.Same.{three-eq, three-refl, eqb-refl}
-use Rattle.table.specs.Rows.{homeRow, Found}
+use Rattle.table.specs.inner.Rows.{homeRow, Found}
 use Rattle.table.proofs.Search.{home-below}
 use Rattle.cells.specs.declared.Code.{Code}
 use Rattle.cells.specs.Cells.{Cell, sameCell}

@@ -10,7 +10,7 @@ use lib.IntN.{ℤ, pos, negsuc}
 use lib.ListN.{getD}
 use lib.Ieee.{Float}
 use Rattle.ids.specs.Uses.{bit}
-use Rattle.table.specs.Rows.{homeRow, sumTo, Free, Spread}
+use Rattle.table.specs.inner.Rows.{homeRow, sumTo, Free, Spread}
 use Rattle.cells.specs.declared.Code.{Code}
 use Rattle.cells.specs.Cells.{Cell, cellAt, named}
 

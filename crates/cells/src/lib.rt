@@ -2,7 +2,7 @@
 ghost use mathlib.Core.Path.{_≡_};
 ghost use Prim.Native.Nat.{_+_, _-_, _*_, _/_, _%_, _^_, _≤_, _<_, min};
 ghost use lib.ListN.{length, getD, set};
-ghost use Rattle.table.specs.Rows.{Found};
+ghost use Rattle.table.specs.inner.Rows.{Found};
 ghost use Rattle.vertices.specs.Vertices.{vertexCount};
 ghost use Rattle.cells.specs.Cells.{cellOf};
 ghost use Rattle.cells.specs.Table.{coded as codedOf, codeAt, sameCode, pair as pairOf, stored, slotIn, keyIn, hashOf, Searchable, Claimed, Welds};

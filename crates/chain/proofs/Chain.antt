@@ -1,16 +1,37 @@
--- The part that is lent, cleared, is an empty table of edges. Assumes nothing.
+-- The part that is lent, cleared, is an empty table of edges, or of faces, with the rows that the ids need. Assumes nothing.
 use mathlib.Core.Path.{_≡_}
-use mathlib.Core.List.{List, []}
-use Prim.Native.Nat.{ℕ, _*_, _/_, _≤_}
+use mathlib.Core.List.{List}
+use Prim.Native.Nat.{ℕ, _*_, _/_}
 use native.Mathlib.Omega.{arith}
 use lib.ListN.{length}
+use Rattle.ids.specs.Triangles.{triangleCount}
 use Rattle.ids.specs.Lent.{cleared}
 use Rattle.ids.proofs.Lent.{cleared-all}
-use Rattle.steps.specs.Rows.{EdgeTable}
-use Rattle.edges.proofs.Tally.{zero-table}
+use Rattle.table.specs.inner.Words.{Lends}
+use Rattle.edges.specs.inner.Gather.{EdgesToCome}
+use Rattle.faces.specs.inner.Rows.{FacesToCome}
+use Rattle.edges.proofs.Tally as edge-tables
+use Rattle.faces.proofs.Rows as face-tables
 
--- the part, cleared, is a table with no use, and has the rows that the ids need
-pub emptied : (i n : ℕ) (t u : List ℕ) → i ≤ 98304 → length t ≡ 4 * i → n ≡ i * 4 / 3 → u ≡ cleared (4 * i) t → length u ≡ length t
-    → (i ≤ 98304) × (i ≤ n) × (n ≤ 131072) × (3 * n ≤ length u) × EdgeTable n u []
-emptied i n t u few long rows is kept =
-    (few, omega arith, omega arith, omega arith, rw (is, cleared-all (4 * i) t long) (zero-table n (4 * i) (omega arith)))
+module _ (ids t u : List ℕ) (long : length u ≡ length t) where
+  pub emptied-edges : (n : ℕ) → Lends (4 * length ids) ids t → n ≡ length ids * 4 / 3 → u ≡ cleared (4 * length ids) t → EdgesToCome ids n u
+  emptied-edges n lent rows is =
+      let m : ℕ = 4 * length ids in
+      record {
+        few = lent .few;
+        rows = omega arith;
+        space = record { most = omega (arith, lent .few); fits = omega (arith, lent .long) };
+        empty = rw (is, cleared-all m t (lent .long)) (edge-tables.zero-table n m (omega arith));
+      }
+
+  pub emptied-faces : Lends (4 * triangleCount ids) ids t → u ≡ cleared (4 * triangleCount ids) t
+      → FacesToCome ids (2 * triangleCount ids) u
+  emptied-faces lent is =
+      let m : ℕ = 4 * triangleCount ids in
+      record {
+        few = lent .few;
+        rows = omega arith;
+        space = record { most = omega (arith, lent .few); fits = omega (arith, lent .long) };
+        empty =
+            rw (is, cleared-all m t (lent .long)) (face-tables.zero-table ids (2 * triangleCount ids) m (omega arith) (λ l. omega arith));
+      }

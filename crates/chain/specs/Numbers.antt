@@ -1,5 +1,5 @@
 -- The number of each answer, as the C interface has it. A refusal n is 2^31 + n.
-use Prim.Native.Nat.{ℕ, _+_, _*_, _≤_}
+use Prim.Native.Nat.{ℕ, _+_, _*_}
 use mathlib.Core.Bool.{Bool}
 use mathlib.Core.List.{List}
 use lib.ListN.{length}
@@ -27,23 +27,20 @@ unfoldable pub verdictNumber : Verdict → ℕ
 verdictNumber (verdict.Answer b) = bit b
 verdictNumber (verdict.Refused n) = 2147483648 + n
 
--- a largest magnitude that leaves room for the number
-unfoldable pub Small : FaceNet → Type 0
-Small (face-net.Answer said) = said .«max_abs» ≤ 98304
-Small (face-net.Refused n) = Unit {0}
-
 -- ---- the contracts of the C forms: the same routines, their answers as numbers
 
 abbrev pub EdgeChainNumbered : List ℕ → List ℕ → ℕ → List ℕ → Type 0
 EdgeChainNumbered ids area r after =
-    Gives (4 * length ids) (λ n. edgeChainNumber (edge-chain.Refused n)) (edgeChainNumber (edge-chain.Answer (incidenceOf ids))) ids area r after
+    Gives (4 * length ids) (λ n. edgeChainNumber (edge-chain.Refused n))
+    (edgeChainNumber (edge-chain.Answer (incidenceOf ids))) ids area r after
 
 abbrev pub FaceNetNumbered : List ℕ → List ℕ → ℕ → List ℕ → Type 0
 FaceNetNumbered ids area r after =
     Gives (4 * triangleCount ids) (λ n. faceNetNumber (face-net.Refused n)) (faceNetNumber (face-net.Answer (netOf ids))) ids area r after
 
 abbrev pub VerdictNumbered : (List ℕ → Bool) → List ℕ → List ℕ → ℕ → List ℕ → Type 0
-VerdictNumbered holds ids area r after = Gives (4 * length ids) (λ n. verdictNumber (verdict.Refused n)) (verdictNumber (verdict.Answer (holds ids))) ids area r after
+VerdictNumbered holds ids area r after =
+    Gives (4 * length ids) (λ n. verdictNumber (verdict.Refused n)) (verdictNumber (verdict.Answer (holds ids))) ids area r after
 
 abbrev pub ClosedManifoldNumbered : List ℕ → List ℕ → ℕ → List ℕ → Type 0
 ClosedManifoldNumbered = VerdictNumbered closedManifold

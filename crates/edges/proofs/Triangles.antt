@@ -1,4 +1,5 @@
--- The uses that one triangle makes: at most three, and of no edge two in one direction. So one triangle raises the bound on an edge's uses each way by one. Assumes nothing.
+-- The uses that one triangle makes: at most three, and of no edge two in one direction. So one triangle raises the bound on an edge's
+-- uses each way by one. Assumes nothing.
 use mathlib.Core.Path.{_≡_, refl, sym, ap, _∙_}
 use mathlib.Core.Logic.{_≢_}
 use mathlib.Core.Bool.{Bool, true, false, _&&_, true≢false}
@@ -12,10 +13,10 @@ use lib.ListN.{length, length-append}
 use Rattle.ids.specs.Triangles.{Triangle, distinct}
 use Rattle.ids.specs.Uses.{Use, uses, bit}
 use Rattle.ids.specs.EdgeChain.{Edge, sameEdge, step, around, properStep, aroundProper}
-use Rattle.table.specs.Table.{ups}
+use Rattle.table.specs.inner.Table.{ups}
 use Rattle.ids.proofs.Triangles.{repeats-ab, repeats-bc, repeats-ca, repeats-none}
-use Rattle.steps.specs.Rows.{Within}
-use Rattle.edges.specs.Tests.{edgesOf}
+use Rattle.steps.specs.inner.Rows.{UsesWithin}
+use Rattle.edges.specs.inner.Tests.{edgesOf}
 use Rattle.ids.proofs.Same.{edge-eq}
 use Rattle.steps.proofs.Within.{uses-append, ups-append, within-length}
 
@@ -36,7 +37,7 @@ module _ (u v : ℕ) where
 -- ---- two steps, one after the other
 
 -- two uses that are not of one edge in one direction
-pair-within : (x y : Use Edge) → (x .up ≡ y .up → x .key ≢ y .key) → Within 1 (x ∷ y ∷ [])
+pair-within : (x y : Use Edge) → (x .up ≡ y .up → x .key ≢ y .key) → UsesWithin 1 (x ∷ y ∷ [])
 unfolding uses ups bit
 pair-within x y apart k = go (sameEdge k (x .key)) (sameEdge k (y .key)) (x .up) (y .up) refl refl refl refl
   where
@@ -62,10 +63,11 @@ module _ (u v w : ℕ) where
   ]
     where
       back : u ≡ w
-      back = let a : min u v ≡ min v w = ap (λ (z : Edge). z .low) e in let b : max u v ≡ max v w = ap (λ (z : Edge). z .high) e in omega arith
+      back =
+          let a : min u v ≡ min v w = ap (λ (z : Edge). z .low) e in let b : max u v ≡ max v w = ap (λ (z : Edge). z .high) e in omega arith
 
   -- two steps, one after the other, use no edge twice in one direction
-  two-steps : Within 1 (properStep u v ++ properStep v w)
+  two-steps : UsesWithin 1 (properStep u v ++ properStep v w)
   unfolding step
   two-steps = elim (ℕ-discrete u v) [
     | yes e ↦ rw (step-level u v e) (within-length 1 (properStep v w) (step-length v w))
@@ -78,7 +80,7 @@ module _ (u v w : ℕ) where
 -- ---- the three steps round a triangle
 
 -- any two of them stand one after the other
-proper-within : (t : Triangle) → Within 1 (aroundProper t)
+proper-within : (t : Triangle) → UsesWithin 1 (aroundProper t)
 unfolding aroundProper
 proper-within t k =
     let ab : List (Use Edge) = properStep (t .a) (t .b) in
@@ -111,9 +113,12 @@ pub around-all : (t : Triangle) → distinct t ≡ true → around t ≡ step (t
 unfolding around
 around-all t e = rw e
 
-around-proper : (a b c : ℕ) → a ≢ b → b ≢ c → c ≢ a → around (record { a = a; b = b; c = c }) ≡ aroundProper (record { a = a; b = b; c = c })
+around-proper : (a b c : ℕ) → a ≢ b → b ≢ c → c ≢ a
+    → around (record { a = a; b = b; c = c }) ≡ aroundProper (record { a = a; b = b; c = c })
 unfolding aroundProper
-around-proper a b c n o p = around-all (record { a = a; b = b; c = c }) (repeats-none a b c n o p) ∙ sym (rw (step-proper a b n, step-proper b c o, step-proper c a p))
+around-proper a b c n o p =
+    around-all (record { a = a; b = b; c = c }) (repeats-none a b c n o p)
+    ∙ sym (rw (step-proper a b n, step-proper b c o, step-proper c a p))
 
 -- a triangle makes no use, or just those of its steps between distinct ids
 none-or-proper : (P : List (Use Edge) → Type 0) (t : Triangle) → P [] → P (aroundProper t) → P (around t)
@@ -131,9 +136,9 @@ none-or-proper P t none all =
 
 -- ---- one triangle, either way of dropping
 
-pub triangle-within : (whole : Bool) (t : Triangle) → Within 1 (edgesOf whole t)
+pub triangle-within : (whole : Bool) (t : Triangle) → UsesWithin 1 (edgesOf whole t)
 unfolding edgesOf
-triangle-within true t = none-or-proper (Within 1) t (within-length 1 [] (omega arith)) (proper-within t)
+triangle-within true t = none-or-proper (UsesWithin 1) t (within-length 1 [] (omega arith)) (proper-within t)
 triangle-within false t = proper-within t
 
 pub triangle-length : (whole : Bool) (t : Triangle) → length (edgesOf whole t) ≤ 3

@@ -1,24 +1,26 @@
 // The edges of the triangles of a list of ids, counted in a table in lent words. Internal: `chain` and `tally` ask it.
 ghost use mathlib.Core.Path.{_≡_};
 ghost use mathlib.Core.Bool.{true};
-ghost use mathlib.Core.List.{List, [], _++_};
-ghost use Prim.Native.Nat.{_+_, _-_, _*_, _/_, _≤_};
-ghost use lib.ListN.{length, take, drop};
+ghost use Prim.Native.Nat.{_+_, _*_, _/_, _≤_};
+ghost use lib.ListN.{take, drop};
 ghost use Rattle.ids.specs.Triangles.{overTriangles};
-ghost use Rattle.ids.specs.Uses.{Use, bit};
-ghost use Rattle.ids.specs.EdgeChain.{Edge, properStep, around, aroundProper, present, unbalanced, crowded, unpaired, incoherent};
-ghost use Rattle.table.specs.Rows.{sumTo};
-ghost use Rattle.table.specs.Counts.{usesIn, upsIn, magnitude};
-ghost use Rattle.table.specs.Table.{gate};
-ghost use Rattle.steps.specs.Rows.{EdgeTable, Room};
-ghost use Rattle.edges.specs.Tests.{testOf, edgesOf, rowBit};
+ghost use Rattle.ids.specs.Uses.{bit};
+ghost use Rattle.ids.specs.Lent.{mostEntries};
+ghost use Rattle.ids.specs.EdgeChain.{properStep, around, aroundProper, present, unbalanced, crowded, unpaired, incoherent};
+ghost use Rattle.table.specs.inner.Rows.{sumTo};
+ghost use Rattle.table.specs.inner.Counts.{usesIn, upsIn, sumSize};
+ghost use Rattle.table.specs.inner.Table.{gate};
+ghost use Rattle.table.specs.inner.Front.{IdsBehind, InFront};
+ghost use Rattle.steps.specs.inner.Rows.{EdgeTable, EdgeRows, EdgesFit, EdgesAdded};
+ghost use Rattle.edges.specs.inner.Tests.{testOf, edgesOf, rowBit};
+ghost use Rattle.edges.specs.inner.Gather.{EdgesToCome};
 
 // ---- one triangle
 
 // Adds the uses that one triangle makes: none if it repeats an id.
 fn triangle(work: &mut [u32], n: usize, a: u32, b: u32, c: u32)
-    requires { ⌜ (n ≤ 131072) × (3 * n ≤ length (now work)) × Room n (now work) 3 ⌝ }
-    ensures { λ _. ⌜ ((es : List (Use Edge)) → EdgeTable n (now (work .entry)) es → EdgeTable n (now (work .exit)) (es ++ around (record { a = a; b = b; c = c }))) ⌝ }
+    requires { ⌜ EdgesFit n 3 (now work) ⌝ }
+    ensures { λ _. ⌜ EdgesAdded n (now (work .entry)) (now (work .exit)) (around (record { a = a; b = b; c = c })) ⌝ }
 {
     if !table::distinct(a, b, c) {
         return;
@@ -30,8 +32,8 @@ fn triangle(work: &mut [u32], n: usize, a: u32, b: u32, c: u32)
 
 // Adds the use that a step makes: none between equal ids.
 fn proper_step(work: &mut [u32], n: usize, u: u32, v: u32)
-    requires { ⌜ (n ≤ 131072) × (3 * n ≤ length (now work)) × Room n (now work) 1 ⌝ }
-    ensures { λ _. ⌜ ((es : List (Use Edge)) → EdgeTable n (now (work .entry)) es → EdgeTable n (now (work .exit)) (es ++ properStep u v)) ⌝ }
+    requires { ⌜ EdgesFit n 1 (now work) ⌝ }
+    ensures { λ _. ⌜ EdgesAdded n (now (work .entry)) (now (work .exit)) (properStep u v) ⌝ }
 {
     if u == v {
         return;
@@ -41,8 +43,8 @@ fn proper_step(work: &mut [u32], n: usize, u: u32, v: u32)
 
 // Adds the uses of one triangle, but those between equal ids.
 fn proper_triangle(work: &mut [u32], n: usize, a: u32, b: u32, c: u32)
-    requires { ⌜ (n ≤ 131072) × (3 * n ≤ length (now work)) × Room n (now work) 3 ⌝ }
-    ensures { λ _. ⌜ ((es : List (Use Edge)) → EdgeTable n (now (work .entry)) es → EdgeTable n (now (work .exit)) (es ++ aroundProper (record { a = a; b = b; c = c }))) ⌝ }
+    requires { ⌜ EdgesFit n 3 (now work) ⌝ }
+    ensures { λ _. ⌜ EdgesAdded n (now (work .entry)) (now (work .exit)) (aroundProper (record { a = a; b = b; c = c })) ⌝ }
 {
     proper_step(work, n, a, b);
     proper_step(work, n, b, c);
@@ -51,8 +53,8 @@ fn proper_triangle(work: &mut [u32], n: usize, a: u32, b: u32, c: u32)
 
 // One or the other.
 fn triangle_by(work: &mut [u32], n: usize, whole: bool, a: u32, b: u32, c: u32)
-    requires { ⌜ (n ≤ 131072) × (3 * n ≤ length (now work)) × Room n (now work) 3 ⌝ }
-    ensures { λ _. ⌜ ((es : List (Use Edge)) → EdgeTable n (now (work .entry)) es → EdgeTable n (now (work .exit)) (es ++ edgesOf whole (record { a = a; b = b; c = c }))) ⌝ }
+    requires { ⌜ EdgesFit n 3 (now work) ⌝ }
+    ensures { λ _. ⌜ EdgesAdded n (now (work .entry)) (now (work .exit)) (edgesOf whole (record { a = a; b = b; c = c })) ⌝ }
 {
     if whole {
         triangle(work, n, a, b, c);
@@ -65,7 +67,7 @@ fn triangle_by(work: &mut [u32], n: usize, whole: bool, a: u32, b: u32, c: u32)
 
 // How many rows there are for so many ids: 4 for 3, so 131,072 at most.
 pub fn rows(ids: usize) -> usize
-    requires { ⌜ ids ≤ 98304 ⌝ }
+    requires { ⌜ ids ≤ mostEntries ⌝ }
     ensures { λ r. ⌜ r ≡ ids * 4 / 3 ⌝ }
 {
     ids * 4 / 3
@@ -73,7 +75,7 @@ pub fn rows(ids: usize) -> usize
 
 // Adds the uses of all triangles to an empty table of n rows.
 pub fn gather(ids: &[u32], work: &mut [u32], n: usize, whole: bool)
-    requires { ⌜ (length (now ids) ≤ 98304) × (length (now ids) ≤ n) × (n ≤ 131072) × (3 * n ≤ length (now work)) × EdgeTable n (now work) [] ⌝ }
+    requires { ⌜ EdgesToCome (now ids) n (now work) ⌝ }
     ensures { λ _. ⌜ EdgeTable n (now (work .exit)) (overTriangles (edgesOf whole) (now (ids .entry))) ⌝ }
 {
     let mut i = 0;
@@ -85,9 +87,9 @@ pub fn gather(ids: &[u32], work: &mut [u32], n: usize, whole: bool)
 
 // The same, of whole triangles, where the ids stand in the lent area itself: from `at` on, behind the table.
 pub fn gather_behind(area: &mut [u32], at: usize, n: usize)
-    requires { ⌜ (at ≤ length (now area)) × (length (now area) ≤ at + 98304) × (length (now area) - at ≤ n) × (n ≤ 131072) × (3 * n ≤ at) × EdgeTable n (take at (now area)) [] ⌝ }
-    ensures { λ _. ⌜ EdgeTable n (take at (now (area .exit))) (overTriangles (edgesOf true) (drop at (now (area .entry))))
-        × (drop at (now (area .exit)) ≡ drop at (now (area .entry))) ⌝ }
+    requires { ⌜ IdsBehind at (now area) × EdgesToCome (drop at (now area)) n (take at (now area)) ⌝ }
+    ensures { λ _. ⌜ InFront at (now (area .entry)) (now (area .exit))
+        (λ t. EdgeTable n t (overTriangles (edgesOf true) (drop at (now (area .entry))))) ⌝ }
 {
     let mut i = at;
     while i + 2 < area.len() {
@@ -101,8 +103,8 @@ pub fn gather_behind(area: &mut [u32], at: usize, n: usize)
 
 // ---- tests on the edges
 
-// Their numbers, as `testOf` has them: any edge; a sum other than 0; more than two uses; not used twice, once each way; neither that nor used
-// once.
+// Their numbers, as `testOf` has them: any edge; a sum other than 0; more than two uses; not used twice, once each way;
+// neither that nor used once.
 pub const PRESENT: u8 = 0;
 
 pub const UNBALANCED: u8 = 1;
@@ -122,7 +124,8 @@ fn one_present(uses: u32) -> u32
 }
 
 fn one_unbalanced(ups: u32, downs: u32) -> u32
-    ensures { λ r. ⌜ (r ≡ gate (ups + downs) (bit (unbalanced (ups + downs) (magnitude (ups + downs) ups)))) × (r ≤ 1) ⌝ }
+    ensures { λ r. ⌜ (r ≡ gate (ups + downs) (bit (unbalanced (ups + downs) (sumSize (ups + downs) ups))))
+        × (r ≤ 1) ⌝ }
 {
     if ups == downs { 0 } else { 1 }
 }
@@ -135,14 +138,14 @@ fn one_crowded(uses: u32) -> u32
 
 // No branch here and below: which rows are used is as by chance, and a processor would guess wrongly.
 fn one_unpaired(uses: u32, ups: u32) -> u32
-    ensures { λ r. ⌜ (r ≡ gate uses (bit (unpaired uses (magnitude uses ups)))) × (r ≤ 1) ⌝ }
+    ensures { λ r. ⌜ (r ≡ gate uses (bit (unpaired uses (sumSize uses ups)))) × (r ≤ 1) ⌝ }
 {
     let paired = (uses == 2) & (ups == 1);
     ((0 < uses) & !paired) as u32
 }
 
 fn one_incoherent(uses: u32, ups: u32) -> u32
-    ensures { λ r. ⌜ (r ≡ gate uses (bit (incoherent uses (magnitude uses ups)))) × (r ≤ 1) ⌝ }
+    ensures { λ r. ⌜ (r ≡ gate uses (bit (incoherent uses (sumSize uses ups)))) × (r ≤ 1) ⌝ }
 {
     let paired = (uses == 2) & (ups == 1);
     ((1 < uses) & !paired) as u32
@@ -150,7 +153,8 @@ fn one_incoherent(uses: u32, ups: u32) -> u32
 
 // 1 if a row with this word is used and passes the test, else 0.
 fn passes(word: u32, test: u8) -> u32
-    ensures { λ r. ⌜ (r ≡ gate (usesIn word) (bit (testOf test (usesIn word) (magnitude (usesIn word) (upsIn word))))) × (r ≤ 1) ⌝ }
+    ensures { λ r. ⌜ (r ≡ gate (usesIn word) (bit (testOf test (usesIn word) (sumSize (usesIn word) (upsIn word)))))
+        × (r ≤ 1) ⌝ }
 {
     let ups = word / 65536;
     let downs = word % 65536;
@@ -172,7 +176,7 @@ fn passes(word: u32, test: u8) -> u32
 
 // How many edges pass a test. The sums have 32 bits, so that a processor can add several rows at a time.
 pub fn count(work: &[u32], n: usize, test: u8) -> u32
-    requires { ⌜ (n ≤ 131072) × (3 * n ≤ length (now work)) ⌝ }
+    requires { ⌜ EdgeRows n (now work) ⌝ }
     ensures { λ r. ⌜ (r ≡ sumTo (rowBit (testOf test) (now (work .entry))) n) × (r ≤ n) ⌝ }
 {
     let mut total: u32 = 0;
@@ -192,8 +196,9 @@ pub struct Survey {
 }
 
 pub fn survey_rows(work: &[u32], n: usize) -> Survey
-    requires { ⌜ (n ≤ 131072) × (3 * n ≤ length (now work)) ⌝ }
-    ensures { λ r. ⌜ (r .present ≡ sumTo (rowBit present (now (work .entry))) n) × (r .unbalanced ≡ sumTo (rowBit unbalanced (now (work .entry))) n)
+    requires { ⌜ EdgeRows n (now work) ⌝ }
+    ensures { λ r. ⌜ (r .present ≡ sumTo (rowBit present (now (work .entry))) n)
+        × (r .unbalanced ≡ sumTo (rowBit unbalanced (now (work .entry))) n)
         × (r .crowded ≡ sumTo (rowBit crowded (now (work .entry))) n) ⌝ }
 {
     let mut present: u32 = 0;

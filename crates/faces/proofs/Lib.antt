@@ -6,5 +6,4 @@ pub mod RowSums
 mod Adding
 pub mod Turns
 mod Summing
-mod Behind
 pub mod Answers

@@ -9,16 +9,17 @@ use Rattle.ids.specs.Triangles.{Triangle, triangle, triangleCount, distinct}
 use Rattle.ids.specs.Uses.{Use}
 use Rattle.ids.specs.FaceNet.{Face, faceUse, face, faces}
 use Rattle.ids.proofs.Triangles.{append-none, turn, turned}
+use Rattle.faces.specs.inner.Rows.{FacesAdded}
 
 -- a triangle that repeats an id adds no use, another one
-module _ (es : List (Use Face)) (t : Triangle) where
-  pub face-none : distinct t ≡ false → es ++ face t ≡ es
+module _ {ids : List ℕ} {n : ℕ} {w : List ℕ} (t : Triangle) where
+  pub adds-none : distinct t ≡ false → FacesAdded ids n w w (face t)
   unfolding face
-  face-none e = rw (e, append-none)
+  adds-none e = record { adds = λ es m. rw (e, append-none) m }
 
-  pub face-one : distinct t ≡ true → es ++ face t ≡ es ++ faceUse t ∷ []
+  pub adds-one : {u : List ℕ} → distinct t ≡ true → FacesAdded ids n w u (faceUse t ∷ []) → FacesAdded ids n w u (face t)
   unfolding face
-  face-one e = rw e
+  adds-one e a = rw e a
 
 cond-short : (b : Bool) (x : Use Face) → length (cond b (x ∷ []) []) ≤ 1
 cond-short true x = omega arith

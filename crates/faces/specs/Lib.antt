@@ -1,2 +1,2 @@
--- What the table of faces means. Document 01's definitions stand in `ids`.
-pub mod Rows
+-- What the table of faces means. Document 01's definitions stand in `ids`: nothing here has to be believed.
+pub mod inner

@@ -1,16 +1,18 @@
 // The faces of the triangles of a list of ids, counted in a table in lent words. Internal: `chain` and `tally` ask it.
 ghost use mathlib.Core.Path.{_≡_};
 ghost use mathlib.Core.Bool.{cond};
-ghost use mathlib.Core.List.{List, [], _∷_, _++_};
-ghost use Prim.Native.Nat.{ℕ, _+_, _*_, _≤_, _<_};
+ghost use mathlib.Core.List.{[], _∷_};
+ghost use Prim.Native.Nat.{_+_, _*_, _≤_, _<_};
 ghost use lib.ListN.{length, take, drop};
-ghost use Rattle.ids.specs.Triangles.{triangle, triangleCount};
-ghost use Rattle.ids.specs.Uses.{Use};
-ghost use Rattle.ids.specs.FaceNet.{Face, sameFace, sortedIds, faceUse, face, faces};
-ghost use Rattle.table.specs.Rows.{sumTo, Found, Free};
-ghost use Rattle.table.specs.Counts.{usesIn, upsIn, magnitude};
-ghost use Rattle.table.specs.Table.{maxTo};
-ghost use Rattle.faces.specs.Rows.{namedAt, faceAt, wordAt, usesAt, put, hashOf, FaceTable, Room, AddedBehind, rowOff, rowSize};
+ghost use Rattle.ids.specs.Triangles.{triangle};
+ghost use Rattle.ids.specs.FaceNet.{sameFace, sortedIds, faceUse, face, faces};
+ghost use Rattle.table.specs.inner.Rows.{sumTo, Found};
+ghost use Rattle.table.specs.inner.Counts.{usesIn, upsIn, sumSize};
+ghost use Rattle.table.specs.inner.Table.{maxTo};
+ghost use Rattle.table.specs.inner.Front.{IdsBehind, InFront};
+ghost use Rattle.table.specs.inner.Words.{TriangleOf};
+ghost use Rattle.faces.specs.inner.Rows.{faceAt, faceWord, faceUses, putFace, faceHash, FaceTable, FaceRows};
+ghost use Rattle.faces.specs.inner.Rows.{FaceSearch, FaceToAdd, FacesToCome, FacesAdded, rowOff, rowSize};
 
 // Three ids sorted.
 pub struct Sorted {
@@ -21,7 +23,7 @@ pub struct Sorted {
 
 // The ids of triangle t, sorted.
 fn sort(ids: &[u32], t: usize) -> Sorted
-    requires { ⌜ (length (now ids) ≤ 98304) × (t < triangleCount (now ids)) ⌝ }
+    requires { ⌜ TriangleOf (now ids) t ⌝ }
     ensures { λ r. ⌜ sortedIds (triangle (now (ids .entry)) t) ≡ record { low = r .low; mid = r .mid; high = r .high } ⌝ }
 {
     let at = 3 * t;
@@ -38,7 +40,7 @@ fn sort(ids: &[u32], t: usize) -> Sorted
 
 // What triangle t adds to the word that counts its face: 65536 if an even number of its pairs fall, else 1.
 fn weight(ids: &[u32], t: usize) -> u32
-    requires { ⌜ (length (now ids) ≤ 98304) × (t < triangleCount (now ids)) ⌝ }
+    requires { ⌜ TriangleOf (now ids) t ⌝ }
     ensures { λ r. ⌜ r ≡ cond (faceUse (triangle (now (ids .entry)) t) .up) 65536 1 ⌝ }
 {
     let at = 3 * t;
@@ -51,7 +53,7 @@ fn weight(ids: &[u32], t: usize) -> u32
 
 // The hash of a face, of the same kind as that of an edge.
 fn hash(low: u32, mid: u32, high: u32) -> u32
-    ensures { λ r. ⌜ r ≡ hashOf (record { low = low; mid = mid; high = high }) ⌝ }
+    ensures { λ r. ⌜ r ≡ faceHash (record { low = low; mid = mid; high = high }) ⌝ }
 {
     let part = low as u64 * 1014252765 % 0x1_0000_0000;
     let more = (part + mid as u64 * 2645834705) % 0x1_0000_0000;
@@ -60,8 +62,9 @@ fn hash(low: u32, mid: u32, high: u32) -> u32
 
 // Is the face of triangle t the one with these ids?
 fn same(ids: &[u32], t: usize, low: u32, mid: u32, high: u32) -> bool
-    requires { ⌜ (length (now ids) ≤ 98304) × (t < triangleCount (now ids)) ⌝ }
-    ensures { λ r. ⌜ r ≡ sameFace (sortedIds (triangle (now (ids .entry)) t)) (record { low = low; mid = mid; high = high }) ⌝ }
+    requires { ⌜ TriangleOf (now ids) t ⌝ }
+    ensures { λ r. ⌜ r ≡ sameFace (sortedIds (triangle (now (ids .entry)) t))
+        (record { low = low; mid = mid; high = high }) ⌝ }
 {
     let s = sort(ids, t);
     (s.low == low) & ((s.mid == mid) & (s.high == high))
@@ -69,9 +72,9 @@ fn same(ids: &[u32], t: usize, low: u32, mid: u32, high: u32) -> bool
 
 // The first row, from `start` on and round, that holds the face or is free.
 fn find(ids: &[u32], work: &[u32], n: usize, low: u32, mid: u32, high: u32, start: usize) -> usize
-    requires { ⌜ (length (now ids) ≤ 98304) × (start < n) × (n ≤ 65536) × (2 * n ≤ length (now work))
-        × ((i : ℕ) → i < n → namedAt (now work) i < triangleCount (now ids)) × Free n (usesAt (now work)) ⌝ }
-    ensures { λ r. ⌜ Found n start (faceAt (now (ids .entry)) (now (work .entry))) (usesAt (now (work .entry))) (record { low = low; mid = mid; high = high }) r ⌝ }
+    requires { ⌜ FaceSearch (now ids) n start (now work) ⌝ }
+    ensures { λ r. ⌜ Found n start (faceAt (now (ids .entry)) (now (work .entry))) (faceUses (now (work .entry)))
+        (record { low = low; mid = mid; high = high }) r ⌝ }
 {
     let mut r = start;
     loop {
@@ -88,8 +91,8 @@ fn find(ids: &[u32], work: &[u32], n: usize, low: u32, mid: u32, high: u32, star
 
 // Counts one more use in row r, which then names triangle t.
 fn bump(work: &mut [u32], r: usize, t: usize, by: u32)
-    requires { ⌜ (r < 65536) × (2 * r + 1 < length (now work)) × (t < 32768) × (by ≤ 65536) × (usesAt (now work) r < 32768) ⌝ }
-    ensures { λ _. ⌜ now (work .exit) ≡ put (now (work .entry)) r t (wordAt (now (work .entry)) r + by) ⌝ }
+    requires { ⌜ (r < 65536) × (2 * r + 1 < length (now work)) × (t < 32768) × (by ≤ 65536) × (faceUses (now work) r < 32768) ⌝ }
+    ensures { λ _. ⌜ now (work .exit) ≡ putFace (now (work .entry)) r t (faceWord (now (work .entry)) r + by) ⌝ }
 {
     let at = 2 * r;
     let word = work[at + 1] + by;
@@ -99,9 +102,9 @@ fn bump(work: &mut [u32], r: usize, t: usize, by: u32)
 
 // Adds the use that triangle t makes of its face, whether or not it repeats an id.
 fn add(ids: &[u32], work: &mut [u32], n: usize, t: usize)
-    requires { ⌜ (length (now ids) ≤ 98304) × (t < triangleCount (now ids)) × (n ≤ 65536) × (2 * n ≤ length (now work)) × Room (now ids) n (now work) ⌝ }
-    ensures { λ _. ⌜ ((es : List (Use Face)) → FaceTable (now (ids .entry)) n (now (work .entry)) es
-        → FaceTable (now (ids .entry)) n (now (work .exit)) (es ++ faceUse (triangle (now (ids .entry)) t) ∷ [])) ⌝ }
+    requires { ⌜ FaceToAdd (now ids) n (now work) t ⌝ }
+    ensures { λ _. ⌜ FacesAdded (now (ids .entry)) n (now (work .entry)) (now (work .exit))
+        (faceUse (triangle (now (ids .entry)) t) ∷ []) ⌝ }
 {
     let s = sort(ids, t);
     let low = s.low;
@@ -114,9 +117,9 @@ fn add(ids: &[u32], work: &mut [u32], n: usize, t: usize)
 
 // Adds the use that triangle t makes: none if it repeats an id.
 fn triangle(ids: &[u32], work: &mut [u32], n: usize, t: usize)
-    requires { ⌜ (length (now ids) ≤ 98304) × (t < triangleCount (now ids)) × (n ≤ 65536) × (2 * n ≤ length (now work)) × Room (now ids) n (now work) ⌝ }
-    ensures { λ _. ⌜ ((es : List (Use Face)) → FaceTable (now (ids .entry)) n (now (work .entry)) es
-        → FaceTable (now (ids .entry)) n (now (work .exit)) (es ++ face (triangle (now (ids .entry)) t))) ⌝ }
+    requires { ⌜ FaceToAdd (now ids) n (now work) t ⌝ }
+    ensures { λ _. ⌜ FacesAdded (now (ids .entry)) n (now (work .entry)) (now (work .exit))
+        (face (triangle (now (ids .entry)) t)) ⌝ }
 {
     if !table::distinct_at(ids, t) {
         return;
@@ -126,7 +129,7 @@ fn triangle(ids: &[u32], work: &mut [u32], n: usize, t: usize)
 
 // Adds the uses of all triangles to an empty table of n rows.
 pub fn gather(ids: &[u32], work: &mut [u32], n: usize)
-    requires { ⌜ (length (now ids) ≤ 98304) × (triangleCount (now ids) ≤ n) × (n ≤ 65536) × (2 * n ≤ length (now work)) × FaceTable (now ids) n (now work) [] ⌝ }
+    requires { ⌜ FacesToCome (now ids) n (now work) ⌝ }
     ensures { λ _. ⌜ FaceTable (now (ids .entry)) n (now (work .exit)) (faces (now (ids .entry))) ⌝ }
 {
     let m = ids.len() / 3;
@@ -149,18 +152,19 @@ fn find_behind(
     high: u32,
     start: usize,
 ) -> usize
-    requires { ⌜ (at ≤ length (now area)) × (length (now area) ≤ at + 98304) × (start < n) × (n ≤ 65536) × (2 * n ≤ at)
-        × ((i : ℕ) → i < n → namedAt (take at (now area)) i < triangleCount (drop at (now area))) × Free n (usesAt (take at (now area))) ⌝ }
-    ensures { λ r. ⌜ Found n start (faceAt (drop at (now (area .entry))) (take at (now (area .entry)))) (usesAt (take at (now (area .entry)))) (record { low = low; mid = mid; high = high }) r ⌝ }
+    requires { ⌜ IdsBehind at (now area) × FaceSearch (drop at (now area)) n start (take at (now area)) ⌝ }
+    ensures { λ r. ⌜ Found n start (faceAt (drop at (now (area .entry))) (take at (now (area .entry))))
+        (faceUses (take at (now (area .entry)))) (record { low = low; mid = mid; high = high }) r ⌝ }
 {
     find(&area[at..], &area[..at], n, low, mid, high, start)
 }
 
 // Adds the use that triangle t makes of its face.
 fn add_behind(area: &mut [u32], at: usize, n: usize, t: usize)
-    requires { ⌜ (at ≤ length (now area)) × (length (now area) ≤ at + 98304) × (t < triangleCount (drop at (now area))) × (n ≤ 65536) × (2 * n ≤ at)
-        × Room (drop at (now area)) n (take at (now area)) ⌝ }
-    ensures { λ _. ⌜ AddedBehind at n (now (area .entry)) (now (area .exit)) (faceUse (triangle (drop at (now (area .entry))) t) ∷ []) ⌝ }
+    requires { ⌜ IdsBehind at (now area) × FaceToAdd (drop at (now area)) n (take at (now area)) t ⌝ }
+    ensures { λ _. ⌜ InFront at (now (area .entry)) (now (area .exit))
+        (λ u. FacesAdded (drop at (now (area .entry))) n (take at (now (area .entry))) u
+        (faceUse (triangle (drop at (now (area .entry))) t) ∷ [])) ⌝ }
 {
     let s = sort(&area[at..], t);
     let low = s.low;
@@ -174,9 +178,10 @@ fn add_behind(area: &mut [u32], at: usize, n: usize, t: usize)
 
 // Adds the use that triangle t makes: none if it repeats an id.
 fn triangle_behind(area: &mut [u32], at: usize, n: usize, t: usize)
-    requires { ⌜ (at ≤ length (now area)) × (length (now area) ≤ at + 98304) × (t < triangleCount (drop at (now area))) × (n ≤ 65536) × (2 * n ≤ at)
-        × Room (drop at (now area)) n (take at (now area)) ⌝ }
-    ensures { λ _. ⌜ AddedBehind at n (now (area .entry)) (now (area .exit)) (face (triangle (drop at (now (area .entry))) t)) ⌝ }
+    requires { ⌜ IdsBehind at (now area) × FaceToAdd (drop at (now area)) n (take at (now area)) t ⌝ }
+    ensures { λ _. ⌜ InFront at (now (area .entry)) (now (area .exit))
+        (λ u. FacesAdded (drop at (now (area .entry))) n (take at (now (area .entry))) u
+        (face (triangle (drop at (now (area .entry))) t))) ⌝ }
 {
     if !table::distinct_at(&area[at..], t) {
         return;
@@ -186,10 +191,9 @@ fn triangle_behind(area: &mut [u32], at: usize, n: usize, t: usize)
 
 // Adds the uses of all triangles to an empty table of n rows.
 pub fn gather_behind(area: &mut [u32], at: usize, n: usize)
-    requires { ⌜ (at ≤ length (now area)) × (length (now area) ≤ at + 98304) × (triangleCount (drop at (now area)) ≤ n) × (n ≤ 65536) × (2 * n ≤ at)
-        × FaceTable (drop at (now area)) n (take at (now area)) [] ⌝ }
-    ensures { λ _. ⌜ FaceTable (drop at (now (area .entry))) n (take at (now (area .exit))) (faces (drop at (now (area .entry))))
-        × (drop at (now (area .exit)) ≡ drop at (now (area .entry))) ⌝ }
+    requires { ⌜ IdsBehind at (now area) × FacesToCome (drop at (now area)) n (take at (now area)) ⌝ }
+    ensures { λ _. ⌜ InFront at (now (area .entry)) (now (area .exit))
+        (λ u. FaceTable (drop at (now (area .entry))) n u (faces (drop at (now (area .entry))))) ⌝ }
 {
     let m = (area.len() - at) / 3;
     let mut t = 0;
@@ -203,7 +207,7 @@ pub fn gather_behind(area: &mut [u32], at: usize, n: usize)
 
 // The magnitude of the sum that a word counts.
 fn size(word: u32) -> u32
-    ensures { λ r. ⌜ r ≡ magnitude (usesIn word) (upsIn word) ⌝ }
+    ensures { λ r. ⌜ r ≡ sumSize (usesIn word) (upsIn word) ⌝ }
 {
     let up = word / 65536;
     let down = word % 65536;
@@ -217,8 +221,9 @@ pub struct Sums {
 }
 
 pub fn net(work: &[u32], n: usize) -> Sums
-    requires { ⌜ (n ≤ 65536) × (2 * n ≤ length (now work)) ⌝ }
-    ensures { λ r. ⌜ (r .«max_abs» ≡ maxTo (rowSize (now (work .entry))) n) × (r .off ≡ sumTo (rowOff (now (work .entry))) n) ⌝ }
+    requires { ⌜ FaceRows n (now work) ⌝ }
+    ensures { λ r. ⌜ (r .«max_abs» ≡ maxTo (rowSize (now (work .entry))) n)
+        × (r .off ≡ sumTo (rowOff (now (work .entry))) n) ⌝ }
 {
     let mut most = 0;
     let mut off: u32 = 0;

@@ -1,4 +1,5 @@
--- Parents and labels: what hanging a triangle two steps higher, or a root on a root, does to the labels; and labels made one. Assumes nothing.
+-- Parents and labels: what hanging a triangle two steps higher, or a root on a root, does to the labels; and labels made one. Assumes
+-- nothing.
 use mathlib.Core.Path.{_≡_, refl, sym, ap, _∙_, subst}
 use mathlib.Core.Logic.{_≢_}
 use mathlib.Core.Bool.{cond}
@@ -7,18 +8,20 @@ use native.Mathlib.Omega.{arith}
 use native.Mathlib.Decide.{ℕ-discrete, decLt}
 use borrow.Author.Tests.{eq-eqb, ne-eqb}
 use lib.Dec.{eqb}
-use Rattle.forest.specs.Labels.{Means, merged}
+use Rattle.forest.specs.inner.Labels.{LabelledBy, merged}
 
-module _ (n : ℕ) (p q f : ℕ → ℕ) (m : Means n p f) where
+module _ (n : ℕ) (p q f : ℕ → ℕ) (m : LabelledBy n p f) where
   -- a triangle is hung two steps higher
-  pub halved : (x : ℕ) → x < n → q x ≡ p (p x) → ((i : ℕ) → i ≢ x → q i ≡ p i) → Means n q f
+  pub halved : (x : ℕ) → x < n → q x ≡ p (p x) → ((i : ℕ) → i ≢ x → q i ≡ p i) → LabelledBy n q f
   halved x l here else =
       record {
         down = λ i h. by i (λ j. q j ≤ j) (λ _. omega (arith, at-x .0, at-x .1)) (λ ne. omega (arith, else i ne, m .down i h));
         same = λ i h. by i (λ j. f (q j) ≡ f j) (λ _. ap f here ∙ m .same (p x) px ∙ m .same x l) (λ ne. ap f (else i ne) ∙ m .same i h);
         least = m .least;
         top = λ i h. by (f i) (λ j. p j ≡ j → q j ≡ j) (λ _ e. here ∙ ap p e ∙ e) (λ ne e. else (f i) ne ∙ e) (m .top i h);
-        own = λ i h. by i (λ j. q j ≡ j → f j ≡ j) (λ _ e. m .own x l (omega (arith, here, at-x .0, at-x .1))) (λ ne e. m .own i h (sym (else i ne) ∙ e));
+        own =
+            λ i h. by i (λ j. q j ≡ j → f j ≡ j) (λ _ e. m .own x l (omega (arith, here, at-x .0, at-x .1)))
+            (λ ne e. m .own i h (sym (else i ne) ∙ e));
       }
     where
       px : p x < n
@@ -31,13 +34,20 @@ module _ (n : ℕ) (p q f : ℕ → ℕ) (m : Means n p f) where
       by i P a b = elim (ℕ-discrete i x) [ yes e ↦ subst P (sym e) (a e) | no ne ↦ b ne ]
 
   -- root s is hung on root r
-  pub hung : (r s : ℕ) → r < n → s < n → f r ≡ r → f s ≡ s → r ≤ s → q s ≡ r → ((i : ℕ) → i ≢ s → q i ≡ p i) → Means n q (λ x. cond (eqb (f x) s) r (f x))
+  pub hung : (r s : ℕ) → r < n → s < n → f r ≡ r → f s ≡ s → r ≤ s → q s ≡ r → ((i : ℕ) → i ≢ s → q i ≡ p i)
+      → LabelledBy n q (λ x. cond (eqb (f x) s) r (f x))
   hung r s lr ls fr fs le here else =
       record {
         down = λ i h. by i (λ j. q j ≤ j) (λ _. omega (arith, here)) (λ ne. omega (arith, else i ne, m .down i h));
-        same = λ i h. by i (λ j. g (q j) ≡ g j) (λ _. ap g here ∙ g-r ∙ sym g-s) (λ ne. ap g (else i ne) ∙ ap (λ (z : ℕ). cond (eqb z s) r z) (m .same i h));
-        least = λ i h. by (f i) (λ j. j ≤ i → cond (eqb j s) r j ≤ i) (λ _ k. rw (eq-eqb s s refl) (omega arith)) (λ ne k. rw (ne-eqb (f i) s ne) k) (m .least i h);
-        top = λ i h. by (f i) (λ j. p j ≡ j → q (cond (eqb j s) r j) ≡ cond (eqb j s) r j) (λ _ k. rw (eq-eqb s s refl) root-r) (λ ne k. rw (ne-eqb (f i) s ne) (else (f i) ne ∙ k)) (m .top i h);
+        same =
+            λ i h. by i (λ j. g (q j) ≡ g j) (λ _. ap g here ∙ g-r ∙ sym g-s)
+            (λ ne. ap g (else i ne) ∙ ap (λ (z : ℕ). cond (eqb z s) r z) (m .same i h));
+        least =
+            λ i h. by (f i) (λ j. j ≤ i → cond (eqb j s) r j ≤ i) (λ _ k. rw (eq-eqb s s refl) (omega arith))
+            (λ ne k. rw (ne-eqb (f i) s ne) k) (m .least i h);
+        top =
+            λ i h. by (f i) (λ j. p j ≡ j → q (cond (eqb j s) r j) ≡ cond (eqb j s) r j) (λ _ k. rw (eq-eqb s s refl) root-r)
+            (λ ne k. rw (ne-eqb (f i) s ne) (else (f i) ne ∙ k)) (m .top i h);
         own = λ i h e. by i (λ j. q j ≡ j → g j ≡ j) (λ _ k. g-s ∙ sym here ∙ k)
             (λ ne k. let o : f i ≡ i = m .own i h (sym (else i ne) ∙ k) in ap (λ (z : ℕ). cond (eqb z s) r z) o ∙ rw (ne-eqb i s ne)) e;
       }
@@ -70,11 +80,21 @@ module _ (f : ℕ → ℕ) (a b : ℕ) where
 
   at-a : merged f a b a ≡ min (f a) (f b)
   unfolding merged
-  at-a = elim (ℕ-discrete (f a) (max (f a) (f b))) [ yes e ↦ rw (eq-eqb (f a) (max (f a) (f b)) e) | no ne ↦ rw (ne-eqb (f a) (max (f a) (f b)) ne) (omega arith) ]
+  at-a =
+      elim (ℕ-discrete (f a) (max (f a) (f b))) [
+        | yes e ↦ rw (eq-eqb (f a) (max (f a) (f b)) e)
+        | no ne
+            ↦ rw (ne-eqb (f a) (max (f a) (f b)) ne) (omega arith)
+      ]
 
   at-b : merged f a b b ≡ min (f a) (f b)
   unfolding merged
-  at-b = elim (ℕ-discrete (f b) (max (f a) (f b))) [ yes e ↦ rw (eq-eqb (f b) (max (f a) (f b)) e) | no ne ↦ rw (ne-eqb (f b) (max (f a) (f b)) ne) (omega arith) ]
+  at-b =
+      elim (ℕ-discrete (f b) (max (f a) (f b))) [
+        | yes e ↦ rw (eq-eqb (f b) (max (f a) (f b)) e)
+        | no ne
+            ↦ rw (ne-eqb (f b) (max (f a) (f b)) ne) (omega arith)
+      ]
 
   pub merged-joins : merged f a b a ≡ merged f a b b
   merged-joins = at-a ∙ sym at-b
@@ -87,10 +107,15 @@ module _ (f : ℕ → ℕ) (a b : ℕ) where
   pub merged-inner : (h : ℕ → ℕ) → h (f a) ≡ h a → h (f b) ≡ h b → h a ≡ h b → (x : ℕ) → h (f x) ≡ h x → h (merged f a b x) ≡ h x
   unfolding merged
   merged-inner h ea eb e x ex =
-      elim (ℕ-discrete (f x) (max (f a) (f b))) [ yes k ↦ rw (eq-eqb (f x) (max (f a) (f b)) k) (both ∙ ap h (sym k) ∙ ex) | no ne ↦ rw (ne-eqb (f x) (max (f a) (f b)) ne) ex ]
+      elim (ℕ-discrete (f x) (max (f a) (f b))) [
+        | yes k ↦ rw (eq-eqb (f x) (max (f a) (f b)) k) (both ∙ ap h (sym k) ∙ ex)
+        | no ne
+            ↦ rw (ne-eqb (f x) (max (f a) (f b)) ne) ex
+      ]
     where
       both : h (min (f a) (f b)) ≡ h (max (f a) (f b))
       both = elim (decLt (f a) (f b)) [
         | yes l ↦ let u : max (f a) (f b) ≡ f b = omega arith in let v : min (f a) (f b) ≡ f a = omega arith in rw (u, v) (ea ∙ e ∙ sym eb)
-        | no l ↦ let u : max (f a) (f b) ≡ f a = omega arith in let v : min (f a) (f b) ≡ f b = omega arith in rw (u, v) (eb ∙ sym e ∙ sym ea)
+        | no l ↦ let u : max (f a) (f b) ≡ f a =
+            omega arith in let v : min (f a) (f b) ≡ f b = omega arith in rw (u, v) (eb ∙ sym e ∙ sym ea)
       ]

@@ -7,27 +7,27 @@ use native.Mathlib.Omega.{arith}
 use native.Mathlib.Decide.{ℕ-discrete}
 use lib.ListN.{length, getD, set}
 use lib.Seq.{getD-set-same, getD-set-other}
-use Rattle.forest.specs.Words.{parentIn, slotIn, withParent, withSlot, Planted, Freed}
+use Rattle.forest.specs.inner.Words.{parentIn, heldIn, withParent, withSlot, Planted, Freed}
 
 module _ (t : List ℕ) (i p : ℕ) (inside : i < length t) (small : p < 32768) where
   pub parent-here : parentIn (withParent t i p) i ≡ p
-  parent-here = omega (arith, getD-set-same t i (slotIn t i * 32768 + p) 0 inside)
+  parent-here = omega (arith, getD-set-same t i (heldIn t i * 32768 + p) 0 inside)
 
   pub parent-else : (j : ℕ) → j ≢ i → parentIn (withParent t i p) j ≡ parentIn t j
-  parent-else j n = omega (arith, getD-set-other t i j (slotIn t i * 32768 + p) 0 n)
+  parent-else j n = omega (arith, getD-set-other t i j (heldIn t i * 32768 + p) 0 n)
 
-  pub slots-stay : (j : ℕ) → slotIn (withParent t i p) j ≡ slotIn t j
+  pub slots-stay : (j : ℕ) → heldIn (withParent t i p) j ≡ heldIn t j
   slots-stay j = go (ℕ-discrete j i)
     where
-      go : Dec (j ≡ i) → slotIn (withParent t i p) j ≡ slotIn t j
-      go (yes e) = rw e (omega (arith, getD-set-same t i (slotIn t i * 32768 + p) 0 inside))
-      go (no n) = omega (arith, getD-set-other t i j (slotIn t i * 32768 + p) 0 n)
+      go : Dec (j ≡ i) → heldIn (withParent t i p) j ≡ heldIn t j
+      go (yes e) = rw e (omega (arith, getD-set-same t i (heldIn t i * 32768 + p) 0 inside))
+      go (no n) = omega (arith, getD-set-other t i j (heldIn t i * 32768 + p) 0 n)
 
 module _ (t : List ℕ) (i s : ℕ) (inside : i < length t) where
-  pub slot-here : slotIn (withSlot t i s) i ≡ s
+  pub slot-here : heldIn (withSlot t i s) i ≡ s
   slot-here = omega (arith, getD-set-same t i (s * 32768 + parentIn t i) 0 inside)
 
-  pub slot-else : (j : ℕ) → j ≢ i → slotIn (withSlot t i s) j ≡ slotIn t j
+  pub slot-else : (j : ℕ) → j ≢ i → heldIn (withSlot t i s) j ≡ heldIn t j
   slot-else j n = omega (arith, getD-set-other t i j (s * 32768 + parentIn t i) 0 n)
 
   pub parents-stay : (j : ℕ) → parentIn (withSlot t i s) j ≡ parentIn t j

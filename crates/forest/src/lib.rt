@@ -3,8 +3,8 @@
 ghost use mathlib.Core.Path.{_≡_};
 ghost use Prim.Native.Nat.{_≤_, _<_};
 ghost use lib.ListN.{length};
-ghost use Rattle.forest.specs.Words.{parentIn, slotIn, withParent, withSlot, Planted, Freed};
-ghost use Rattle.forest.specs.Labels.{Forest, Rooted, Joined};
+ghost use Rattle.forest.specs.inner.Words.{parentIn, heldIn, withParent, withSlot, Planted, Freed};
+ghost use Rattle.forest.specs.inner.Labels.{Forest, RootOf, Joined};
 
 // What triangle t hangs on: itself, if on none.
 pub fn parent(work: &[u32], t: usize) -> usize
@@ -17,7 +17,7 @@ pub fn parent(work: &[u32], t: usize) -> usize
 // What slot r holds: 0, if it is free.
 pub fn slot(work: &[u32], r: usize) -> usize
     requires { ⌜ r < length (now work) ⌝ }
-    ensures { λ s. ⌜ s ≡ slotIn (now (work .entry)) r ⌝ }
+    ensures { λ s. ⌜ s ≡ heldIn (now (work .entry)) r ⌝ }
 {
     (work[r] / 32768) as usize
 }
@@ -64,7 +64,7 @@ pub fn free(work: &mut [u32])
 // The root above t. Each triangle passed is hung two steps higher.
 fn root(work: &mut [u32], t: usize) -> usize
     requires { ⌜ (t < length (now work)) × (length (now work) ≤ 32768) × Forest (now work) ⌝ }
-    ensures { λ r. ⌜ Rooted (now (work .entry)) (now (work .exit)) t r ⌝ }
+    ensures { λ r. ⌜ RootOf (now (work .entry)) (now (work .exit)) t r ⌝ }
 {
     let mut x = t;
     loop {

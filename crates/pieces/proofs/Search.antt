@@ -3,30 +3,46 @@ use mathlib.Core.Path.{_≡_}
 use mathlib.Core.Logic.{_≢_}
 use Prim.Native.Nat.{ℕ, _+_, _-_, _*_, _%_, _≤_, _<_}
 use native.Mathlib.Omega.{arith}
-use Rattle.table.specs.Rows.{nextRow, dist, Passed}
-use Rattle.table.proofs.Search.{home-below, next-below, through, turn}
-use Rattle.pieces.specs.Slots.{homeOf, Sought}
+use Rattle.table.specs.inner.Rows.{nextRow, dist}
+use Rattle.table.proofs.Search.{dist-here, home-below}
+use Rattle.table.proofs.Turn.{Looking, look-first, turn-ends, turn-through, turn-next}
+use Rattle.pieces.specs.inner.Slots.{cornerHome, Limited, Sought}
 
-pub home-in : (odd n k : ℕ) → 0 < n → homeOf odd n k < n
-unfolding homeOf
+pub home-in : (odd n k : ℕ) → 0 < n → cornerHome odd n k < n
+unfolding cornerHome
 home-in odd n k some = home-below n ((k * odd) % 4294967296) some (omega arith)
 
--- a turn at row r, with so many rows left
-module _ (n limit at : ℕ) (home : at < n) (key mark : ℕ → ℕ) (k r left : ℕ) (lr : r < n) (e : dist n at r + left ≡ limit) (some : 0 < left) (p : Passed n at key mark k r) where
-  pub sought-here : (0 < mark r → key r ≡ k) → Sought n limit at key mark k r
-  sought-here h =
-      record { within = omega arith; found = λ l. record { within = lr; holds = h; passed = p }; near = λ l. omega arith; none = λ q. absurd (omega arith) }
+-- the search stands at row r, with so many rows left
+pub record Seeking (n limit at : ℕ) (key mark : ℕ → ℕ) (k r left : ℕ) : Type 0 where
+  pub looking : Looking n at key mark k r
+  pub rows : dist n at r + left ≡ limit
+  pub some : 0 < left
 
-  pub sought-none : 0 < mark r → key r ≢ k → left ≤ 1 → Sought n limit at key mark k n
-  sought-none used ne last =
+pub seek-first : {n limit at : ℕ} {key mark : ℕ → ℕ} {k : ℕ} → at < n → 0 < limit → Seeking n limit at key mark k at limit
+seek-first {n = n} {at = at} home some = record { looking = look-first home; rows = omega (arith, dist-here n at home); some = some }
+
+module _ {n limit at : ℕ} {key mark : ℕ → ℕ} {k r left : ℕ} (s : Seeking n limit at key mark k r left) where
+  pub seek-ends : (0 < mark r → key r ≡ k) → Sought n limit at key mark k r
+  seek-ends h =
+      let inside = s .looking .within in
       record {
         within = omega arith;
-        found = λ l. absurd (omega arith);
-        near = λ l. absurd (omega arith);
-        none = λ q j lj d. through n at home key mark k r lr p used ne j lj (omega arith);
+        found = λ l. turn-ends (s .looking) h;
+        near = λ l. omega (arith, s .rows, s .some);
+        none = λ q. absurd (omega arith);
       }
 
-  pub sought-on : limit ≤ n → 0 < mark r → key r ≢ k → 1 < left → (nextRow n r < n) × (dist n at (nextRow n r) + (left - 1) ≡ limit) × Passed n at key mark k (nextRow n r)
-  sought-on room used ne more =
-      let w = turn n at home key mark k r lr p used ne (omega arith) in
-      (next-below n at home r lr, omega (arith, w .0), w .1)
+  -- row r is another key's
+  module _ (used : 0 < mark r) (other : key r ≢ k) where
+    pub seek-none : left ≤ 1 → Sought n limit at key mark k n
+    seek-none last = record {
+      within = omega arith;
+      found = λ l. absurd (omega arith);
+      near = λ l. absurd (omega arith);
+      none = λ q j lj d. turn-through (s .looking) used other j lj (omega (arith, s .rows));
+    }
+
+    pub seek-on : limit ≤ n → 1 < left → Seeking n limit at key mark k (nextRow n r) (left - 1)
+    seek-on room more =
+        let w = turn-next (s .looking) used other (omega (arith, s .rows)) in
+        record { looking = w .next; rows = omega (arith, w .further, s .rows); some = omega arith }

@@ -6,14 +6,17 @@
 // slots are full enough, then only looks the corners behind up, and the next pass starts where this one stopped
 // entering. Each pass has another hash, and looks at no more than `limit` rows for a corner.
 ghost use mathlib.Core.Path.{_≡_};
-ghost use Prim.Native.Nat.{ℕ, _*_, _/_, _≤_, _<_, min};
-ghost use lib.ListN.{length, replicate};
+ghost use Prim.Native.Nat.{_*_, _≤_, _<_, min};
+ghost use lib.ListN.{length};
 ghost use Rattle.ids.specs.Uses.{bit};
-ghost use Rattle.table.specs.Rows.{sumTo};
-ghost use Rattle.forest.specs.Words.{slotIn};
+ghost use Rattle.ids.specs.Triangles.{triangleCount};
+ghost use Rattle.ids.specs.Lent.{mostEntries};
 ghost use Rattle.ids.specs.Pieces.{shareId, pieces as piecesOf};
-ghost use Rattle.pieces.specs.Joins.{Sized, Labelled, Grown, Whole, isRoot};
-ghost use Rattle.pieces.specs.Slots.{keyOf, homeOf, keyIn, Limited, Corners, AllFree, Sought, Slots, Followed, Entered, Filled, Swept};
+ghost use Rattle.table.specs.inner.Rows.{sumTo};
+ghost use Rattle.table.specs.inner.Words.{Leaves};
+ghost use Rattle.pieces.specs.inner.Joins.{OneWordEach, Labelled, Grown, Whole, isRoot};
+ghost use Rattle.pieces.specs.inner.Slots.{cornerKey, cornerHome, SoughtIn, SoughtFor, Seekable, Emptied, SlotsReady};
+ghost use Rattle.pieces.specs.inner.Slots.{AllFollowed, Entered, SlotsFilled, Swept};
 ghost use Rattle.pieces.specs.Answer.{PiecesGiven};
 
 // The number of pieces, or the number of the refusal.
@@ -27,14 +30,14 @@ pub enum PieceCount {
 // What corner c is looked up by: its id.
 fn key(ids: &[u32], c: usize) -> u32
     requires { ⌜ c < length (now ids) ⌝ }
-    ensures { λ r. ⌜ r ≡ keyOf (now (ids .entry)) c ⌝ }
+    ensures { λ r. ⌜ r ≡ cornerKey (now (ids .entry)) c ⌝ }
 {
     ids[c]
 }
 
 // The odd number that makes the hash of a pass from a corner on.
 fn odd_of(from: usize) -> u32
-    requires { ⌜ from ≤ 98304 ⌝ }
+    requires { ⌜ from ≤ mostEntries ⌝ }
 {
     ((3008513259 + 3416884090 * from as u64) % 0x1_0000_0000) as u32
 }
@@ -49,7 +52,7 @@ fn limit_of(n: usize) -> usize
 // The row at which a search for a key starts.
 fn start(key: u32, odd: u32, n: usize) -> usize
     requires { ⌜ (0 < n) × (n < 4294967296) ⌝ }
-    ensures { λ r. ⌜ (r ≡ homeOf odd n key) × (r < n) ⌝ }
+    ensures { λ r. ⌜ (r ≡ cornerHome odd n key) × (r < n) ⌝ }
 {
     let hash = (key as u64 * odd as u64 % 0x1_0000_0000) as u32;
     table::home(hash, n)
@@ -57,8 +60,8 @@ fn start(key: u32, odd: u32, n: usize) -> usize
 
 // The row, from `at` on and round, that holds a corner with the key or is free; n, if `limit` rows hold others.
 fn find(ids: &[u32], work: &[u32], k: u32, at: usize, limit: usize) -> usize
-    requires { ⌜ Sized (now ids) (now work) × (at < length (now work)) × Limited limit (length (now work)) × Corners (length (now work)) (slotIn (now work)) ⌝ }
-    ensures { λ r. ⌜ Sought (length (now (work .entry))) limit at (keyIn (now (ids .entry)) (slotIn (now (work .entry)))) (slotIn (now (work .entry))) k r ⌝ }
+    requires { ⌜ Seekable (now ids) limit (now work) × (at < length (now work)) ⌝ }
+    ensures { λ r. ⌜ SoughtIn (now (ids .entry)) (now (work .entry)) limit at k r ⌝ }
 {
     let n = work.len();
     let mut r = at;
@@ -81,8 +84,8 @@ fn find(ids: &[u32], work: &[u32], k: u32, at: usize, limit: usize) -> usize
 
 // The row of corner c.
 fn seek(ids: &[u32], work: &[u32], odd: u32, limit: usize, c: usize) -> usize
-    requires { ⌜ Sized (now ids) (now work) × (c < 3 * length (now work)) × Limited limit (length (now work)) × Corners (length (now work)) (slotIn (now work)) ⌝ }
-    ensures { λ r. ⌜ Sought (length (now (work .entry))) limit (homeOf odd (length (now (work .entry))) (keyOf (now (ids .entry)) c)) (keyIn (now (ids .entry)) (slotIn (now (work .entry)))) (slotIn (now (work .entry))) (keyOf (now (ids .entry)) c) r ⌝ }
+    requires { ⌜ Seekable (now ids) limit (now work) × (c < 3 * length (now work)) ⌝ }
+    ensures { λ r. ⌜ SoughtFor (now (ids .entry)) (now (work .entry)) odd limit c r ⌝ }
 {
     let k = key(ids, c);
     let at = start(k, odd, work.len());
@@ -99,8 +102,9 @@ struct Entry {
 
 // Enters corner c: joins it to the corner that its row holds, or fills the row if a slot may be filled.
 fn enter(ids: &[u32], work: &mut [u32], odd: u32, limit: usize, spare: usize, c: usize) -> Entry
-    requires { ⌜ Sized (now ids) (now work) × (c < 3 * length (now work)) × Limited limit (length (now work)) × Slots (now ids) odd limit (length (now work)) (slotIn (now work)) × Labelled (now ids) (now work) ⌝ }
-    ensures { λ e. ⌜ Entered (now (ids .entry)) odd limit (length (now (work .entry))) spare c (now (work .entry)) (now (work .exit)) (e .entered) ⌝ }
+    requires { ⌜ SlotsReady (now ids) odd limit (now work) × (c < 3 * length (now work)) ⌝ }
+    ensures { λ e. ⌜ Entered (now (ids .entry)) odd limit (length (now (work .entry))) spare c
+        (now (work .entry)) (now (work .exit)) (e .entered) ⌝ }
 {
     let t = c / 3;
     if !table::distinct_at(ids, t) {
@@ -139,8 +143,9 @@ fn enter(ids: &[u32], work: &mut [u32], odd: u32, limit: usize, spare: usize, c:
 
 // Enters corners from `from` on, up to the first that finds no room: which one that is, or their number.
 fn fill(ids: &[u32], work: &mut [u32], odd: u32, limit: usize, from: usize) -> usize
-    requires { ⌜ Sized (now ids) (now work) × (from ≤ 3 * length (now work)) × Limited limit (length (now work)) × AllFree (length (now work)) (slotIn (now work)) × Labelled (now ids) (now work) ⌝ }
-    ensures { λ next. ⌜ Filled (now (ids .entry)) odd limit (length (now (work .entry))) from next (now (work .entry)) (now (work .exit)) ⌝ }
+    requires { ⌜ Emptied (now ids) limit (now work) × (from ≤ 3 * length (now work)) ⌝ }
+    ensures { λ next. ⌜ SlotsFilled (now (ids .entry)) odd limit (length (now (work .entry))) from next
+        (now (work .entry)) (now (work .exit)) ⌝ }
 {
     let n = work.len();
     let mut spare = n / 4 * 3 + 1;
@@ -158,8 +163,9 @@ fn fill(ids: &[u32], work: &mut [u32], odd: u32, limit: usize, from: usize) -> u
 
 // Joins each corner from `from` on to the corner that its row holds, if one does: it enters them with no slot to fill.
 fn follow(ids: &[u32], work: &mut [u32], odd: u32, limit: usize, from: usize)
-    requires { ⌜ Sized (now ids) (now work) × Limited limit (length (now work)) × Slots (now ids) odd limit (length (now work)) (slotIn (now work)) × Labelled (now ids) (now work) ⌝ }
-    ensures { λ _. ⌜ Grown (now (ids .entry)) (now (work .entry)) (now (work .exit)) (λ g. ((i : ℕ) → from ≤ i → i < 3 * length (now (work .entry)) → Followed (now (ids .entry)) (length (now (work .entry))) (slotIn (now (work .entry))) i g)) ⌝ }
+    requires { ⌜ SlotsReady (now ids) odd limit (now work) ⌝ }
+    ensures { λ _. ⌜ Grown (now (ids .entry)) (now (work .entry)) (now (work .exit))
+        (AllFollowed (now (ids .entry)) (now (work .entry)) from) ⌝ }
 {
     let mut c = from;
     while c < 3 * work.len() {
@@ -171,7 +177,7 @@ fn follow(ids: &[u32], work: &mut [u32], odd: u32, limit: usize, from: usize)
 // One pass, from corner `from` on: every corner that it entered is joined with all behind it that have its id. Where it
 // stopped entering.
 fn pass(ids: &[u32], work: &mut [u32], from: usize) -> usize
-    requires { ⌜ Sized (now ids) (now work) × (from < 3 * length (now work)) × Labelled (now ids) (now work) ⌝ }
+    requires { ⌜ OneWordEach (now ids) (now work) × Labelled (now ids) (now work) × (from < 3 * length (now work)) ⌝ }
     ensures { λ next. ⌜ Swept (now (ids .entry)) (length (now (work .entry))) from next (now (work .entry)) (now (work .exit)) ⌝ }
 {
     forest::free(work);
@@ -186,7 +192,7 @@ fn pass(ids: &[u32], work: &mut [u32], from: usize) -> usize
 
 // Joins all triangles that share an id, pass after pass.
 fn join_all(ids: &[u32], work: &mut [u32])
-    requires { ⌜ Sized (now ids) (now work) ⌝ }
+    requires { ⌜ OneWordEach (now ids) (now work) ⌝ }
     ensures { λ _. ⌜ Whole (now (ids .entry)) (now (work .exit)) ⌝ }
 {
     forest::plant(work);
@@ -199,7 +205,7 @@ fn join_all(ids: &[u32], work: &mut [u32])
 
 // 1 for a distinct-id triangle that hangs on itself.
 fn one_root(ids: &[u32], work: &[u32], t: usize) -> u32
-    requires { ⌜ Sized (now ids) (now work) × (t < length (now work)) ⌝ }
+    requires { ⌜ OneWordEach (now ids) (now work) × (t < length (now work)) ⌝ }
     ensures { λ r. ⌜ (r ≡ bit (isRoot (now (ids .entry)) (now (work .entry)) t)) × (r ≤ 1) ⌝ }
 {
     if forest::parent(work, t) == t {
@@ -212,7 +218,7 @@ fn one_root(ids: &[u32], work: &[u32], t: usize) -> u32
 
 // How many distinct-id triangles hang on themselves.
 fn count(ids: &[u32], work: &[u32]) -> u32
-    requires { ⌜ Sized (now ids) (now work) ⌝ }
+    requires { ⌜ OneWordEach (now ids) (now work) ⌝ }
     ensures { λ r. ⌜ r ≡ sumTo (λ t. bit (isRoot (now (ids .entry)) (now (work .entry)) t)) (length (now (work .entry))) ⌝ }
 {
     let mut roots: u32 = 0;
@@ -226,8 +232,8 @@ fn count(ids: &[u32], work: &[u32]) -> u32
 
 // The number of pieces, over an area of just the words that it takes, which are zero afterwards.
 fn pieces_in(ids: &[u32], work: &mut [u32]) -> u32
-    requires { ⌜ Sized (now ids) (now work) ⌝ }
-    ensures { λ r. ⌜ (r ≡ piecesOf shareId (now (ids .entry))) × (now (work .exit) ≡ replicate (length (now (ids .entry)) / 3) 0) ⌝ }
+    requires { ⌜ OneWordEach (now ids) (now work) ⌝ }
+    ensures { λ r. ⌜ Leaves (triangleCount (now (ids .entry))) (piecesOf shareId (now (ids .entry))) r (now (work .exit)) ⌝ }
 {
     join_all(ids, work);
     let r = count(ids, work);
@@ -245,5 +251,5 @@ pub fn pieces(ids: &[u32], work: &mut [u32]) -> PieceCount
     if 0 < refusal {
         return PieceCount::Refused(refusal);
     }
-    PieceCount::Answer(pieces_in(ids, &mut work[0..n]))
+    PieceCount::Answer(pieces_in(ids, &mut work[..n]))
 }

@@ -24,7 +24,7 @@ use Rattle.paint.specs.Covered.{covered}
 use Rattle.raster.specs.declared.Axis.{Axis}
 use Rattle.raster.specs.declared.Window.{Window}
 use Rattle.raster.specs.Footprint.{axisNumber, windowOf, count, coveredCells, areaOn, footprintOver, cellSize, footprint}
-use Rattle.sums.specs.declared.Bounds.{Bounds}
+use Rattle.sums.specs.declared.bounds.Bounds.{Bounds}
 use Rattle.sums.specs.Fine.{fine}
 use Rattle.sums.proofs.FineBoxes.{FineBox, extent-within}
 use Rattle.sums.proofs.Within.{Within, Value, multiple-value, power-value, within-div, within-most, within-mul, within-value}

@@ -1,2 +1,2 @@
--- What the table of edges means.
-pub mod Rows
+-- What the table of edges means. Document 01's definitions stand in `ids`: nothing here has to be believed.
+pub mod inner

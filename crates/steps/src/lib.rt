@@ -1,14 +1,14 @@
-// Steps from id to id in a table of edges, in lent words: each is found there, or a free row for it, and counted. Internal: `edges` asks it.
+// Steps from id to id in a table of edges, in lent words: each is found there, or a free row for it, and counted. Internal: `edges` asks
+// it.
 ghost use mathlib.Core.Path.{_≡_};
 ghost use mathlib.Core.Bool.{cond};
-ghost use mathlib.Core.List.{List, [], _∷_, _++_};
-ghost use Prim.Native.Nat.{_+_, _*_, _≤_, _<_};
+ghost use mathlib.Core.List.{[], _∷_};
+ghost use Prim.Native.Nat.{_+_, _*_, _<_};
 ghost use lib.Dec.{ltb};
 ghost use lib.ListN.{length};
-ghost use Rattle.ids.specs.Uses.{Use};
-ghost use Rattle.ids.specs.EdgeChain.{Edge, step as stepUse};
-ghost use Rattle.table.specs.Rows.{Found, Free};
-ghost use Rattle.steps.specs.Rows.{edgeAt, wordAt, usesAt, put, hashOf, EdgeTable, Room};
+ghost use Rattle.ids.specs.EdgeChain.{step as stepUse};
+ghost use Rattle.table.specs.inner.Rows.{Found};
+ghost use Rattle.steps.specs.inner.Rows.{edgeAt, edgeWord, edgeUses, putEdge, edgeHash, EdgeSearch, EdgesFit, EdgesAdded};
 
 // What a step from u to v adds to the word that counts its edge: 65536 upwards, 1 downwards.
 fn weight(u: u32, v: u32) -> u32
@@ -17,17 +17,19 @@ fn weight(u: u32, v: u32) -> u32
     if u < v { 65536 } else { 1 }
 }
 
-// The hash of an edge. The two factors were chosen so that the edges of grids, fans, boxes, strips and mirrored rims spread about as well at every size.
+// The hash of an edge. The two factors were chosen so that the edges of grids, fans, boxes, strips and mirrored rims
+// spread about as well at every size.
 fn hash(low: u32, high: u32) -> u32
-    ensures { λ r. ⌜ r ≡ hashOf (record { low = low; high = high }) ⌝ }
+    ensures { λ r. ⌜ r ≡ edgeHash (record { low = low; high = high }) ⌝ }
 {
     ((low as u64 * 517785211 + high as u64 * 3599898067) % 0x1_0000_0000) as u32
 }
 
 // The first row, from `start` on and round, that holds the edge or is free.
 fn find(work: &[u32], n: usize, low: u32, high: u32, start: usize) -> usize
-    requires { ⌜ (start < n) × (n ≤ 131072) × (3 * n ≤ length (now work)) × Free n (usesAt (now work)) ⌝ }
-    ensures { λ r. ⌜ Found n start (edgeAt (now (work .entry))) (usesAt (now (work .entry))) (record { low = low; high = high }) r ⌝ }
+    requires { ⌜ EdgeSearch n start (now work) ⌝ }
+    ensures { λ r. ⌜ Found n start (edgeAt (now (work .entry))) (edgeUses (now (work .entry)))
+        (record { low = low; high = high }) r ⌝ }
 {
     let mut r = start;
     loop {
@@ -44,8 +46,8 @@ fn find(work: &[u32], n: usize, low: u32, high: u32, start: usize) -> usize
 
 // Counts one more use in row r, which is then the edge's.
 fn bump(work: &mut [u32], r: usize, low: u32, high: u32, by: u32)
-    requires { ⌜ (r < 131072) × (3 * r + 2 < length (now work)) × (wordAt (now work) r + by < 4294967296) ⌝ }
-    ensures { λ _. ⌜ now (work .exit) ≡ put (now (work .entry)) r low high (wordAt (now (work .entry)) r + by) ⌝ }
+    requires { ⌜ (r < 131072) × (3 * r + 2 < length (now work)) × (edgeWord (now work) r + by < 4294967296) ⌝ }
+    ensures { λ _. ⌜ now (work .exit) ≡ putEdge (now (work .entry)) r low high (edgeWord (now (work .entry)) r + by) ⌝ }
 {
     let at = 3 * r;
     let word = work[at + 2] + by;
@@ -56,8 +58,8 @@ fn bump(work: &mut [u32], r: usize, low: u32, high: u32, by: u32)
 
 // Adds the use that a step from id u to id v makes.
 pub fn walk(work: &mut [u32], n: usize, u: u32, v: u32)
-    requires { ⌜ (n ≤ 131072) × (3 * n ≤ length (now work)) × Room n (now work) 1 ⌝ }
-    ensures { λ _. ⌜ ((es : List (Use Edge)) → EdgeTable n (now (work .entry)) es → EdgeTable n (now (work .exit)) (es ++ stepUse u v ∷ [])) ⌝ }
+    requires { ⌜ EdgesFit n 1 (now work) ⌝ }
+    ensures { λ _. ⌜ EdgesAdded n (now (work .entry)) (now (work .exit)) (stepUse u v ∷ []) ⌝ }
 {
     let low = table::lesser(u, v);
     let high = table::greater(u, v);

@@ -13,7 +13,7 @@ use Rattle.ieee.specs.Integral.{halfAway}
 use Rattle.ieee.specs.Single.{_⊗_}
 use Rattle.ieee.proofs.Order.Ranges.{signed-kept}
 use Rattle.ids.proofs.Same.{three-eq, three-refl, eqb-refl}
-use Rattle.table.specs.Rows.{homeRow, Found}
+use Rattle.table.specs.inner.Rows.{homeRow, Found}
 use Rattle.table.proofs.Search.{home-below}
 use Rattle.cells.specs.Table.{coded}
 use Rattle.cells.proofs.Codes.{coded-one}

@@ -7,7 +7,7 @@ use native.Mathlib.Omega.{arith}
 use native.Mathlib.Decide.{ℕ-discrete}
 use lib.Ieee.{Float}
 use lib.ListN.{length, drop, replicate, length-append, getD-replicate}
-use Rattle.table.specs.Rows.{Found}
+use Rattle.table.specs.inner.Rows.{Found}
 use Rattle.table.proofs.Search.{other, Written, spread-step}
 use Rattle.table.proofs.Used.{used-none, used-few, used-more}
 use Rattle.rows.specs.Rows.{flatten}

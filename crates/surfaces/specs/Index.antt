@@ -10,7 +10,7 @@ use lib.ListN.{length, getD, set, drop}
 use lib.Ieee.{Float}
 use Rattle.ids.specs.Uses.{bit}
 use Rattle.ieee.specs.Single.{_⊕_, nought}
-use Rattle.table.specs.Rows.{homeRow, sumTo, Free, Spread}
+use Rattle.table.specs.inner.Rows.{homeRow, sumTo, Free, Spread}
 use Rattle.cells.specs.Table.{coded}
 use Rattle.rows.specs.Rows.{flatten}
 use Rattle.surfaces.specs.declared.Code.{Code}

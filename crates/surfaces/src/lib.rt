@@ -5,7 +5,7 @@ ghost use lib.Ieee.{Float, nan, binary32, ofBits};
 ghost use lib.IntN.{ℤ};
 ghost use lib.ListN.{length, getD, set};
 ghost use Rattle.ieee.specs.Single.{_⊕_, _⊗_, nought};
-ghost use Rattle.table.specs.Rows.{Found};
+ghost use Rattle.table.specs.inner.Rows.{Found};
 ghost use Rattle.cells.specs.Table.{coded as codedOf};
 ghost use Rattle.surfaces.specs.Surfaces.{ten, tenths as tenthsOf, tenth as tenthOf, keyOf};
 ghost use Rattle.surfaces.specs.Index.{codeOf, sameCode, stored, slotIn, keyIn, hashOf, Searchable, Claimed, withRow, Ready, Puts};

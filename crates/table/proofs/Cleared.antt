@@ -1,4 +1,5 @@
--- An area whose first words were cleared: they are 0, also in a part that starts the area, and what stands behind them is as it was. Assumes nothing.
+-- An area whose first words were cleared: they are 0, also in a part that starts the area, and what stands behind them is as it was.
+-- Assumes nothing.
 use mathlib.Core.Path.{_≡_, sym, ap, _∙_}
 use mathlib.Core.List.{List, _++_}
 use Prim.Native.Nat.{ℕ, _+_, _-_, _≤_, _<_}

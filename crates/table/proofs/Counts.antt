@@ -1,10 +1,11 @@
--- The word in which a row counts uses: it is 0 just where there are none, and one use more, upwards or downwards, adds its weight. Assumes nothing.
+-- The word in which a row counts uses: it is 0 just where there are none, and one use more, upwards or downwards, adds its weight.
+-- Assumes nothing.
 use mathlib.Core.Path.{_≡_}
 use mathlib.Core.Bool.{Bool, true, false, cond}
 use Prim.Native.Nat.{ℕ, _+_, _≤_, _<_}
 use native.Mathlib.Omega.{arith}
 use Rattle.ids.specs.Uses.{bit}
-use Rattle.table.specs.Counts.{upsIn, usesIn}
+use Rattle.table.specs.inner.Counts.{upsIn, usesIn}
 
 module _ (w : ℕ) where
   pub none-used : w ≡ 0 → usesIn w ≡ 0

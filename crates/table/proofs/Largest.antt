@@ -9,8 +9,8 @@ use native.Mathlib.Decide.{decLe}
 use borrow.Author.Tests.{lt-ltb, le-ltb}
 use lib.Dec.{ltb}
 use Rattle.ids.specs.Uses.{Use, keys, sumBy, maxBy, bit}
-use Rattle.table.specs.Rows.{sumTo}
-use Rattle.table.specs.Table.{maxTo, gate, Rows}
+use Rattle.table.specs.inner.Rows.{sumTo}
+use Rattle.table.specs.inner.Table.{maxTo, gate, Rows}
 use Rattle.table.proofs.Sums.{sumTo-same}
 
 pub maxTo-next : (f : ℕ → ℕ) (n : ℕ) → maxTo f (n + 1) ≡ max (maxTo f n) (f n)
@@ -57,17 +57,24 @@ unfolding gate
 gate-over m zero x = over-0 m 0 (omega arith)
 gate-over m (suc c) x = refl
 
-module _ {K : Type 0} (same : K → K → Bool) (n : ℕ) (key : ℕ → K) (cnt up : ℕ → ℕ) (es : List (Use K)) (t : Rows same n key cnt up es) (Q : K → ℕ) where
+module _ {K : Type 0} (same : K → K → Bool) (n : ℕ) (key : ℕ → K) (cnt up : ℕ → ℕ) (es : List (Use K))
+    (t : Rows same n key cnt up es) (Q : K → ℕ) where
   row : ℕ → ℕ
   row i = gate (cnt i) (Q (key i))
 
   same-sums : (m : ℕ) → sumTo (λ i. bit (ltb m (row i))) n ≡ sumBy (λ k. bit (ltb m (Q k))) (keys same es)
   unfolding row
-  same-sums m = sumTo-same (λ i. gate (cnt i) (bit (ltb m (Q (key i))))) (λ i. bit (ltb m (row i))) n (λ i l. gate-over m (cnt i) (Q (key i))) ∙ t .sums (λ k. bit (ltb m (Q k)))
+  same-sums m =
+      sumTo-same (λ i. gate (cnt i) (bit (ltb m (Q (key i))))) (λ i. bit (ltb m (row i))) n (λ i l. gate-over m (cnt i) (Q (key i)))
+      ∙ t .sums (λ k. bit (ltb m (Q k)))
 
   pub maxes : maxTo (λ i. gate (cnt i) (Q (key i))) n ≡ maxBy Q (keys same es)
   unfolding row
   maxes =
       let a : ℕ = maxTo row n in
       let b : ℕ = maxBy Q (keys same es) in
-      omega (arith, rows-1 b row n (same-sums b ∙ keys-0 b Q (keys same es) (omega arith)), keys-1 a Q (keys same es) (sym (same-sums a) ∙ rows-0 a row n (omega arith)))
+      omega (
+        arith,
+        rows-1 b row n (same-sums b ∙ keys-0 b Q (keys same es) (omega arith)),
+        keys-1 a Q (keys same es) (sym (same-sums a) ∙ rows-0 a row n (omega arith)),
+      )

@@ -8,8 +8,8 @@ use native.Mathlib.Omega.{arith}
 use native.Mathlib.Decide.{ℕ-discrete, decLt}
 use lib.ListN.{length-append}
 use Rattle.ids.specs.Uses.{Use, uses, keys, sumBy, bit}
-use Rattle.table.specs.Rows.{sumTo, Found}
-use Rattle.table.specs.Table.{gate, ups, Rows, Means}
+use Rattle.table.specs.inner.Rows.{sumTo, Found}
+use Rattle.table.specs.inner.Table.{gate, ups, Rows, MeansUses}
 use Rattle.table.proofs.Search.{Written, other, spread-step}
 use Rattle.table.proofs.Sums.{sumTo-more, uses-more, ups-more, ups-le, new, keys-more}
 
@@ -59,13 +59,15 @@ module _ {K : Type 0} (same : K → K → Bool) (same-eq : (a b : K) → same a 
 
   -- one more use, counted in row r, which is free or the key's, where no other row has the key. How r was found is not said
   module _ (n : ℕ) (key : ℕ → K) (cnt up : ℕ → ℕ) (es : List (Use K)) (x : Use K) (r : ℕ)
-      (m : Rows same n key cnt up es) (lr : r < n) (holds : 0 < cnt r → key r ≡ x .key) (other : (i : ℕ) → i < n → 0 < cnt i → i ≢ r → key i ≢ x .key) where
+      (m : Rows same n key cnt up es) (lr : r < n) (holds : 0 < cnt r → key r ≡ x .key)
+      (other : (i : ℕ) → i < n → 0 < cnt i → i ≢ r → key i ≢ x .key) where
     row-uses : cnt r ≡ uses same (x .key) es
     row-uses =
         elim (decLt 0 (cnt r)) [
           | yes a ↦ m .counted r lr a ∙ ap (λ (z : K). uses same z es) (holds a)
           | no a ↦ elim (decLt 0 (uses same (x .key) es)) [
-            | yes b ↦ (let w = m .has (x .key) b in absurd (other (w .0) (w .1) (w .2) (λ e. let z : cnt (w .0) ≡ cnt r = ap cnt e in a (rw z at (w .2))) (w .3)))
+            | yes b ↦ (let w = m .has (x .key) b in absurd
+                (other (w .0) (w .1) (w .2) (λ e. let z : cnt (w .0) ≡ cnt r = ap cnt e in a (rw z at (w .2))) (w .3)))
             | no b ↦ omega arith
           ]
         ]
@@ -108,7 +110,8 @@ module _ {K : Type 0} (same : K → K → Bool) (same-eq : (a b : K) → same a 
       sums′ : (Q : K → ℕ) → sumTo (λ i. gate (cnt′ i) (Q (key′ i))) n ≡ sumBy Q (keys same (es ++ x ∷ []))
       sums′ Q =
           rw (keys-more same same-eq same-refl Q es x, ← m .sums Q)
-          (sumTo-more (λ i. gate (cnt i) (Q (key i))) (λ i. gate (cnt′ i) (Q (key′ i))) n r (new (uses same (x .key) es) (Q (x .key))) lr (λ i l ne. rw (b .cnt-off i ne, b .key-off i ne))
+          (sumTo-more (λ i. gate (cnt i) (Q (key i))) (λ i. gate (cnt′ i) (Q (key′ i))) n r
+          (new (uses same (x .key) es) (Q (x .key))) lr (λ i l ne. rw (b .cnt-off i ne, b .key-off i ne))
           (rw (b .cnt-at, b .key-at, ← row-uses) (gate-more (cnt r) (Q (key r)) (Q (x .key)) (λ l. ap Q (holds l)))))
 
       pub rows-step : Rows same n key′ cnt′ up′ (es ++ x ∷ [])
@@ -123,14 +126,23 @@ module _ {K : Type 0} (same : K → K → Bool) (same-eq : (a b : K) → same a 
 
   -- the same, where r was found by a search from the key's home
   module _ (n : ℕ) (home : K → ℕ) (key : ℕ → K) (cnt up : ℕ → ℕ) (es : List (Use K)) (x : Use K) (r : ℕ)
-      (home-in : home (x .key) < n) (m : Means same n home key cnt up es) (f : Found n (home (x .key)) key cnt (x .key) r) where
+      (home-in : home (x .key) < n) (m : MeansUses same n home key cnt up es) (f : Found n (home (x .key)) key cnt (x .key) r) where
     module _ (key′ : ℕ → K) (cnt′ up′ : ℕ → ℕ) (b : Bumped r (x .key) (x .up) key key′ cnt cnt′ up up′) where
       written : Written n r (x .key) key key′ cnt cnt′
-      written = record { key-at = b .key-at; mark-at = omega (arith, b .cnt-at); key-off = λ i l ne u. b .key-off i ne; mark-off = λ i l. b .cnt-off i }
+      written =
+          record {
+            key-at = b .key-at;
+            mark-at = omega (arith, b .cnt-at);
+            key-off = λ i l ne u. b .key-off i ne;
+            mark-off =
+                λ i l. b .cnt-off i;
+          }
 
-      pub step : Means same n home key′ cnt′ up′ (es ++ x ∷ [])
+      pub step : MeansUses same n home key′ cnt′ up′ (es ++ x ∷ [])
       step = record {
-        rows = rows-step n key cnt up es x r (m .rows) (f .within) (f .holds) (other n home key cnt (x .key) r home-in (m .spread) f) key′ cnt′ up′ b;
+        rows =
+            rows-step n key cnt up es x r (m .rows) (f .within) (f .holds)
+            (other n home key cnt (x .key) r home-in (m .spread) f) key′ cnt′ up′ b;
         spread = spread-step n home key cnt (x .key) r home-in (m .spread) f key′ cnt′ written;
       }
 
@@ -149,7 +161,8 @@ sumTo-none f zero h = refl
 sumTo-none f (suc n) h = omega (arith, sumTo-none f n (λ i l. h i (omega arith)), h n (omega arith))
 
 -- a table of free rows means no uses
-pub empty : {K : Type 0} (same : K → K → Bool) (n : ℕ) (home : K → ℕ) (key : ℕ → K) (cnt up : ℕ → ℕ) → ((i : ℕ) → i < n → (cnt i ≡ 0) × (up i ≡ 0)) → Means same n home key cnt up []
+pub empty : {K : Type 0} (same : K → K → Bool) (n : ℕ) (home : K → ℕ) (key : ℕ → K) (cnt up : ℕ → ℕ)
+    → ((i : ℕ) → i < n → (cnt i ≡ 0) × (up i ≡ 0)) → MeansUses same n home key cnt up []
 unfolding uses keys sumBy
 empty same n home key cnt up z = record {
   rows = record {

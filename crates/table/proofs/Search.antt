@@ -1,4 +1,5 @@
--- What a search finds, and what writing the row that it found does to a table: the part that is the same for every kind of table. Assumes nothing.
+-- What a search finds, and what writing the row that it found does to a table: the part that is the same for every kind of table. Assumes
+-- nothing.
 use mathlib.Core.Path.{_≡_, sym, ap, _∙_}
 use mathlib.Core.Logic.{_≢_, _⊎_, inl, inr, ⊎-elim}
 use Prim.Native.Nat.{ℕ, zero, suc, _+_, _-_, _*_, _≤_, _<_}
@@ -7,7 +8,7 @@ use native.Mathlib.Nat.{mul-le-mul-right}
 use native.Mathlib.Decide.{ℕ-discrete, decLt, decLe}
 use borrow.Author.Tests.{le-leb, lt-leb, eq-eqb, ne-eqb}
 use Rattle.table.proofs.Sums.{sumTo-pos}
-use Rattle.table.specs.Rows.{sumTo, homeRow, nextRow, dist, Passed, Found, Free, Spread}
+use Rattle.table.specs.inner.Rows.{sumTo, homeRow, nextRow, dist, Passed, Found, Free, Spread}
 
 -- ---- the way of a search
 
@@ -93,7 +94,8 @@ free-or-full : (cnt : ℕ → ℕ) (n : ℕ) → ((i : ℕ) × (i < n) × (cnt i
 free-or-full cnt zero = inr (λ i l. omega arith)
 free-or-full cnt (suc n) =
     elim (decLt 0 (cnt n)) [
-      | yes a ↦ ⊎-elim (λ w. inl (w .0, omega (arith, w .1), w .2)) (λ all. inr (λ i l. elim (decLt i n) [ yes b ↦ all i b | no b ↦ (let e : i ≡ n = omega arith in rw e a) ])) (free-or-full cnt n)
+      | yes a ↦ ⊎-elim (λ w. inl (w .0, omega (arith, w .1), w .2))
+          (λ all. inr (λ i l. elim (decLt i n) [ yes b ↦ all i b | no b ↦ (let e : i ≡ n = omega arith in rw e a) ])) (free-or-full cnt n)
       | no a ↦ inl (n, omega arith, omega arith)
     ]
 
@@ -117,7 +119,8 @@ module _ {K : Type 0} (n : ℕ) (home : K → ℕ) (key : ℕ → K) (mark : ℕ
       elim (decLt (dist n (home k) i) (dist n (home k) r)) [
         | yes a ↦ f .passed i li a .1 e
         | no a ↦ elim (decLt (dist n (home k) r) (dist n (home k) i)) [
-          | yes b ↦ (let c : 0 < mark r = m .reach i r li ci (f .within) (rw e b) in ne (m .one i r li ci (f .within) c (e ∙ sym (f .holds c))))
+          | yes b ↦ (let c : 0 < mark r = m .reach i r li ci (f .within) (rw e b) in
+              ne (m .one i r li ci (f .within) c (e ∙ sym (f .holds c))))
           | no b ↦ ne (dist-one n (home k) home-in i r li (f .within) (omega arith))
         ]
       ]
@@ -125,14 +128,19 @@ module _ {K : Type 0} (n : ℕ) (home : K → ℕ) (key : ℕ → K) (mark : ℕ
   module _ (key′ : ℕ → K) (mark′ : ℕ → ℕ) (w : Written n r k key key′ mark mark′) where
     one′ : (i j : ℕ) → Dec (i ≡ r) → Dec (j ≡ r) → i < n → 0 < mark′ i → j < n → 0 < mark′ j → key′ i ≡ key′ j → i ≡ j
     one′ i j (yes e) (yes e′) li ci lj cj q = e ∙ sym e′
-    one′ i j (yes e) (no ne) li ci lj cj q = let u : 0 < mark j = rw (w .mark-off j lj ne) at cj in absurd (other j lj u ne (sym (w .key-off j lj ne u) ∙ sym q ∙ ap key′ e ∙ w .key-at))
-    one′ i j (no ne) (yes e) li ci lj cj q = let u : 0 < mark i = rw (w .mark-off i li ne) at ci in absurd (other i li u ne (sym (w .key-off i li ne u) ∙ q ∙ ap key′ e ∙ w .key-at))
+    one′ i j (yes e) (no ne) li ci lj cj q =
+        let u : 0 < mark j = rw (w .mark-off j lj ne) at cj in
+        absurd (other j lj u ne (sym (w .key-off j lj ne u) ∙ sym q ∙ ap key′ e ∙ w .key-at))
+    one′ i j (no ne) (yes e) li ci lj cj q =
+        let u : 0 < mark i = rw (w .mark-off i li ne) at ci in
+        absurd (other i li u ne (sym (w .key-off i li ne u) ∙ q ∙ ap key′ e ∙ w .key-at))
     one′ i j (no ne) (no nj) li ci lj cj q =
         let u : 0 < mark i = rw (w .mark-off i li ne) at ci in
         let v : 0 < mark j = rw (w .mark-off j lj nj) at cj in
         m .one i j li u lj v (sym (w .key-off i li ne u) ∙ q ∙ w .key-off j lj nj v)
 
-    reach′ : (i j : ℕ) → Dec (i ≡ r) → Dec (j ≡ r) → i < n → 0 < mark′ i → j < n → dist n (home (key′ i)) j < dist n (home (key′ i)) i → 0 < mark′ j
+    reach′ : (i j : ℕ) → Dec (i ≡ r) → Dec (j ≡ r) → i < n → 0 < mark′ i → j < n
+        → dist n (home (key′ i)) j < dist n (home (key′ i)) i → 0 < mark′ j
     reach′ i j d (yes e) li ci lj l = rw e (w .mark-at)
     reach′ i j (yes e) (no nj) li ci lj l = rw (w .mark-off j lj nj) (f .passed j lj (rw (e, w .key-at) at l) .0)
     reach′ i j (no ne) (no nj) li ci lj l =
@@ -140,4 +148,5 @@ module _ {K : Type 0} (n : ℕ) (home : K → ℕ) (key : ℕ → K) (mark : ℕ
         rw (w .mark-off j lj nj) (m .reach i j li u lj (rw (w .key-off i li ne u) at l))
 
     pub spread-step : Spread n home key′ mark′
-    spread-step = record { one = λ i j. one′ i j (ℕ-discrete i r) (ℕ-discrete j r); reach = λ i j. reach′ i j (ℕ-discrete i r) (ℕ-discrete j r) }
+    spread-step =
+        record { one = λ i j. one′ i j (ℕ-discrete i r) (ℕ-discrete j r); reach = λ i j. reach′ i j (ℕ-discrete i r) (ℕ-discrete j r) }

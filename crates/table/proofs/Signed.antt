@@ -6,8 +6,8 @@ use Prim.Native.Nat.{ℕ, zero, suc, _+_}
 use native.Mathlib.Omega.{arith}
 use lib.IntN.{ℤ, pos, negsuc, sucℤ, predℤ, natAbs}
 use Rattle.ids.specs.Uses.{Use, uses, signedSum, counting, bit}
-use Rattle.table.specs.Counts.{magnitude}
-use Rattle.table.specs.Table.{ups}
+use Rattle.table.specs.inner.Counts.{sumSize}
+use Rattle.table.specs.inner.Table.{ups}
 
 -- z is u - (n - u), with u ≤ n
 Twice : ℤ → ℕ → ℕ → Type 0
@@ -37,8 +37,8 @@ twice-more false v z n u e = twice-none z n u e
 twice-more true true z n u e = twice-up z n u e
 twice-more true false z n u e = twice-down z n u e
 
-twice-size : (z : ℤ) (n u : ℕ) → Twice z n u → natAbs z ≡ magnitude n u
-unfolding Twice magnitude
+twice-size : (z : ℤ) (n u : ℕ) → Twice z n u → natAbs z ≡ sumSize n u
+unfolding Twice sumSize
 twice-size (pos a) n u e = omega arith
 twice-size (negsuc a) n u e = omega arith
 
@@ -49,5 +49,5 @@ module _ {K : Type 0} (same : K → K → Bool) (k : K) where
   twice (e ∷ es) = twice-more (same k (e .key)) (e .up) (signedSum same k es) (uses same k es) (ups same k es) (twice es)
 
   -- the magnitude of the signed sum, by the counts that a table keeps
-  pub sized : (es : List (Use K)) → natAbs (signedSum same k es) ≡ magnitude (uses same k es) (ups same k es)
+  pub sized : (es : List (Use K)) → natAbs (signedSum same k es) ≡ sumSize (uses same k es) (ups same k es)
   sized es = twice-size (signedSum same k es) (uses same k es) (ups same k es) (twice es)

@@ -12,8 +12,8 @@ use lib.Dec.{ltb}
 use lib.ListN.{length}
 use borrow.Author.Tests.{lt-ltb}
 use Rattle.ids.specs.Uses.{Use, uses, keys, sumBy, bit}
-use Rattle.table.specs.Rows.{sumTo}
-use Rattle.table.specs.Table.{ups}
+use Rattle.table.specs.inner.Rows.{sumTo}
+use Rattle.table.specs.inner.Table.{ups}
 
 -- one term more
 pub sumTo-next : (f : ℕ → ℕ) (n : ℕ) → sumTo f (n + 1) ≡ sumTo f n + f n
@@ -107,7 +107,8 @@ module _ {K : Type 0} (same : K → K → Bool) where
     tail a k A U S false false p q h = rw (add-zero, zero-add) (omega arith)
 
     -- the keys' sum with one use more at the end: more by the key's term if the key is new
-    pub keys-more : (es : List (Use K)) (e : Use K) → sumBy Q (keys same (es ++ e ∷ [])) ≡ sumBy Q (keys same es) + new (uses same (e .key) es) (Q (e .key))
+    pub keys-more : (es : List (Use K)) (e : Use K)
+        → sumBy Q (keys same (es ++ e ∷ [])) ≡ sumBy Q (keys same es) + new (uses same (e .key) es) (Q (e .key))
     unfolding keys sumBy uses new
     keys-more [] e = omega arith
     keys-more (x ∷ es) e =
@@ -115,4 +116,5 @@ module _ {K : Type 0} (same : K → K → Bool) where
         let k : K = e .key in
         let more : List (Use K) = es ++ e ∷ [] in
         rw (sum-cond (uses same a more) a (keys same more), sum-cond (uses same a es) a (keys same es), uses-more a es e, keys-more es e)
-        (tail a k (uses same a es) (uses same k es) (sumBy Q (keys same es)) (same a k) (same k a) refl refl (ap (λ (z : K). uses same z es)))
+        (tail a k (uses same a es) (uses same k es) (sumBy Q (keys same es)) (same a k) (same k a) refl refl
+        (ap (λ (z : K). uses same z es)))

@@ -1,4 +1,5 @@
--- How many rows are in use, whatever they hold: none in an empty table; where they are fewer than all, some row is free; a row that is written makes at most one more. Assumes nothing.
+-- How many rows are in use, whatever they hold: none in an empty table; where they are fewer than all, some row is free; a row that is
+-- written makes at most one more. Assumes nothing.
 use mathlib.Core.Path.{_≡_}
 use mathlib.Core.Logic.{_≢_}
 use Prim.Native.Nat.{ℕ, _+_, _-_, _≤_, _<_}
@@ -7,7 +8,7 @@ use native.Mathlib.Decide.{decLt}
 use borrow.Author.Tests.{lt-ltb, le-ltb}
 use lib.Dec.{ltb}
 use Rattle.ids.specs.Uses.{bit}
-use Rattle.table.specs.Rows.{sumTo, Free}
+use Rattle.table.specs.inner.Rows.{sumTo, Free}
 use Rattle.table.proofs.Sums.{sumTo-more}
 use Rattle.table.proofs.Search.{has-free}
 use Rattle.table.proofs.Probe.{sumTo-none}
@@ -34,6 +35,12 @@ used-few mark n l =
     let w = has-free (isUsed mark) n l in
     (w .0, w .1, elim (decLt 0 (mark (w .0))) [ yes u ↦ absurd (omega (arith, w .2, used-is mark (w .0) u)) | no u ↦ omega arith ])
 
-pub used-more : (mark mark′ : ℕ → ℕ) (n r : ℕ) → r < n → ((i : ℕ) → i < n → i ≢ r → mark′ i ≡ mark i) → 0 < mark′ r → sumTo (isUsed mark′) n ≤ sumTo (isUsed mark) n + 1
+pub used-more : (mark mark′ : ℕ → ℕ) (n r : ℕ) → r < n → ((i : ℕ) → i < n → i ≢ r → mark′ i ≡ mark i) → 0 < mark′ r
+    → sumTo (isUsed mark′) n ≤ sumTo (isUsed mark) n + 1
 used-more mark mark′ n r l off at =
-    omega (arith, used-le mark r, sumTo-more (isUsed mark) (isUsed mark′) n r (1 - isUsed mark r) l (λ i b ne. rw (off i b ne)) (omega (arith, used-le mark r, used-is mark′ r at)))
+    omega (
+      arith,
+      used-le mark r,
+      sumTo-more (isUsed mark) (isUsed mark′) n r (1 - isUsed mark r) l (λ i b ne. rw (off i b ne))
+          (omega (arith, used-le mark r, used-is mark′ r at)),
+    )

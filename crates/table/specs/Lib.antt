@@ -1,4 +1,2 @@
--- What the tables in lent words mean. No definition of document 01 is here: these are what the routines' own contracts, below the public ones, speak of.
-pub mod Rows
-pub mod Counts
-pub mod Table
+-- What the tables in lent words mean. No definition of document 01 is here, and nothing that a reader has to believe.
+pub mod inner

@@ -2,9 +2,10 @@
 ghost use mathlib.Core.Path.{_≡_};
 ghost use Prim.Native.Nat.{_≤_, _<_, min, max};
 ghost use lib.ListN.{length};
-ghost use Rattle.ids.specs.Triangles.{distinct as isDistinct, triangle, triangleCount};
+ghost use Rattle.ids.specs.Triangles.{distinct as isDistinct, triangle};
 ghost use Rattle.ids.specs.Lent.{cleared, refusal as refusalOf};
-ghost use Rattle.table.specs.Rows.{homeRow, nextRow};
+ghost use Rattle.table.specs.inner.Rows.{homeRow, nextRow};
+ghost use Rattle.table.specs.inner.Words.{TriangleOf};
 
 pub fn lesser(a: u32, b: u32) -> u32
     ensures { λ r. ⌜ r ≡ min a b ⌝ }
@@ -27,7 +28,7 @@ pub fn distinct(a: u32, b: u32, c: u32) -> bool
 
 // Do the three ids of triangle t differ?
 pub fn distinct_at(ids: &[u32], t: usize) -> bool
-    requires { ⌜ (length (now ids) ≤ 98304) × (t < triangleCount (now ids)) ⌝ }
+    requires { ⌜ TriangleOf (now ids) t ⌝ }
     ensures { λ r. ⌜ r ≡ isDistinct (triangle (now (ids .entry)) t) ⌝ }
 {
     let at = 3 * t;

@@ -6,7 +6,7 @@ use Prim.Native.Nat.{ℕ}
 use lib.ListN.{length}
 use Rattle.ids.specs.Triangles.{overTriangles}
 use Rattle.ids.specs.EdgeChain.{enough, chain}
-use Rattle.edges.specs.Tests.{edgesOf}
+use Rattle.edges.specs.inner.Tests.{edgesOf}
 
 pub chain-all : (ids : List ℕ) → enough (length ids) ≡ true → chain ids ≡ overTriangles (edgesOf true) ids
 unfolding chain edgesOf

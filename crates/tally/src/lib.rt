@@ -1,14 +1,18 @@
-// What a table of edges or of faces says of a list of ids, and the edge chain and face net of ids that stand in the lent area itself, behind their table.
-// Internal: `chain` and `verdict` ask it. Nothing is refused here, and what the `_behind` forms counted is left in front of the ids.
+// What a table of edges or of faces says of a list of ids, and the edge chain and face net of ids that stand in the lent
+// area itself, behind their table. Internal: `chain` and `verdict` ask it. Nothing is refused here, and what the
+// `_behind` forms counted is left in front of the ids.
 ghost use mathlib.Core.Path.{_≡_};
+ghost use mathlib.Core.List.{List};
 ghost use Prim.Native.Nat.{ℕ, _+_, _-_, _*_, _≤_};
 ghost use lib.ListN.{length, take, drop};
-ghost use mathlib.Core.List.{List, []};
 ghost use Rattle.ids.specs.Triangles.{triangleCount};
+ghost use Rattle.ids.specs.Lent.{mostEntries};
 ghost use Rattle.ids.specs.EdgeChain.{enough as enoughIds, chain, boundaryFree, overIncident};
 ghost use Rattle.ids.specs.FaceNet.{faces, maxAbs, allCancel};
-ghost use Rattle.steps.specs.Rows.{EdgeTable};
-ghost use Rattle.faces.specs.Rows.{FaceTable};
+ghost use Rattle.table.specs.inner.Front.{IdsBehind, InFront};
+ghost use Rattle.steps.specs.inner.Rows.{EdgeTable, EdgeRows};
+ghost use Rattle.edges.specs.inner.Gather.{EdgesToCome};
+ghost use Rattle.faces.specs.inner.Rows.{FaceTable, FaceRows};
 
 // What the edge chain and the face net say of ids.
 pub struct Incidence {
@@ -32,8 +36,9 @@ pub fn enough(n: usize) -> bool
 
 // Counts the edges of the chain that are there, that are unbalanced and that have more than two uses.
 pub fn tally_edges(part: &[u32], n: usize) -> Incidence
-    requires { ⌜ (n ≤ 131072) × (3 * n ≤ length (now part)) ⌝ }
-    ensures { λ r. ⌜ ((ids : List ℕ) → EdgeTable n (now (part .entry)) (chain ids) → (r .«boundary_free» ≡ boundaryFree ids) × (r .«over_incident» ≡ overIncident ids)) ⌝ }
+    requires { ⌜ EdgeRows n (now part) ⌝ }
+    ensures { λ r. ⌜ ((ids : List ℕ) → EdgeTable n (now (part .entry)) (chain ids)
+        → (r .«boundary_free» ≡ boundaryFree ids) × (r .«over_incident» ≡ overIncident ids)) ⌝ }
 {
     let s = edges::survey_rows(part, n);
     Incidence {
@@ -44,8 +49,9 @@ pub fn tally_edges(part: &[u32], n: usize) -> Incidence
 
 // The largest magnitude of a face's sum, and whether all sums are 0.
 pub fn tally_faces(part: &[u32], n: usize) -> Net
-    requires { ⌜ (n ≤ 65536) × (2 * n ≤ length (now part)) ⌝ }
-    ensures { λ r. ⌜ ((ids : List ℕ) → FaceTable ids n (now (part .entry)) (faces ids) → (r .«max_abs» ≡ maxAbs ids) × (r .«all_cancel» ≡ allCancel ids)) ⌝ }
+    requires { ⌜ FaceRows n (now part) ⌝ }
+    ensures { λ r. ⌜ ((ids : List ℕ) → FaceTable ids n (now (part .entry)) (faces ids)
+        → (r .«max_abs» ≡ maxAbs ids) × (r .«all_cancel» ≡ allCancel ids)) ⌝ }
 {
     let net = faces::net(part, n);
     Net {
@@ -58,8 +64,9 @@ pub fn tally_faces(part: &[u32], n: usize) -> Net
 
 // Adds the uses of the chain to an empty table: none unless there are enough ids.
 fn gather_chain_behind(area: &mut [u32], at: usize, n: usize)
-    requires { ⌜ (at ≤ length (now area)) × (length (now area) ≤ at + 98304) × (length (now area) - at ≤ n) × (n ≤ 131072) × (3 * n ≤ at) × EdgeTable n (take at (now area)) [] ⌝ }
-    ensures { λ _. ⌜ EdgeTable n (take at (now (area .exit))) (chain (drop at (now (area .entry)))) × (drop at (now (area .exit)) ≡ drop at (now (area .entry))) ⌝ }
+    requires { ⌜ IdsBehind at (now area) × EdgesToCome (drop at (now area)) n (take at (now area)) ⌝ }
+    ensures { λ _. ⌜ InFront at (now (area .entry)) (now (area .exit))
+        (λ t. EdgeTable n t (chain (drop at (now (area .entry))))) ⌝ }
 {
     let go = enough(area.len() - at);
     if go {
@@ -69,8 +76,9 @@ fn gather_chain_behind(area: &mut [u32], at: usize, n: usize)
 
 // Is the chain of these ids boundary-free, is it over-incident? The ids stay.
 pub fn chain_behind(area: &mut [u32], at: usize) -> Incidence
-    requires { ⌜ (at ≤ length (now area)) × (length (now area) ≤ at + 98304) × (4 * (length (now area) - at) ≤ at) ⌝ }
-    ensures { λ r. ⌜ (r .«boundary_free» ≡ boundaryFree (drop at (now (area .entry)))) × (r .«over_incident» ≡ overIncident (drop at (now (area .entry))))
+    requires { ⌜ (at ≤ length (now area)) × (length (now area) ≤ at + mostEntries) × (4 * (length (now area) - at) ≤ at) ⌝ }
+    ensures { λ r. ⌜ (r .«boundary_free» ≡ boundaryFree (drop at (now (area .entry))))
+        × (r .«over_incident» ≡ overIncident (drop at (now (area .entry))))
         × (drop at (now (area .exit)) ≡ drop at (now (area .entry))) ⌝ }
 {
     let i = area.len() - at;
@@ -82,8 +90,9 @@ pub fn chain_behind(area: &mut [u32], at: usize) -> Incidence
 
 // The face net of these ids. They stay.
 pub fn net_behind(area: &mut [u32], at: usize) -> Net
-    requires { ⌜ (at ≤ length (now area)) × (length (now area) ≤ at + 98304) × (4 * triangleCount (drop at (now area)) ≤ at) ⌝ }
-    ensures { λ r. ⌜ (r .«max_abs» ≡ maxAbs (drop at (now (area .entry)))) × (r .«all_cancel» ≡ allCancel (drop at (now (area .entry))))
+    requires { ⌜ (at ≤ length (now area)) × (length (now area) ≤ at + mostEntries) × (4 * triangleCount (drop at (now area)) ≤ at) ⌝ }
+    ensures { λ r. ⌜ (r .«max_abs» ≡ maxAbs (drop at (now (area .entry))))
+        × (r .«all_cancel» ≡ allCancel (drop at (now (area .entry))))
         × (drop at (now (area .exit)) ≡ drop at (now (area .entry))) ⌝ }
 {
     let n = 2 * ((area.len() - at) / 3);

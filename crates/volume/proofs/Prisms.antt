@@ -7,7 +7,7 @@ use Rattle.ieee.specs.Single.{extent}
 use Rattle.raster.specs.declared.Axis.{Axis}
 use Rattle.raster.specs.declared.Window.{Window}
 use Rattle.raster.specs.Footprint.{windowOf}
-use Rattle.sums.specs.declared.Bounds.{Bounds}
+use Rattle.sums.specs.declared.bounds.Bounds.{Bounds}
 use Rattle.volume.specs.Best.{prismOn, orLess, orNone, prism}
 
 -- on one axis: the window s across it, the extent e along it, and their prism p

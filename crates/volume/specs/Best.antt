@@ -9,7 +9,7 @@ use Rattle.ieee.specs.Single.{_⊗_, nought, extent}
 use Rattle.raster.specs.declared.Axis.{Axis}
 use Rattle.raster.specs.declared.Window.{Window}
 use Rattle.raster.specs.Footprint.{windowOf, footprint}
-use Rattle.sums.specs.declared.Bounds.{Bounds}
+use Rattle.sums.specs.declared.bounds.Bounds.{Bounds}
 use Rattle.verdict.specs.declared.Quality.{Quality}
 use Rattle.volume.specs.declared.Best.{Best}
 use Rattle.volume.specs.declared.Method.{Method}

@@ -3,7 +3,7 @@ use mathlib.Core.Path.{subst}
 use Prim.Native.Nat.{ℕ, _*_}
 use native.Mathlib.Omega.{arith}
 use borrow.Author.Needs.{needs}
-use Rattle.table.specs.Rows.{Found}
+use Rattle.table.specs.inner.Rows.{Found}
 use Rattle.vertices.specs.Vertices.{vertexCount}
 use Rattle.cells.specs.declared.Code.{Code}
 use Rattle.cells.specs.Table.{codeAt, slotIn, keyIn, homeOf, Claimed}

@@ -1,27 +1,29 @@
--- `chain::net_in` meets its contract: the cleared part is an empty table, and what the table of all uses says is the answer. Assumes nothing.
-use mathlib.Core.Path.{_∙_}
-use Prim.Native.Nat.{_*_, _/_}
+-- `chain::net_in` meets its contract: the cleared part is an empty table, and what the table of all uses says is the answer. Assumes
+-- nothing.
 use native.Mathlib.Omega.{arith}
 use borrow.Author.Needs.{needs}
-use lib.ListN.{length}
-use Rattle.ids.proofs.Lent.{cleared-all}
-use Rattle.faces.proofs.Rows.{zero-table}
+use Rattle.table.proofs.Words.{leaves}
+use Rattle.chain.proofs.Chain.{emptied-faces}
 use Rattle.chain.proofs.net_in.Statement.{statement}
 use Rattle.chain.proofs.net_in.Tie as tie
 
+abbrev cleared : tie.After-gather-arg → tie.After-clear
+cleared c = c .before .before .before
+
+abbrev start : tie.After-clear → tie.Start
+start c = c .before .before .before .before
+
 gather-requires : tie.Need-gather-requires
-gather-requires c κs =
-    let s = c .before .before .before .before .before .before .before in
-    let ids = s .args .ids .now in
-    let k = c .before .before .before .clear in
-    (s .pre .0, omega arith, omega (arith, s .pre .0), omega (arith, s .pre .1, k .kept), rw (k .ensures, cleared-all (4 * (length ids / 3)) (s .args .part .now) (omega (arith, s .pre .1))) (zero-table ids (2 * (length ids / 3)) (4 * (length ids / 3)) (omega arith) (λ l. omega arith)))
+gather-requires c κs = let k = cleared c in emptied-faces _ _ _ (k .clear .kept .0) (start k .pre) (k .clear .ensures)
 
 returns : tie.Need-returns
 returns c =
-    let s = c .before .before .before .before .before .before .before .before .before .before .before .before .before .before .before .before in
-    let ids = s .args .ids .now in
-    let said = c .before .before .before .before .tally-faces .ensures ids (c .before .before .before .before .before .before .before .before .gather .ensures) in
-    (rw (said .0, said .1), c .before .before .clear2 .ensures ∙ cleared-all _ _ (omega (arith, s .pre .1, c .before .before .before .before .before .before .before .before .gather .kept, c .before .before .before .before .before .before .before .before .before .before .before .before .clear .kept)))
+    let told = c .before .before .before .before in
+    let g = told .before .before .before .before in
+    let k = cleared (g .before) in
+    let said = told .tally-faces .ensures (start k .args .ids .now) (g .gather .ensures) in
+    leaves _ (rw (said .0, said .1)) (omega (arith, start k .pre .long, g .gather .kept, k .clear .kept))
+    (c .before .before .clear2 .ensures)
 
 pub net-in-spec : {M : Type 1} → statement M
 net-in-spec =

@@ -3,9 +3,9 @@ use mathlib.Core.Path.{_≡_, refl}
 use Prim.Native.Nat.{_-_, _≤_}
 use native.Mathlib.Omega.{arith}
 use borrow.Author.Needs.{needs}
-use Rattle.table.specs.Rows.{sumTo}
+use Rattle.table.specs.inner.Rows.{sumTo}
 use Rattle.table.proofs.Sums.{sumTo-next}
-use Rattle.edges.specs.Tests.{testOf, rowBit}
+use Rattle.edges.specs.inner.Tests.{testOf, rowBit}
 use Rattle.edges.proofs.count.Statement.{statement}
 use Rattle.edges.proofs.count.Tie as tie
 
@@ -24,8 +24,11 @@ unfolding rowBit
 loop-again c =
     let s = c .before .before .before .before .before in
     let l = c .before .before .before .loop in
-    let e : c .passes .result ≡ rowBit (testOf (s .args .test)) (s .args .work .now) (l .i) = c .passes .ensures .0 in
-    (omega arith, omega (arith, sumTo-next (rowBit (testOf (s .args .test)) (s .args .work .now)) (l .i)), omega (arith, c .passes .ensures .1))
+    let e : c .passes .result ≡ rowBit (testOf (s .args .test)) (s .args .work .now) (l .i) = c .passes .ensures .0 in (
+      omega arith,
+      omega (arith, sumTo-next (rowBit (testOf (s .args .test)) (s .args .work .now)) (l .i)),
+      omega (arith, c .passes .ensures .1),
+    )
 
 returns : tie.Need-returns Inv-loop μ-loop
 returns c =

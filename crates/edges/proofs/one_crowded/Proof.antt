@@ -9,7 +9,8 @@ use Rattle.edges.proofs.one_crowded.Tie as tie
 
 returns : tie.Need-returns
 unfolding crowded bit
-returns c = (rw (gate-pos (c .before .args .uses) _ (omega arith), lt-ltb 2 (c .before .args .uses) (omega (arith, c .if1 .taken))), omega arith)
+returns c =
+    (rw (gate-pos (c .before .args .uses) _ (omega arith), lt-ltb 2 (c .before .args .uses) (omega (arith, c .if1 .taken))), omega arith)
 
 returns-2 : tie.Need-returns-2
 unfolding crowded bit

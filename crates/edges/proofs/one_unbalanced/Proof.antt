@@ -4,24 +4,24 @@ use native.Mathlib.Omega.{arith}
 use borrow.Author.Tests.{eq-eqb, ne-eqb}
 use Rattle.ids.specs.Uses.{bit}
 use Rattle.ids.specs.EdgeChain.{unbalanced}
-use Rattle.table.specs.Counts.{magnitude}
+use Rattle.table.specs.inner.Counts.{sumSize}
 use Rattle.table.proofs.Probe.{gate-zero, gate-pos}
 use Rattle.edges.proofs.one_unbalanced.Statement.{statement}
 use Rattle.edges.proofs.one_unbalanced.Tie as tie
 
 returns : tie.Need-returns
-unfolding unbalanced bit magnitude
+unfolding unbalanced bit sumSize
 returns c =
     let p = c .before .args .ups in
     let m = c .before .args .ups + c .before .args .downs in
-    (rw (eq-eqb (magnitude m p) 0 (omega arith), gate-zero), omega arith)
+    (rw (eq-eqb (sumSize m p) 0 (omega arith), gate-zero), omega arith)
 
 returns-2 : tie.Need-returns-2
-unfolding unbalanced bit magnitude
+unfolding unbalanced bit sumSize
 returns-2 c =
     let p = c .before .args .ups in
     let m = c .before .args .ups + c .before .args .downs in
-    (rw (gate-pos m (bit (unbalanced m (magnitude m p))) (omega arith), ne-eqb (magnitude m p) 0 (λ z. omega arith)), omega arith)
+    (rw (gate-pos m (bit (unbalanced m (sumSize m p))) (omega arith), ne-eqb (sumSize m p) 0 (λ z. omega arith)), omega arith)
 
 pub one-unbalanced-spec : {M : Type 1} → statement M
 one-unbalanced-spec =

@@ -1,5 +1,5 @@
--- `edges::one_unpaired` meets its contract, by how often the edge is used: never, once, twice or more, and for twice how often upwards. So only another
--- answer is refused, and no other wording. Assumes nothing.
+-- `edges::one_unpaired` meets its contract, by how often the edge is used: never, once, twice or more, and for twice how often upwards.
+-- So only another answer is refused, and no other wording. Assumes nothing.
 use mathlib.Core.Path.{_≡_, _∙_}
 use Prim.Native.Nat.{ℕ, _≤_, _<_}
 use native.Mathlib.Decide.{ℕ-discrete}

@@ -2,8 +2,8 @@
 use native.Mathlib.Omega.{arith}
 use borrow.Author.Needs.{needs}
 use Rattle.ids.specs.EdgeChain.{present, crowded}
-use Rattle.table.specs.Counts.{usesIn, upsIn}
-use Rattle.edges.specs.Tests.{testOf}
+use Rattle.table.specs.inner.Counts.{usesIn, upsIn}
+use Rattle.edges.specs.inner.Tests.{testOf}
 use Rattle.edges.proofs.Tally.{test-rest}
 use Rattle.edges.proofs.passes.Statement.{statement}
 use Rattle.edges.proofs.passes.Tie as tie

@@ -6,10 +6,10 @@ use Rattle.edges.proofs.proper_step.Statement.{statement}
 use Rattle.edges.proofs.proper_step.Tie as tie
 
 returns : tie.Need-returns
-returns c = λ es m. rw (step-level _ _ (c .if1 .taken), append-none) m
+returns c = record { adds = λ es m. rw (step-level _ _ (c .if1 .taken), append-none) m }
 
 returns-2 : tie.Need-returns-2
-returns-2 c = λ es m. rw (step-proper _ _ (c .before .before .before .before .if1 .left)) (c .before .before .walk .ensures es m)
+returns-2 c = rw (step-proper _ _ (c .before .before .before .before .if1 .left)) (c .before .before .walk .ensures)
 
 pub proper-step-spec : {M : Type 1} → statement M
 proper-step-spec =

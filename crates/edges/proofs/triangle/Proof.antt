@@ -1,51 +1,48 @@
--- `edges::triangle` meets its contract: a triangle that repeats an id makes no use, another makes three, each with room for those to come. Assumes nothing.
+-- `edges::triangle` meets its contract: a triangle that repeats an id makes no use, another makes three, each with room for those to
+-- come. Assumes nothing.
 use mathlib.Core.Path.{sym, _∙_}
-use mathlib.Core.List.{[], _∷_, append-assoc}
-use borrow.Author.Tests.{not-true, not-false}
-use Rattle.ids.specs.EdgeChain.{step}
-use Rattle.ids.proofs.Triangles.{append-none}
-use Rattle.steps.specs.Rows.{Room}
-use Rattle.edges.proofs.Triangles.{around-none, around-all}
-use Rattle.steps.proofs.Within.{room-less, room-after}
 use native.Mathlib.Omega.{arith}
 use borrow.Author.Needs.{needs}
+use borrow.Author.Tests.{not-true, not-false}
+use Rattle.ids.proofs.Triangles.{append-none}
+use Rattle.steps.proofs.Within.{first-fits, second-fits, third-fits, three-added}
+use Rattle.edges.proofs.Triangles.{around-none, around-all}
 use Rattle.edges.proofs.triangle.Statement.{statement}
 use Rattle.edges.proofs.triangle.Tie as tie
 
 returns : tie.Need-returns
-returns c = λ es m. rw (around-none _ (sym (c .before .distinct .ensures) ∙ not-true (c .before .distinct .result) (c .if1 .taken)), append-none) m
+returns c =
+    let none = around-none _ (sym (c .before .distinct .ensures) ∙ not-true (c .before .distinct .result) (c .if1 .taken)) in
+    record { adds = λ es m. rw (none, append-none) m }
 
 walk-requires : tie.Need-walk-requires
-walk-requires c κs = let s = c .before .before .before .before in (s .pre .0, s .pre .1, room-less (s .args .n) (s .args .work .now) 3 1 (omega arith) (s .pre .2))
+walk-requires c κs = first-fits (c .before .before .before .before .pre)
 
--- after the first step there is room for two
-second : (c : tie.After-walk) → Room (c .before .before .before .before .before .args .n) (c .walk .last .0) 2
-second c =
-    let s = c .before .before .before .before .before in
-    let k = c .walk in
-    let w = s .pre .2 in
-    room-after (s .args .n) (s .args .work .now) (k .last .0) 3 2 (step (s .args .a) (s .args .b) ∷ []) (omega arith) (omega arith) w (k .ensures (w .so-far) (w .means))
+-- from the second step back to the first
+abbrev first : tie.After-walk-arg2 → tie.After-walk
+first c = c .before .before .before
+
+abbrev start : tie.After-walk → tie.Start
+start c = c .before .before .before .before .before
 
 walk-requires-2 : tie.Need-walk-requires-2
-walk-requires-2 c κs =
-    let first = c .before .before .before in
-    let s = c .before .before .before .before .before .before .before .before in
-    let k = first .walk in
-    (s .pre .0, omega (arith, s .pre .1, k .kept), room-less (s .args .n) (k .last .0) 2 1 (omega arith) (second first))
+walk-requires-2 c κs = let one = first c in second-fits (start one .pre) (omega arith) (one .walk .kept .0) (one .walk .ensures)
 
 walk-requires-3 : tie.Need-walk-requires-3
 walk-requires-3 c κs =
-    let first = c .before .before .before .before .before .before .before in
-    let s = c .before .before .before .before .before .before .before .before .before .before .before .before in
-    let j = first .walk in
-    let k = c .before .before .before .walk2 in
-    let w = second first in
-    (s .pre .0, omega (arith, s .pre .1, k .kept, j .kept), room-after (s .args .n) (j .last .0) (k .last .0) 2 1 (step (s .args .b) (s .args .c) ∷ []) (omega arith) (omega arith) w (k .ensures (w .so-far) (w .means)))
+    let two = c .before .before .before in
+    let one = first (two .before) in
+    third-fits (start one .pre) (omega arith) (one .walk .kept .0) (one .walk .ensures) (omega arith) (two .walk2 .kept .0)
+    (two .walk2 .ensures)
 
 returns-2 : tie.Need-returns-2
 returns-2 c =
-    let three = sym (c .before .before .before .before .before .before .before .before .before .before .before .before .before .distinct .ensures) ∙ not-false (c .before .before .before .before .before .before .before .before .before .before .before .before .before .distinct .result) (c .before .before .before .before .before .before .before .before .before .before .before .before .if1 .left) in
-    λ es m. rw (around-all _ three) (simp append-assoc at (c .before .before .walk3 .ensures _ (c .before .before .before .before .before .before .walk2 .ensures _ (c .before .before .before .before .before .before .before .before .before .before .walk .ensures es m))))
+    let three = c .before .before in
+    let two = three .before .before .before .before in
+    let one = first (two .before) in
+    let test = one .before .before in
+    let all = around-all _ (sym (test .before .distinct .ensures) ∙ not-false (test .before .distinct .result) (test .if1 .left)) in
+    rw all (three-added (one .walk .ensures) (two .walk2 .ensures) (three .walk3 .ensures))
 
 pub triangle-spec : {M : Type 1} → statement M
 triangle-spec =

@@ -1,16 +1,16 @@
 -- `edges::triangle_by` meets its contract. Assumes nothing.
 use borrow.Author.Needs.{needs}
-use Rattle.edges.specs.Tests.{edgesOf}
+use Rattle.edges.specs.inner.Tests.{edgesOf}
 use Rattle.edges.proofs.triangle_by.Statement.{statement}
 use Rattle.edges.proofs.triangle_by.Tie as tie
 
 returns : tie.Need-returns
 unfolding edgesOf
-returns c = λ es m. rw (c .before .before .before .before .if1 .taken) (c .before .before .triangle .ensures es m)
+returns c = rw (c .before .before .before .before .if1 .taken) (c .before .before .triangle .ensures)
 
 returns-2 : tie.Need-returns-2
 unfolding edgesOf
-returns-2 c = λ es m. rw (c .before .before .before .before .if1 .left) (c .before .before .proper-triangle .ensures es m)
+returns-2 c = rw (c .before .before .before .before .if1 .left) (c .before .before .proper-triangle .ensures)
 
 pub triangle-by-spec : {M : Type 1} → statement M
 triangle-by-spec =

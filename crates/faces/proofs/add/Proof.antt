@@ -1,27 +1,42 @@
 -- `faces::add` meets its contract: from what the search found and what was written, by the law `adding`. Assumes nothing.
 use borrow.Author.Needs.{needs}
-use Rattle.faces.proofs.Adding.{bump-fits, adding}
-use Rattle.faces.proofs.Rows.{room-free}
+use Rattle.faces.proofs.Adding.{FaceSought, seekable, bump-fits, adding}
+use Rattle.faces.specs.declared.Sorted.{Sorted}
 use Rattle.faces.proofs.add.Statement.{statement}
 use Rattle.faces.proofs.add.Tie as tie
 
 find-requires : tie.Need-find-requires
-find-requires c κs =
-    let s = c .before .before .before .before .before .before in
-    let w = s .pre .4 in
-    (s .pre .0, c .before .home .ensures .1, s .pre .2, s .pre .3, w .3 .named, room-free (s .args .ids .now) (s .args .n) (s .args .work .now) w)
+find-requires c κs = seekable (c .before .before .before .before .before .before .pre) (c .before .home .ensures .1)
+
+module _ (c : tie.After-weight) where
+  abbrev homed : tie.After-home
+  homed = c .before .before .before .before
+
+  abbrev hashed : tie.After-hash
+  hashed = homed .before
+
+  abbrev st : tie.Start
+  st = hashed .before .before .before .before
+
+  abbrev ids : Sorted
+  ids = hashed .before .sort .result
+
+  sought : FaceSought (st .args .ids .now) (st .args .n) (st .args .work .now) (st .args .t)
+      (record { low = ids .low; mid = ids .mid; high = ids .high })
+      (hashed .hash .result) (homed .home .result) (c .before .before .find .result) (c .weight .result)
+  sought = record {
+    sorting = hashed .before .sort .ensures;
+    hashing = hashed .hash .ensures;
+    homing = homed .home .ensures .0;
+    found = c .before .before .find .ensures;
+    weighed = c .weight .ensures;
+  }
 
 bump-requires : tie.Need-bump-requires
-bump-requires c κs =
-    let s = c .before .before .before .before .before .before .before .before .before in
-    let a = s .args in
-    bump-fits (a .ids .now) (a .n) (a .work .now) (a .t) (c .before .before .before .before .home .result) (c .before .before .find .result) (c .weight .result) _ (s .pre .0) (s .pre .1) (s .pre .2) (s .pre .3) (s .pre .4) (c .before .before .find .ensures) (c .weight .ensures)
+bump-requires c κs = bump-fits (st c .pre) (sought c)
 
 returns : tie.Need-returns
-returns c =
-    let s = c .before .before .before .before .before .before .before .before .before .before .before .before in
-    let a = s .args in
-    adding (a .ids .now) (a .n) (a .work .now) (a .t) (c .before .before .before .before .before .before .before .home .result) (c .before .before .before .before .before .find .result) (c .before .before .before .weight .result) _ (s .pre .0) (s .pre .1) (s .pre .2) (s .pre .3) (s .pre .4) (c .before .before .before .before .before .find .ensures) (c .before .before .before .weight .ensures) (c .before .before .before .before .before .before .before .before .hash .result) _ (c .before .before .before .before .before .before .before .before .before .sort .ensures) (c .before .before .before .before .before .before .before .before .hash .ensures) (c .before .before .before .before .before .before .before .home .ensures .0) (c .before .before .bump .ensures)
+returns c = let bumped = c .before .before in rw (bumped .bump .ensures) (adding (st (bumped .before) .pre) (sought (bumped .before)))
 
 pub add-spec : {M : Type 1} → statement M
 add-spec =

@@ -4,12 +4,14 @@ use Prim.Native.Nat.{_<_}
 use native.Mathlib.Omega.{arith}
 use borrow.Author.Needs.{needs}
 use Rattle.table.proofs.Counts.{few-roomy, more-fits}
-use Rattle.faces.specs.Rows.{usesAt}
+use Rattle.faces.specs.inner.Rows.{faceUses}
 use Rattle.faces.proofs.bump.Statement.{statement}
 use Rattle.faces.proofs.bump.Tie as tie
 
 add-word-2 : tie.Need-add-word-2
-add-word-2 c = let few : usesAt (c .before .args .work .now) (c .before .args .r) < 65535 = omega (arith, c .before .pre .4) in omega (arith, more-fits _ (few-roomy _ few) true)
+add-word-2 c =
+    let few : faceUses (c .before .args .work .now) (c .before .args .r) < 65535 = omega (arith, c .before .pre .4) in
+    omega (arith, more-fits _ (few-roomy _ few) true)
 
 pub bump-spec : {M : Type 1} → statement M
 bump-spec =

@@ -1,12 +1,12 @@
--- `faces::hash` meets its contract: it computes `hashOf` in 64 bits, where nothing wraps. Assumes nothing.
+-- `faces::hash` meets its contract: it computes `faceHash` in 64 bits, where nothing wraps. Assumes nothing.
 use mathlib.Core.Path.{refl}
-use Rattle.faces.specs.Rows.{hashOf}
+use Rattle.faces.specs.inner.Rows.{faceHash}
 use borrow.Author.Needs.{needs}
 use Rattle.faces.proofs.hash.Statement.{statement}
 use Rattle.faces.proofs.hash.Tie as tie
 
 returns : tie.Need-returns
-unfolding hashOf
+unfolding faceHash
 returns c = refl
 
 pub hash-spec : {M : Type 1} → statement M

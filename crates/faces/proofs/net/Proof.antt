@@ -5,11 +5,11 @@ use native.Mathlib.Omega.{arith}
 use borrow.Author.Needs.{needs}
 use lib.Dec.{ltb}
 use mir.Val.{boolByte}
-use Rattle.table.specs.Rows.{sumTo}
-use Rattle.table.specs.Table.{maxTo}
+use Rattle.table.specs.inner.Rows.{sumTo}
+use Rattle.table.specs.inner.Table.{maxTo}
 use Rattle.table.proofs.Sums.{sumTo-next}
 use Rattle.table.proofs.Largest.{maxTo-next}
-use Rattle.faces.specs.Rows.{rowOff, rowSize}
+use Rattle.faces.specs.inner.Rows.{rowOff, rowSize}
 use Rattle.ids.proofs.Bits.{byte-bit, byte-small}
 use Rattle.faces.proofs.RowSums.{row-size, row-off}
 use Rattle.faces.proofs.net.Statement.{statement}
@@ -33,7 +33,8 @@ loop-again c =
     let l = c .before .before .before .before .loop in
     let t = c .before .before .before .before .before .before .args .work .now in
     let s : c .before .size .result ≡ rowSize t (l .i) = c .before .size .ensures ∙ sym (row-size t (l .i)) in
-    let o : boolByte (ltb 0 (c .before .size .result)) ≡ rowOff t (l .i) = rw s (byte-bit (ltb 0 (rowSize t (l .i))) ∙ sym (row-off t (l .i))) in (
+    let o : boolByte (ltb 0 (c .before .size .result)) ≡ rowOff t (l .i) =
+    rw s (byte-bit (ltb 0 (rowSize t (l .i))) ∙ sym (row-off t (l .i))) in (
       omega arith,
       omega (arith, c .greater .ensures, maxTo-next (rowSize t) (l .i)),
       omega (arith, sumTo-next (rowOff t) (l .i)),

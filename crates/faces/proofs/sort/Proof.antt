@@ -8,13 +8,15 @@ use Rattle.faces.proofs.sort.Tie as tie
 returns : tie.Need-returns
 unfolding triangle
 returns c =
-    let s = c .before .before .before .before .before .before .before .before .before .before in
-    let first = c .before .before .before .before .before .lesser .ensures in
-    let last = c .before .before .before .before .greater .ensures in
-    let low = c .before .before .before .lesser2 .ensures in
-    let mid = c .before .greater2 .ensures in
-    let lower = c .before .before .lesser3 .ensures in
-    rw (low, mid, c .greater3 .ensures, lower, first, last) (sorted-by (triangle (s .args .ids .now) (s .args .t)))
+    let two = c .before .before .before .before in
+    let st = two .before .before .before .before .before .before in
+    rw (
+      c .before .before .before .lesser2 .ensures,
+      c .before .greater2 .ensures,
+      c .greater3 .ensures,
+      c .before .before .lesser3 .ensures,
+    )
+    (rw (two .before .lesser .ensures, two .greater .ensures) (sorted-by (triangle (st .args .ids .now) (st .args .t))))
 
 pub sort-spec : {M : Type 1} → statement M
 sort-spec =

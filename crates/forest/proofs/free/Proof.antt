@@ -4,7 +4,7 @@ use Prim.Native.Nat.{_-_, _≤_}
 use native.Mathlib.Omega.{arith}
 use borrow.Author.Needs.{needs}
 use lib.ListN.{length, length-set}
-use Rattle.forest.specs.Words.{Freed}
+use Rattle.forest.specs.inner.Words.{Freed}
 use Rattle.forest.proofs.Words.{free-next}
 use Rattle.forest.proofs.free.Statement.{statement}
 use Rattle.forest.proofs.free.Tie as tie
@@ -20,8 +20,12 @@ loop-holds c = (omega arith, refl, record { parents = λ j. refl; slots = λ j l
 
 loop-again : tie.Need-loop-again Inv-loop μ-loop
 loop-again c =
-    let l = c .before .before .loop in
-    (omega arith, simp length-set (l .inv .1), free-next (c .before .before .before .args .work .now) (l .work) (l .i) (omega arith) (l .inv .2))
+    let l = c .before .before .loop in (
+      omega arith,
+      simp length-set (l .inv .1),
+      free-next (c .before .before .before .args .work .now) (l .work) (l .i) (omega arith)
+          (l .inv .2),
+    )
 
 returns : tie.Need-returns Inv-loop μ-loop
 returns c =

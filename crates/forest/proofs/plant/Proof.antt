@@ -4,7 +4,7 @@ use Prim.Native.Nat.{_-_, _≤_}
 use native.Mathlib.Omega.{arith}
 use borrow.Author.Needs.{needs}
 use lib.ListN.{length, length-set}
-use Rattle.forest.specs.Words.{Planted}
+use Rattle.forest.specs.inner.Words.{Planted}
 use Rattle.forest.proofs.Words.{plant-next}
 use Rattle.forest.proofs.plant.Statement.{statement}
 use Rattle.forest.proofs.plant.Tie as tie

@@ -5,9 +5,9 @@ use native.Mathlib.Omega.{arith}
 use borrow.Author.Needs.{needs}
 use lib.ListN.{length}
 use Rattle.ids.specs.Uses.{bit}
-use Rattle.table.specs.Rows.{sumTo}
+use Rattle.table.specs.inner.Rows.{sumTo}
 use Rattle.table.proofs.Sums.{sumTo-next}
-use Rattle.pieces.specs.Joins.{isRoot}
+use Rattle.pieces.specs.inner.Joins.{isRoot}
 use Rattle.pieces.proofs.count.Statement.{statement}
 use Rattle.pieces.proofs.count.Tie as tie
 
@@ -33,8 +33,15 @@ loop-again : tie.Need-loop-again Inv-loop μ-loop
 loop-again c =
     let one-root = c .one-root in
     let s = c .before .before .before .before .before in
-    let l = c .before .before .loop in
-    (omega arith, omega (arith, sumTo-next (λ i. bit (isRoot (s .args .ids .now) (s .args .work .now) i)) (l .t), one-root .ensures .0), omega (arith, one-root .ensures .1))
+    let l = c .before .before .loop in (
+      omega arith,
+      omega (
+        arith,
+        sumTo-next (λ i. bit (isRoot (s .args .ids .now) (s .args .work .now) i)) (l .t),
+        one-root .ensures .0,
+      ),
+      omega (arith, one-root .ensures .1),
+    )
 
 returns : tie.Need-returns Inv-loop μ-loop
 returns c =

@@ -1,5 +1,5 @@
 -- `pieces::join_all` meets its contract. The corners before c are settled; each pass gets ahead. Assumes nothing.
-use mathlib.Core.Path.{_≡_, refl}
+use mathlib.Core.Path.{_≡_, refl, _∙_}
 use Prim.Native.Nat.{_-_, _*_}
 use native.Mathlib.Omega.{arith}
 use borrow.Author.Needs.{needs}
@@ -22,9 +22,12 @@ loop-holds c =
 
 pass-requires : tie.Need-pass-requires Inv-loop μ-loop
 pass-requires c κs =
-    let s = c .before .before .before .before .before .before .before .before .before in
-    let l = c .before .before .loop in
-    ((omega (arith, c .before .before .before .before .before .plant .kept .0), s .pre .1), omega arith, (l .inv .1 .label, l .inv .1 .good))
+    let at = c .before .before in
+    let planted = at .before .before .before in
+    let st = planted .before .before .before .before in
+    let l = at .loop in
+    let long = l .inv .0 ∙ planted .plant .kept .0 in
+    (record { few = st .pre .few; long = long ∙ st .pre .long }, (l .inv .1 .label, l .inv .1 .good), omega arith)
 
 loop-less : tie.Need-loop-less Inv-loop μ-loop
 loop-less c =

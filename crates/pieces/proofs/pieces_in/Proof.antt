@@ -1,21 +1,24 @@
 -- `pieces::pieces_in` meets its contract. Assumes nothing.
-use mathlib.Core.Path.{_≡_, _∙_}
+use mathlib.Core.Path.{_≡_, ap, _∙_}
+use mathlib.Core.List.{List}
+use Prim.Native.Nat.{ℕ}
 use borrow.Author.Needs.{needs}
 use lib.ListN.{length}
-use Rattle.ids.proofs.Lent.{cleared-all}
+use Rattle.ids.specs.Lent.{cleared}
+use Rattle.table.proofs.Words.{leaves}
 use Rattle.pieces.proofs.Roots.{answers}
 use Rattle.pieces.proofs.pieces_in.Statement.{statement}
 use Rattle.pieces.proofs.pieces_in.Tie as tie
 
 returns : tie.Need-returns
 returns c =
-    let join-all = c .before .before .before .before .before .before .before .before .join-all in
-    let s = c .before .before .before .before .before .before .before .before .before .before .before .before in
-    let ids = s .args .ids .now in
-    let t = s .args .work .now in
-    let u = join-all .last .1 .0 in
-    let lu : length u ≡ length (t) = join-all .kept .1 .0 in
-    (c .before .before .before .before .count .ensures ∙ answers ids u (lu ∙ s .pre .0) (join-all .ensures), c .before .before .clear .ensures ∙ rw (lu ∙ s .pre .0) (cleared-all _ u (lu ∙ s .pre .0)))
+    let counted = c .before .before .before .before in
+    let k = counted .before .before .before .before in
+    let st = k .before .before .before .before in
+    let u : List ℕ = k .join-all .last .1 .0 in
+    let long = k .join-all .kept .1 .0 ∙ st .pre .long in
+    leaves u (counted .count .ensures ∙ answers (st .args .ids .now) u long (k .join-all .ensures)) long
+    (c .before .before .clear .ensures ∙ ap (λ (m : ℕ). cleared m u) long)
 
 pub pieces-in-spec : {M : Type 1} → statement M
 pieces-in-spec =

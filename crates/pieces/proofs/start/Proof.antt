@@ -3,7 +3,7 @@ use Prim.Native.Nat.{_*_, _≤_}
 use native.Mathlib.Nat.{mul-le-mul-right}
 use native.Mathlib.Omega.{arith}
 use borrow.Author.Needs.{needs}
-use Rattle.pieces.specs.Slots.{homeOf}
+use Rattle.pieces.specs.inner.Slots.{cornerHome}
 use Rattle.pieces.proofs.start.Statement.{statement}
 use Rattle.pieces.proofs.start.Tie as tie
 
@@ -14,7 +14,7 @@ mul-hash c =
     omega (arith, m, s .fits .odd .fits)
 
 returns : tie.Need-returns
-unfolding homeOf
+unfolding cornerHome
 returns c = c .home .ensures
 
 pub start-spec : {M : Type 1} → statement M

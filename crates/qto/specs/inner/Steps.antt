@@ -8,7 +8,7 @@ use lib.Ieee.{Float}
 use Rattle.ids.specs.Lent.{mostEntries, cleared}
 use Rattle.ids.specs.Triangles.{triangleCount}
 use Rattle.vertices.specs.Areas.{workWords, surfaceFloats, rasterBytes}
-use Rattle.sums.specs.declared.Bounds.{Bounds}
+use Rattle.sums.specs.declared.bounds.Bounds.{Bounds}
 use Rattle.sums.specs.Box.{box}
 use Rattle.sums.specs.Fine.{allFine}
 use Rattle.rows.specs.Rows.{flatten, rowsOf, scaled, sorted, largest, smallest, allPlain}

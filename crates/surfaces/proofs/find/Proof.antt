@@ -6,7 +6,7 @@ use Prim.Native.Nat.{ℕ, _+_, _-_, _*_, _<_}
 use native.Mathlib.Omega.{arith}
 use borrow.Author.Needs.{needs}
 use Rattle.ids.proofs.Same.{same-ne}
-use Rattle.table.specs.Rows.{dist, nextRow, Passed}
+use Rattle.table.specs.inner.Rows.{dist, nextRow, Passed}
 use Rattle.table.proofs.Search.{dist-here, dist-below, next-below, goes-on}
 use Rattle.surfaces.specs.declared.Code.{Code}
 use Rattle.surfaces.specs.Index.{sameCode, slotIn, keyIn}

@@ -3,7 +3,7 @@ use mathlib.Core.Path.{ap, _∙_, subst}
 use Prim.Native.Nat.{_*_, _≤_}
 use native.Mathlib.Omega.{arith}
 use borrow.Author.Needs.{needs}
-use Rattle.table.specs.Rows.{Found}
+use Rattle.table.specs.inner.Rows.{Found}
 use Rattle.surfaces.specs.declared.Code.{Code}
 use Rattle.surfaces.specs.declared.Key.{Key}
 use Rattle.surfaces.specs.Surfaces.{keyOf}

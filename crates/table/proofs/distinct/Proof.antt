@@ -1,5 +1,5 @@
--- `table::distinct` meets its contract, by what it means: whichever of the three pairs are equal, it answers as the definition does. So the tests may
--- be written in any order and either way round. Assumes nothing.
+-- `table::distinct` meets its contract, by what it means: whichever of the three pairs are equal, it answers as the definition does. So
+-- the tests may be written in any order and either way round. Assumes nothing.
 use mathlib.Core.Path.{_≡_, sym}
 use mathlib.Core.Logic.{_≢_}
 use Prim.Native.Nat.{ℕ}

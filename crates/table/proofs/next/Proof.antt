@@ -1,7 +1,7 @@
 -- `table::next` meets its contract: the row after the last is the first. Assumes nothing.
 use borrow.Author.Needs.{needs}
 use borrow.Author.Tests.{eq-eqb, ne-eqb}
-use Rattle.table.specs.Rows.{nextRow}
+use Rattle.table.specs.inner.Rows.{nextRow}
 use Rattle.table.proofs.next.Statement.{statement}
 use Rattle.table.proofs.next.Tie as tie
 

@@ -1,46 +1,71 @@
--- `tally::chain_behind` meets its contract: the cleared front is an empty table, and the ids stay under all that is written. Assumes nothing.
-use mathlib.Core.Path.{sym, _∙_}
-use Prim.Native.Nat.{_-_, _*_}
+-- `tally::chain_behind` meets its contract: the cleared front is an empty table, and the ids stay under all that is written. Assumes
+-- nothing.
+use mathlib.Core.Path.{_≡_, sym}
 use native.Mathlib.Omega.{arith}
 use borrow.Author.Needs.{needs}
-use lib.ListN.{length, drop}
-use lib.Seq.{length-take-le}
-use Rattle.table.proofs.Cleared.{behind-kept}
+use lib.ListN.{length, take, drop}
+use Rattle.ids.specs.EdgeChain.{chain}
+use Rattle.table.specs.inner.Front.{IdsBehind, InFront}
+use Rattle.table.proofs.Front.{front-long, behind-still, asked-front, made-front}
+use Rattle.steps.specs.inner.Rows.{EdgeTable}
+use Rattle.edges.specs.inner.Gather.{EdgesToCome}
 use Rattle.tally.proofs.Behind.{empty-edges}
 use Rattle.tally.proofs.chain_behind.Statement.{statement}
 use Rattle.tally.proofs.chain_behind.Tie as tie
 
+module _ (c : tie.After-clear) where
+  abbrev sized : tie.After-rows
+  sized = c .before .before
+
+  abbrev st : tie.Start
+  st = sized .before .before
+
+  behind : IdsBehind (st .args .at) (st .args .area .now)
+  behind = record { inside = st .pre .0; few = st .pre .1 }
+
+  emptied : InFront (st .args .at) (st .args .area .now) (c .clear .last .0)
+      (EdgesToCome (drop (st .args .at) (st .args .area .now)) (sized .rows .result))
+  emptied =
+      empty-edges behind (c .clear .last .0) (c .clear .kept .0) (sized .rows .result) (st .pre .2) (sized .rows .ensures)
+      (c .clear .ensures)
+
 gather-chain-behind-requires : tie.Need-gather-chain-behind-requires
 gather-chain-behind-requires c κs =
-    let s = c .before .before .before .before .before .before .before in
-    let at = s .args .at in
-    let area = s .args .area .now in
-    empty-edges (length area - at) (c .before .before .before .before .before .rows .result) at area (c .before .before .before .clear .last .0) (omega (arith, s .pre .0)) (omega (arith, s .pre .1)) (s .pre .2) (c .before .before .before .before .before .rows .ensures) (c .before .before .before .clear .ensures) (c .before .before .before .clear .kept .0)
+    let k = c .before .before .before in
+    asked-front (λ ids. EdgesToCome ids (sized k .rows .result)) (behind k) (emptied k)
+
+module _ (c : tie.After-gather-chain-behind) where
+  abbrev cleared : tie.After-clear
+  cleared = c .before .before .before .before
+
+  abbrev start : tie.Start
+  start = st cleared
+
+  counted : InFront (start .args .at) (start .args .area .now) (c .gather-chain-behind .last .0)
+      (λ t. EdgeTable (sized cleared .rows .result) t (chain (drop (start .args .at) (start .args .area .now))))
+  counted = made-front (λ ids t. EdgeTable (sized cleared .rows .result) t (chain ids)) (emptied cleared) (c .gather-chain-behind .ensures)
+
+  long : length (take (start .args .at) (c .gather-chain-behind .last .0)) ≡ start .args .at
+  long = front-long (behind-still (behind cleared) (counted .long))
 
 slice-aggregate-tally-edges : tie.Need-slice-aggregate-tally-edges
-slice-aggregate-tally-edges c =
-    let s = c .before .before .before .before .before .before .before .before .before .before .before in
-    sym (length-take-le (s .args .at) (c .before .before .before .gather-chain-behind .last .0) (omega (arith, s .pre .0, c .before .before .before .gather-chain-behind .kept, c .before .before .before .before .before .before .before .clear .kept)))
+slice-aggregate-tally-edges c = sym (long (c .before .before .before))
 
 tally-edges-requires : tie.Need-tally-edges-requires
 tally-edges-requires c κs =
-    let s = c .before .before .before .before .before .before .before .before .before .before .before in
-    let long = length-take-le (s .args .at) (c .before .before .before .gather-chain-behind .last .0) (omega (arith, s .pre .0, c .before .before .before .gather-chain-behind .kept, c .before .before .before .before .before .before .before .clear .kept)) in
-    (omega (arith, c .before .before .before .before .before .before .before .before .before .rows .ensures, s .pre .1), omega (arith, c .before .before .before .before .before .before .before .before .before .rows .ensures, s .pre .2, long))
+    let g = c .before .before .before in
+    let rows = sized (cleared g) .rows .ensures in
+    record { most = omega (arith, start g .pre .1); fits = omega (arith, start g .pre .2, long g) }
 
 returns : tie.Need-returns
 returns c =
-    let s = c .before .before .before .before .before .before .before .before .before .before .before .before in
-    let at = s .args .at in
-    let area = s .args .area .now in
-    let g = c .before .before .before .before .gather-chain-behind in
-    let kept = behind-kept (4 * (length area - at)) at area (c .before .before .before .before .before .before .before .before .clear .last .0) (c .before .before .before .before .before .before .before .before .clear .ensures) (s .pre .2) in
-    let said = c .tally-edges .ensures (drop at area) (rw kept at (g .ensures .0)) in
-    (said .0, said .1, g .ensures .1 ∙ kept)
+    let g = c .before .before .before .before in
+    let said = c .tally-edges .ensures (drop (start g .args .at) (start g .args .area .now)) (counted g .front) in
+    (said .0, said .1, counted g .same)
 
 pub chain-behind-spec : {M : Type 1} → statement M
 chain-behind-spec =
     tie.close
     (tie.spec (λ c. search needs) (λ c κs. search needs) (λ c. search needs) (λ c κs. search needs)
-    gather-chain-behind-requires (λ c. search needs) slice-aggregate-tally-edges tally-edges-requires
-    (λ c. search needs) returns)
+    gather-chain-behind-requires (λ c. search needs) slice-aggregate-tally-edges tally-edges-requires (λ c. search needs)
+    returns)

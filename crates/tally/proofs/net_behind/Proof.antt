@@ -1,59 +1,71 @@
 -- `tally::net_behind` meets its contract: the cleared front is an empty table, and the ids stay under all that is written. Assumes nothing.
-use mathlib.Core.Path.{refl, sym, _∙_}
+use mathlib.Core.Path.{_≡_, refl, sym}
 use Prim.Native.Nat.{ℕ, _-_, _*_, _/_, _≤_}
 use native.Mathlib.Omega.{arith}
 use borrow.Author.Needs.{needs}
-use lib.ListN.{length, drop, length-drop}
-use lib.Seq.{length-take-le}
-use Rattle.table.proofs.Cleared.{behind-kept}
+use lib.ListN.{length, take, drop, length-drop}
+use Rattle.ids.specs.FaceNet.{faces}
+use Rattle.table.specs.inner.Front.{IdsBehind, InFront}
+use Rattle.table.proofs.Front.{front-long, behind-still, asked-front, made-front}
+use Rattle.faces.specs.inner.Rows.{FaceTable, FacesToCome}
 use Rattle.tally.proofs.Behind.{empty-faces}
 use Rattle.tally.proofs.net_behind.Statement.{statement}
 use Rattle.tally.proofs.net_behind.Tie as tie
 
+module _ (st : tie.Start) where
+  -- how many triangles there are
+  abbrev many : ℕ
+  many = (length (st .args .area .now) - st .args .at) / 3
+
+  fits : 4 * many ≤ st .args .at
+  fits = rw length-drop at (st .pre .2)
+
 clear-requires : tie.Need-clear-requires
-clear-requires c κs =
-    let s = c .before .before in
-    let at = s .args .at in
-    let area = s .args .area .now in
-    let m : ℕ = (length area - at) / 3 in
-    let fits : 4 * m ≤ at = rw length-drop at (s .pre .2) in
-    omega (arith, s .pre .0)
+clear-requires c κs = let st = c .before .before in omega (arith, fits st, st .pre .0)
+
+module _ (c : tie.After-clear) where
+  abbrev st : tie.Start
+  st = c .before .before .before
+
+  behind : IdsBehind (st .args .at) (st .args .area .now)
+  behind = record { inside = st .pre .0; few = st .pre .1 }
+
+  emptied : InFront (st .args .at) (st .args .area .now) (c .clear .last .0)
+      (FacesToCome (drop (st .args .at) (st .args .area .now)) (2 * many st))
+  emptied = empty-faces behind (c .clear .last .0) (c .clear .kept .0) (many st) refl (fits st) (c .clear .ensures)
 
 gather-behind-requires : tie.Need-gather-behind-requires
 gather-behind-requires c κs =
-    let s = c .before .before .before .before .before .before in
-    let at = s .args .at in
-    let area = s .args .area .now in
-    let m : ℕ = (length area - at) / 3 in
-    let fits : 4 * m ≤ at = rw length-drop at (s .pre .2) in
-    empty-faces m at area (c .before .before .before .clear .last .0) (s .pre .0) (s .pre .1) refl fits (c .before .before .before .clear .ensures) (c .before .before .before .clear .kept .0)
+    let k = c .before .before .before in asked-front (λ ids. FacesToCome ids (2 * many (st k))) (behind k) (emptied k)
+
+module _ (c : tie.After-gather-behind) where
+  abbrev cleared : tie.After-clear
+  cleared = c .before .before .before .before
+
+  abbrev start : tie.Start
+  start = st cleared
+
+  counted : InFront (start .args .at) (start .args .area .now) (c .gather-behind .last .0)
+      (λ t. FaceTable (drop (start .args .at) (start .args .area .now)) (2 * many start) t
+      (faces (drop (start .args .at) (start .args .area .now))))
+  counted = made-front (λ ids t. FaceTable ids (2 * many start) t (faces ids)) (emptied cleared) (c .gather-behind .ensures)
+
+  long : length (take (start .args .at) (c .gather-behind .last .0)) ≡ start .args .at
+  long = front-long (behind-still (behind cleared) (counted .long))
 
 slice-aggregate-tally-faces : tie.Need-slice-aggregate-tally-faces
-slice-aggregate-tally-faces c =
-    let s = c .before .before .before .before .before .before .before .before .before .before in
-    sym (length-take-le (s .args .at) (c .before .before .before .gather-behind .last .0) (omega (arith, s .pre .0, c .before .before .before .gather-behind .kept, c .before .before .before .before .before .before .before .clear .kept)))
+slice-aggregate-tally-faces c = sym (long (c .before .before .before))
 
 tally-faces-requires : tie.Need-tally-faces-requires
 tally-faces-requires c κs =
-    let s = c .before .before .before .before .before .before .before .before .before .before in
-    let at = s .args .at in
-    let area = s .args .area .now in
-    let m : ℕ = (length area - at) / 3 in
-    let fits : 4 * m ≤ at = rw length-drop at (s .pre .2) in
-    let long = length-take-le at (c .before .before .before .gather-behind .last .0) (omega (arith, s .pre .0, c .before .before .before .gather-behind .kept, c .before .before .before .before .before .before .before .clear .kept)) in
-    (omega (arith, s .pre .1), omega (arith, long))
+    let g = c .before .before .before in
+    record { most = omega (arith, start g .pre .1); fits = omega (arith, fits (start g), long g) }
 
 returns : tie.Need-returns
 returns c =
-    let s = c .before .before .before .before .before .before .before .before .before .before .before in
-    let at = s .args .at in
-    let area = s .args .area .now in
-    let m : ℕ = (length area - at) / 3 in
-    let fits : 4 * m ≤ at = rw length-drop at (s .pre .2) in
-    let g = c .before .before .before .before .gather-behind in
-    let kept = behind-kept (2 * (2 * m)) at area (c .before .before .before .before .before .before .before .before .clear .last .0) (c .before .before .before .before .before .before .before .before .clear .ensures) (omega arith) in
-    let said = c .tally-faces .ensures (drop at area) (rw kept at (g .ensures .0)) in
-    (said .0, said .1, g .ensures .1 ∙ kept)
+    let g = c .before .before .before .before in
+    let said = c .tally-faces .ensures (drop (start g .args .at) (start g .args .area .now)) (counted g .front) in
+    (said .0, said .1, counted g .same)
 
 pub net-behind-spec : {M : Type 1} → statement M
 net-behind-spec =

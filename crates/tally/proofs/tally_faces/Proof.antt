@@ -1,4 +1,5 @@
--- `tally::tally_faces` meets its contract: what `faces::net` reads off the rows is the largest magnitude, and whether all sums are 0. Assumes nothing.
+-- `tally::tally_faces` meets its contract: what `faces::net` reads off the rows is the largest magnitude, and whether all sums are 0.
+-- Assumes nothing.
 use borrow.Author.Needs.{needs}
 use Rattle.faces.proofs.Answers.{net-max, net-off}
 use Rattle.tally.proofs.tally_faces.Statement.{statement}

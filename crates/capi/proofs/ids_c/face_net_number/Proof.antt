@@ -2,7 +2,8 @@
 use native.Mathlib.Omega.{arith}
 use Rattle.ids.proofs.Bits.{byte-bit, byte-small}
 use Prim.Native.Nat.{_≤_}
-use Rattle.chain.specs.Numbers.{faceNetNumber, Small}
+use Rattle.chain.specs.Numbers.{faceNetNumber}
+use Rattle.chain.specs.inner.NetSmall.{NetSmall}
 use borrow.Author.Needs.{needs}
 use Rattle.capi.proofs.ids_c.face_net_number.Statement.{statement}
 use Rattle.capi.proofs.ids_c.face_net_number.Tie as tie
@@ -10,7 +11,7 @@ use Rattle.capi.proofs.ids_c.face_net_number.Reads as reads
 use Rattle.capi.proofs.ids_c.face_net_number.Lts as lts
 
 small : (c : lts.After-known-told reads.Pre reads.Post) → c .before .answer .given .0 .0 .«max_abs» ≤ 98304
-unfolding Small
+unfolding NetSmall
 small c = rw (c .before .answer .given .1) at (c .before .before .before .pre)
 
 mul-result : tie.Need-mul-result

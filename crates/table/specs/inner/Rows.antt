@@ -1,4 +1,5 @@
--- Rows of a table in lent words, whatever they hold. Row i has a key, and a mark that is 0 where the row is free. What a search leans on, and what it finds.
+-- Rows of a table in lent words, whatever they hold. Row i has a key, and a mark that is 0 where the row is free. What a search leans on,
+-- and what it finds.
 use mathlib.Core.Path.{_≡_}
 use mathlib.Core.Logic.{_≢_}
 use mathlib.Core.Bool.{cond}

@@ -1,24 +1,30 @@
--- Labels of the triangles while they are joined: never coarser than the joins ask, and at the end as coarse. Internal: the parts of the piece count keep this.
+-- Labels of the triangles while they are joined: never coarser than the joins ask, and at the end as coarse. The parts of the piece count
+-- keep this.
 use mathlib.Core.Path.{_≡_}
 use mathlib.Core.Bool.{Bool, true, _&&_}
 use mathlib.Core.List.{List}
-use Prim.Native.Nat.{ℕ, _/_, _≤_, _<_}
+use Prim.Native.Nat.{ℕ, _<_}
 use lib.Dec.{eqb}
 use lib.ListN.{length}
-use Rattle.ids.specs.Triangles.{triangle}
-use Rattle.forest.specs.Words.{parentIn, slotIn}
-use Rattle.forest.specs.Labels.{Means}
+use Rattle.ids.specs.Triangles.{Triangle, triangle, triangleCount}
+use Rattle.table.specs.inner.Words.{Lends}
+use Rattle.forest.specs.inner.Words.{parentIn, heldIn}
+use Rattle.forest.specs.inner.Labels.{LabelledBy}
 use Rattle.ids.specs.Pieces.{solid, shareId}
 
 -- one word a triangle, for as many ids as are not refused
-abbrev pub Sized : List ℕ → List ℕ → Type 0
-Sized ids t = (length t ≡ length ids / 3) × (length ids ≤ 98304)
+abbrev pub OneWordEach : List ℕ → List ℕ → Type 0
+OneWordEach ids t = Lends (triangleCount ids) ids t
 
--- two distinct-id triangles of n that share an id
+-- what joins two triangles
+abbrev pub joins : Triangle → Triangle → Bool
+joins = shareId
+
+-- two distinct-id triangles of n that are to be joined
 pub record Linked (ids : List ℕ) (n x y : ℕ) : Type 0 where
   pub within : (x < n) × (y < n)
   pub solids : (solid ids x ≡ true) × (solid ids y ≡ true)
-  pub share : shareId (triangle ids x) (triangle ids y) ≡ true
+  pub share : joins (triangle ids x) (triangle ids y) ≡ true
 
 -- f is no coarser than the joins ask: what gives linked triangles one label gives a triangle and its f one
 abbrev pub Inner : List ℕ → ℕ → (ℕ → ℕ) → Type 0
@@ -26,7 +32,7 @@ Inner ids n f = (h : ℕ → ℕ) → ((x y : ℕ) → Linked ids n x y → h x 
 
 -- the labels of the forest in t are f, and no coarser than the joins ask
 pub record Good (ids t : List ℕ) (f : ℕ → ℕ) : Type 0 where
-  pub means : Means (length t) (parentIn t) f
+  pub means : LabelledBy (length t) (parentIn t) f
   pub inner : Inner ids (length t) f
 
 abbrev pub Labelled : List ℕ → List ℕ → Type 0
@@ -41,7 +47,7 @@ pub record More (ids u : List ℕ) (f : ℕ → ℕ) (Q : (ℕ → ℕ) → Type
 
 -- what a routine that only joins does from t to u: the slots stay, and Q holds of the labels behind it
 pub record Grown (ids t u : List ℕ) (Q : (ℕ → ℕ) → Type 0) : Type 0 where
-  pub slots : (i : ℕ) → slotIn u i ≡ slotIn t i
+  pub slots : (i : ℕ) → heldIn u i ≡ heldIn t i
   pub more : (f : ℕ → ℕ) → Good ids t f → More ids u f Q
 
 -- when all is joined: labels that are as coarse as the joins ask, and no coarser

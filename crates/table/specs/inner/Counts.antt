@@ -8,5 +8,5 @@ unfoldable pub usesIn : ℕ → ℕ
 usesIn w = w / 65536 + w % 65536
 
 -- the magnitude of the signed sum of a key with n uses, u of them upwards
-unfoldable pub magnitude : ℕ → ℕ → ℕ
-magnitude n u = u + u - n + (n - (u + u))
+unfoldable pub sumSize : ℕ → ℕ → ℕ
+sumSize n u = u + u - n + (n - (u + u))

@@ -1,11 +1,12 @@
--- What a table of rows means: it holds the keys of a list of uses, each in one row, with its uses and its uses upwards. A row with no uses is free.
+-- What a table of rows means: it holds the keys of a list of uses, each in one row, with its uses and its uses upwards. A row with no
+-- uses is free.
 use mathlib.Core.Path.{_≡_}
 use Prim.Native.Nat.{ℕ, zero, suc, _+_, _<_, max}
 use mathlib.Core.Bool.{Bool, _&&_}
 use mathlib.Core.List.{List, [], _∷_}
 use lib.ListN.{length}
 use Rattle.ids.specs.Uses.{Use, uses, keys, sumBy, bit}
-use Rattle.table.specs.Rows.{Spread, sumTo}
+use Rattle.table.specs.inner.Rows.{Spread, sumTo}
 
 -- the largest of f 0 .. f (n - 1), 0 for none
 unfoldable pub maxTo : (ℕ → ℕ) → ℕ → ℕ
@@ -37,6 +38,6 @@ module _ {K : Type 0} where
     pub sums : (Q : K → ℕ) → sumTo (λ i. gate (cnt i) (Q (key i))) n ≡ sumBy Q (keys same es)
 
   -- and a search finds them
-  pub record Means (same : K → K → Bool) (n : ℕ) (home : K → ℕ) (key : ℕ → K) (cnt up : ℕ → ℕ) (es : List (Use K)) : Type 0 where
+  pub record MeansUses (same : K → K → Bool) (n : ℕ) (home : K → ℕ) (key : ℕ → K) (cnt up : ℕ → ℕ) (es : List (Use K)) : Type 0 where
     pub rows : Rows same n key cnt up es
     pub spread : Spread n home key cnt

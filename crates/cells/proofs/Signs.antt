@@ -17,7 +17,7 @@ use Rattle.ieee.specs.WholeNumber.{signed}
 use Rattle.ieee.proofs.Patterns.Integral.{field, size-of}
 use Rattle.ieee.proofs.Patterns.Rounding.{few, nearest-signed}
 use Rattle.ids.specs.Uses.{bit}
-use Rattle.cells.specs.Table.{coded}
+use Rattle.cells.specs.inner.Table.{coded}
 
 -- what is left of it above -1
 abbrev pub rest : ℤ → ℤ

@@ -1,4 +1,4 @@
 -- From keys in words to an entry more.
 pub mod Codes
-mod Words
+pub mod Words
 pub mod Entries

@@ -13,7 +13,7 @@ use Rattle.ieee.specs.Integral.{halfAway, integral}
 use Rattle.ieee.proofs.Order.Ranges.{signed-kept}
 use Rattle.ieee.proofs.Patterns.Nan.{is-nan, ne-self, same-no-nan}
 use Rattle.ieee.proofs.Patterns.Rounding.{already}
-use Rattle.cells.specs.Table.{coded}
+use Rattle.cells.specs.inner.Table.{coded}
 use Rattle.cells.specs.Cells.{cellOf}
 use Rattle.cells.proofs.Signs.{by-pattern}
 use Rattle.cells.proofs.cell.Statement.{statement}

@@ -53,9 +53,12 @@ markIn t r = getD t r 0 % 65536
 unfoldable pub entryKey : Bool → ℕ → List ℕ → ℕ → Code
 entryKey wide n t v = keyFrom wide (λ d. getD t (2 * n + keyWords wide * v + d) 0)
 
--- the key that slot r holds
+-- the key that slot r holds, by the marks and the entries' keys
+abbrev pub held : (ℕ → ℕ) → (ℕ → Code) → ℕ → Code
+held mark key r = key (mark r - 1)
+
 abbrev pub heldKey : Bool → ℕ → List ℕ → ℕ → Code
-heldKey wide n t r = entryKey wide n t (markIn t r - 1)
+heldKey wide n t = held (markIn t) (entryKey wide n t)
 
 -- ---- what the table means
 
@@ -64,11 +67,11 @@ pub record HasWords (wide : Bool) (n : ℕ) (t : List ℕ) : Type 0 where
   pub small : n ≤ 32768
   pub long : 2 * n + keyWords wide * n ≤ length t
 
--- the entries in use are among the first e
-pub record Entries (wide : Bool) (n : ℕ) (t : List ℕ) (e : ℕ) : Type 0 where
-  pub spread : Spread (2 * n) (codeHome n) (heldKey wide n t) (markIn t)
-  pub few : sumTo (λ r. bit (ltb 0 (markIn t r))) (2 * n) ≤ e
-  pub within : (r : ℕ) → r < 2 * n → markIn t r ≤ e
+-- the entries in use are among the first e of n
+pub record Entries (n : ℕ) (mark : ℕ → ℕ) (key : ℕ → Code) (e : ℕ) : Type 0 where
+  pub spread : Spread (2 * n) (codeHome n) (held mark key) mark
+  pub few : sumTo (λ r. bit (ltb 0 (mark r))) (2 * n) ≤ e
+  pub within : (r : ℕ) → r < 2 * n → mark r ≤ e
 
 -- slots name entries, and some slot is free: what a search needs
 pub record Searchable (wide : Bool) (n : ℕ) (t : List ℕ) : Type 0 where

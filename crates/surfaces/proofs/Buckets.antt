@@ -11,8 +11,8 @@ use lib.Seq.{sets, sets-eq, take-at, drop-drop, drop-append-add}
 use Rattle.ieee.specs.Single.{_⊕_, nought}
 use Rattle.rows.specs.Rows.{flatten}
 use Rattle.surfaces.specs.declared.Key.{Key}
-use Rattle.surfaces.specs.Surfaces.{sameKey, Bucket, put, keyAt, rows, tenth}
-use Rattle.surfaces.specs.Index.{withRow}
+use Rattle.surfaces.specs.Surfaces.{sameKey, Bucket, addArea, keyAt, rows, tenth}
+use Rattle.surfaces.specs.inner.Index.{withRow}
 use Rattle.surfaces.proofs.Keys.{key-same, key-ne, by}
 
 abbrev pub fresh : Key → Float → Bucket
@@ -36,8 +36,8 @@ floats-more (c ∷ bs) b = rw (floats-more bs b)
 -- ---- a new key
 
 module _ (k : Key) (a : Float) where
-  pub put-new : (bs : List Bucket) → ((j : ℕ) → j < length bs → keyAt bs j ≢ k) → put k a bs ≡ bs ++ fresh k a ∷ []
-  unfolding put keyAt
+  pub put-new : (bs : List Bucket) → ((j : ℕ) → j < length bs → keyAt bs j ≢ k) → addArea k a bs ≡ bs ++ fresh k a ∷ []
+  unfolding addArea keyAt
   put-new [] none = refl
   put-new (b ∷ bs) none = rw (key-ne k (b .key) (none 0 (omega arith))) (ap (λ (l : List Bucket). b ∷ l) (put-new bs (λ j l. none (suc j) (omega arith))))
 
@@ -86,14 +86,14 @@ area-past : (w x y z : Float) (u : List Float) (j : ℕ) (a : Float) → withAre
 area-past w x y z u j a = let e : 4 * suc j ≡ suc (suc (suc (suc (4 * j)))) = omega arith in rw e
 
 module _ (k : Key) (a : Float) where
-  pub known-length : (bs : List Bucket) (j : ℕ) → j < length bs → keyAt bs j ≡ k → length (put k a bs) ≡ length bs
-  unfolding put keyAt
+  pub known-length : (bs : List Bucket) (j : ℕ) → j < length bs → keyAt bs j ≡ k → length (addArea k a bs) ≡ length bs
+  unfolding addArea keyAt
   known-length [] j l e = absurd (omega arith)
   known-length (b ∷ bs) zero l e = rw (key-same k (b .key) (sym e))
   known-length (b ∷ bs) (suc j) l e = by (sameKey k (b .key)) (λ h. rw h) (λ h. rw (h, known-length bs j (omega arith) e))
 
-  pub known-keys : (bs : List Bucket) (j : ℕ) → j < length bs → keyAt bs j ≡ k → (i : ℕ) → keyAt (put k a bs) i ≡ keyAt bs i
-  unfolding put keyAt
+  pub known-keys : (bs : List Bucket) (j : ℕ) → j < length bs → keyAt bs j ≡ k → (i : ℕ) → keyAt (addArea k a bs) i ≡ keyAt bs i
+  unfolding addArea keyAt
   known-keys [] j l e i = absurd (omega arith)
   known-keys (b ∷ bs) zero l e zero = rw (key-same k (b .key) (sym e))
   known-keys (b ∷ bs) zero l e (suc i) = rw (key-same k (b .key) (sym e))
@@ -101,8 +101,8 @@ module _ (k : Key) (a : Float) where
   known-keys (b ∷ bs) (suc j) l e (suc i) = by (sameKey k (b .key)) (λ h. rw h) (λ h. rw h (known-keys bs j (omega arith) e i))
 
   pub known-floats : (bs : List Bucket) (j : ℕ) → j < length bs → keyAt bs j ≡ k → ((i : ℕ) → i < j → keyAt bs i ≢ k) → (s : List Float)
-      → withArea (flatten (rows bs) ++ s) j a ≡ flatten (rows (put k a bs)) ++ s
-  unfolding flatten rows put keyAt
+      → withArea (flatten (rows bs) ++ s) j a ≡ flatten (rows (addArea k a bs)) ++ s
+  unfolding flatten rows addArea keyAt
   known-floats [] j l e first s = absurd (omega arith)
   known-floats (b ∷ bs) zero l e first s = rw (key-same k (b .key) (sym e))
   known-floats (b ∷ bs) (suc j) l e first s =

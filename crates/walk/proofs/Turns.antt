@@ -18,8 +18,8 @@ use Rattle.sums.specs.declared.Thresholds.{Thresholds}
 use Rattle.sums.specs.Facet.{part, shortest}
 use Rattle.sums.specs.Prepared.{facetBy, partBy, partIn, Prepares}
 use Rattle.sums.specs.Totals.{noTotals, withFacet, withPart, totalsTo}
-use Rattle.surfaces.specs.Surfaces.{Bucket, keyOf}
-use Rattle.surfaces.specs.Index.{Gathered, Puts, Ready}
+use Rattle.surfaces.specs.Surfaces.{Bucket, normalKey}
+use Rattle.surfaces.specs.inner.Index.{Gathered, AddsArea, Ready}
 use Rattle.surfaces.proofs.Gathering.{gathered-none}
 use Rattle.surfaces.proofs.Keys.{length-put-le}
 use Rattle.walk.specs.declared.Sums.{Sums}
@@ -51,9 +51,9 @@ takes-sliver m pair s t u = record { totals = refl; puts = λ w bs l g. (sym l, 
 
 -- a facet
 pub takes-used : (m : ℕ) (pair : Thresholds) (s : Sums) (f : Facet) (t t′ : List ℕ) (u u′ : List Float) (n : ℕ) (a : Totals)
-    → Puts m (s .rows) (keyOf (f .nx) (f .ny) (f .nz)) (f .area32) t t′ u u′ n → a ≡ withFacet pair (s .totals) f → Takes m pair s (Part.Used f) t t′ u u′ (record { totals = a; rows = n })
+    → AddsArea m (s .rows) (normalKey (f .nx) (f .ny) (f .nz)) (f .area32) t t′ u u′ n → a ≡ withFacet pair (s .totals) f → Takes m pair s (Part.Used f) t t′ u u′ (record { totals = a; rows = n })
 unfolding withPart withSurface
-takes-used m pair s f t t′ u u′ n a p h = record { totals = h; puts = p .puts }
+takes-used m pair s f t t′ u u′ n a p h = record { totals = h; puts = p .adds }
 
 -- no more rows than triangles
 part-le : (bs : List Bucket) (p : Part) → length (withSurface bs p) ≤ length bs + 1

@@ -13,7 +13,7 @@ use Rattle.sums.specs.Facet.{part}
 use Rattle.sums.specs.Prepared.{partBy, partIn, Rooted}
 use Rattle.sums.specs.Totals.{withPart, totalsTo}
 use Rattle.surfaces.specs.Surfaces.{Bucket}
-use Rattle.surfaces.specs.Index.{Gathered}
+use Rattle.surfaces.specs.inner.Index.{Gathered}
 use Rattle.walk.specs.declared.Sums.{Sums}
 use Rattle.walk.specs.Walk.{withSurface, bucketsTo}
 

@@ -13,14 +13,14 @@ use Rattle.sums.specs.Facet.{part}
 use Rattle.sums.specs.Totals.{totalsTo}
 use Rattle.rows.specs.Rows.{flatten}
 use Rattle.surfaces.specs.declared.Key.{Key}
-use Rattle.surfaces.specs.Surfaces.{Bucket, keyOf, sameKey, put, rows}
+use Rattle.surfaces.specs.Surfaces.{Bucket, normalKey, sameKey, addArea, rows}
 use Rattle.walk.specs.declared.Sums.{Sums}
 
 -- with one triangle's part: only a used one has a surface
 unfoldable pub withSurface : List Bucket → Part → List Bucket
 withSurface bs Part.OutOfRange = bs
 withSurface bs Part.Sliver = bs
-withSurface bs (Part.Used f) = put (keyOf (f .nx) (f .ny) (f .nz)) (f .area32) bs
+withSurface bs (Part.Used f) = addArea (normalKey (f .nx) (f .ny) (f .nz)) (f .area32) bs
 
 -- after the first n triangles, in order
 unfoldable pub bucketsTo : List Float → List Float → List ℕ → ℕ → List Bucket
@@ -32,7 +32,7 @@ bucketsTo vs o ids (suc n) = withSurface (bucketsTo vs o ids n) (part vs o (tria
 unfoldable pub sumWith : Key → Float → Part → Float
 sumWith k s Part.OutOfRange = s
 sumWith k s Part.Sliver = s
-sumWith k s (Part.Used f) = cond (sameKey k (keyOf (f .nx) (f .ny) (f .nz))) (s ⊕ f .area32) s
+sumWith k s (Part.Used f) = cond (sameKey k (normalKey (f .nx) (f .ny) (f .nz))) (s ⊕ f .area32) s
 
 -- the areas with key k among the first n triangles
 unfoldable pub sumFor : List Float → List Float → List ℕ → Key → ℕ → Float
@@ -42,7 +42,7 @@ sumFor vs o ids k (suc n) = sumWith k (sumFor vs o ids k n) (part vs o (triangle
 unfoldable pub hasPart : Key → Part → Bool
 hasPart k Part.OutOfRange = false
 hasPart k Part.Sliver = false
-hasPart k (Part.Used f) = sameKey k (keyOf (f .nx) (f .ny) (f .nz))
+hasPart k (Part.Used f) = sameKey k (normalKey (f .nx) (f .ny) (f .nz))
 
 -- whether one of them has key k
 unfoldable pub keyAmong : List Float → List Float → List ℕ → Key → ℕ → Bool

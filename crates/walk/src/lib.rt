@@ -4,7 +4,7 @@ ghost use Prim.Native.Nat.{_+_, _*_, _≤_, _<_};
 ghost use lib.Dec.{T};
 ghost use lib.ListN.{length, replicate};
 ghost use Rattle.ids.specs.Triangles.{triangleCount};
-ghost use Rattle.surfaces.specs.Index.{Ready};
+ghost use Rattle.surfaces.specs.inner.Index.{Ready};
 ghost use Rattle.sums.specs.Fine.{allFine};
 ghost use Rattle.sums.specs.Prepared.{partBy};
 ghost use Rattle.walk.specs.Walk.{Walks};

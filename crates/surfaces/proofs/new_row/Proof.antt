@@ -4,7 +4,7 @@ use borrow.Author.Needs.{needs}
 use lib.ListN.{length-set}
 use mir.Syntax.{w32}
 use mir.ValLaws.{toZ-ofZ}
-use Rattle.surfaces.specs.Index.{withRow}
+use Rattle.surfaces.specs.inner.Index.{withRow}
 use Rattle.surfaces.proofs.new_row.Statement.{statement}
 use Rattle.surfaces.proofs.new_row.Tie as tie
 

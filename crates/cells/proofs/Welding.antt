@@ -21,10 +21,10 @@ use Rattle.cells.proofs.Words.{noted, marks-noted, keys-noted, name-not
 
 -- ---- an empty table, and one with room
 
-pub welds-none : (n : ℕ) (vs : List Float) (inv : Float) (t : List ℕ) → ((r : ℕ) → r < 2 * n → markIn t r ≡ 0) → Welds n vs inv t 0
+pub welds-none : (n : ℕ) (vs : List Float) (inv : Float) (t : List ℕ) → ((r : ℕ) → r < 2 * n → markIn true t r ≡ 0) → Welds n vs inv t 0
 welds-none n vs inv t z = record {
   celled = record {
-    entries = entries-none n (markIn t) (entryKey true n t) z;
+    entries = entries-none n (markIn true t) (entryKey true n t) z;
     holds = λ r l p. absurd (omega (arith, z r l));
     names = λ r l p. absurd (omega (arith, z r l));
     has = λ j l. absurd (omega arith);
@@ -39,15 +39,15 @@ welds-searchable vs inv t v l w = entries-searchable true (vertexCount vs) t v (
 -- ---- one vertex more
 
 module _ (n : ℕ) (vs : List Float) (inv : Float) (t : List ℕ) (v r : ℕ) (lv : v < n) (m : Welds n vs inv t v)
-    (f : Found (2 * n) (codeHome n (vertexCode vs inv v)) (heldKey true n t) (markIn t) (vertexCode vs inv v) r) where
+    (f : Found (2 * n) (codeHome n (vertexCode vs inv v)) (heldKey true n t) (markIn true t) (vertexCode vs inv v) r) where
   abbrev k : Code
   k = vertexCode vs inv v
 
-  abbrev was : Celled n vs inv (markIn t) (entryKey true n t) v
+  abbrev was : Celled n vs inv (markIn true t) (entryKey true n t) v
   was = m .celled
 
   -- the vertex's word is written
-  send : (u : List ℕ) (name : ℕ) → v < length u → Celled n vs inv (markIn u) (entryKey true n u) (v + 1) → named vs inv v ≡ name
+  send : (u : List ℕ) (name : ℕ) → v < length u → Celled n vs inv (markIn true u) (entryKey true n u) (v + 1) → named vs inv v ≡ name
       → ((i : ℕ) → i < v → nameIn u i ≡ nameIn t i) → Welds n vs inv (noted u v name) (v + 1)
   send u name fits now is kept = record {
     celled = rw (marks-noted u v name fits, keys-noted u v name fits n lv) now;
@@ -58,26 +58,26 @@ module _ (n : ℕ) (vs : List Float) (inv : Float) (t : List ℕ) (v r : ℕ) (l
   }
 
   -- the slot was free: no vertex before v has its cell
-  module _ (u : List ℕ) (free : markIn t r ≡ 0) (c : Claimed true n r v k t u) where
+  module _ (u : List ℕ) (free : markIn true t r ≡ 0) (c : Claimed true n r v k t u) where
     is-own : named vs inv v ≡ v
     is-own = new-name vs inv v (λ j l z.
         let b = was .has j l in
-        others n (markIn t) (entryKey true n t) v (was .entries) k r f (b .0) (b .1) (b .2) (λ q. omega (arith, b .2, free, ap (markIn t) q)) (b .3 ∙ z))
+        others n (markIn true t) (entryKey true n t) v (was .entries) k r f (b .0) (b .1) (b .2) (λ q. omega (arith, b .2, free, ap (markIn true t) q)) (b .3 ∙ z))
 
     here : heldKey true n u r ≡ k
     here = held-now true n t v (was .entries) k r f v u (omega arith) c
 
-    there : (i : ℕ) → i < 2 * n → i ≢ r → 0 < markIn t i → heldKey true n u i ≡ heldKey true n t i
+    there : (i : ℕ) → i < 2 * n → i ≢ r → 0 < markIn true t i → heldKey true n u i ≡ heldKey true n t i
     there = held-kept true n t v (was .entries) k r f v u (omega arith) c
 
-    own : markIn u r - 1 ≡ v
+    own : markIn true u r - 1 ≡ v
     own = omega (arith, c .mark-at)
 
     -- another slot that is used was so before
-    before : (i : ℕ) → i < 2 * n → i ≢ r → 0 < markIn u i → 0 < markIn t i
+    before : (i : ℕ) → i < 2 * n → i ≢ r → 0 < markIn true u i → 0 < markIn true t i
     before i l ne p = rw (c .mark-off i l ne) at p
 
-    celled-new : Celled n vs inv (markIn u) (entryKey true n u) (v + 1)
+    celled-new : Celled n vs inv (markIn true u) (entryKey true n u) (v + 1)
     celled-new = record {
       entries = entries-claimed true n t v (was .entries) k r f v u (omega arith) c;
       holds = λ i l p. elim (ℕ-discrete i r) [
@@ -92,7 +92,7 @@ module _ (n : ℕ) (vs : List Float) (inv : Float) (t : List ℕ) (v r : ℕ) (l
         | yes q ↦ (r, f .within, omega (arith, c .mark-at), rw q here)
         | no q ↦ (
           let b = was .has j (omega arith) in
-          let ne : b .0 ≢ r = (λ z. omega (arith, b .2, free, ap (markIn t) z)) in
+          let ne : b .0 ≢ r = (λ z. omega (arith, b .2, free, ap (markIn true t) z)) in
           (b .0, b .1, omega (arith, c .mark-off (b .0) (b .1) ne, b .2), there (b .0) (b .1) ne (b .2) ∙ b .3)
         )
       ];
@@ -103,15 +103,15 @@ module _ (n : ℕ) (vs : List Float) (inv : Float) (t : List ℕ) (v r : ℕ) (l
     welds-new fits = send u v fits celled-new is-own (λ i l. c .upper i (omega arith))
 
   -- the slot holds the cell: its vertex names it
-  pub welds-known : 0 < markIn t r → v < length t → Welds n vs inv (noted t v (markIn t r - 1)) (v + 1)
+  pub welds-known : 0 < markIn true t r → v < length t → Welds n vs inv (noted t v (markIn true t r - 1)) (v + 1)
   welds-known used fits =
-      let alike : vertexCode vs inv (markIn t r - 1) ≡ k = sym (was .holds r (f .within) used) ∙ f .holds used in
-      let below : markIn t r ≤ v = was .entries .within r (f .within) in
-      send t (markIn t r - 1) fits (
+      let alike : vertexCode vs inv (markIn true t r - 1) ≡ k = sym (was .holds r (f .within) used) ∙ f .holds used in
+      let below : markIn true t r ≤ v = was .entries .within r (f .within) in
+      send t (markIn true t r - 1) fits (
       record {
-        entries = entries-past n (markIn t) (entryKey true n t) v (v + 1) (omega arith) (was .entries);
+        entries = entries-past n (markIn true t) (entryKey true n t) v (v + 1) (omega arith) (was .entries);
         holds = was .holds;
         names = was .names;
         has = λ j l. elim (ℕ-discrete j v) [ yes q ↦ (r, f .within, used, rw q (f .holds used)) | no q ↦ was .has j (omega arith) ];
       }
-      ) (known-name vs inv (markIn t r - 1) v (was .names r (f .within) used) (omega arith) alike) (λ i l. refl)
+      ) (known-name vs inv (markIn true t r - 1) v (was .names r (f .within) used) (omega arith) alike) (λ i l. refl)

@@ -8,7 +8,7 @@ use native.Mathlib.Omega.{arith}
 use native.Mathlib.Decide.{ℕ-discrete}
 use lib.ListN.{length, getD, set}
 use lib.Seq.{getD-set-same, getD-set-other}
-use Rattle.slots.specs.inner.Slots.{markIn, entryKey}
+use Rattle.slots.specs.inner.Slots.{markOf, markIn, entryKey}
 use Rattle.slots.proofs.Words.{key-kept}
 use Rattle.cells.specs.inner.Table.{nameIn}
 
@@ -22,11 +22,11 @@ module _ (t : List ℕ) (v name : ℕ) (fits : v < length t) where
   noted-off : (i : ℕ) → i ≢ v → getD (noted t v name) i 0 ≡ getD t i 0
   noted-off i ne = getD-set-other t v i _ 0 ne
 
-  mark-noted : (i : ℕ) → markIn (noted t v name) i ≡ markIn t i
-  unfolding markIn
+  mark-noted : (i : ℕ) → markIn true (noted t v name) i ≡ markIn true t i
+  unfolding markIn markOf
   mark-noted i = elim (ℕ-discrete i v) [ yes e ↦ rw e (omega (arith, noted-at)) | no e ↦ rw (noted-off i e) ]
 
-  pub marks-noted : markIn (noted t v name) ≡ markIn t
+  pub marks-noted : markIn true (noted t v name) ≡ markIn true t
   marks-noted = λ i r. mark-noted r i
 
   pub keys-noted : (n : ℕ) → v < n → entryKey true n (noted t v name) ≡ entryKey true n t

@@ -86,7 +86,7 @@ fn enter(vertices: &[f32], inv: f64, part: &mut [u32], v: usize)
     let n = vertices.len() / 3;
     let k = cell_at(vertices, v, inv);
     let r = slots::find(part, n, true, k);
-    let s = slots::mark(part, r);
+    let s = slots::mark(part, true, r);
     if s == 0 {
         slots::claim(part, n, true, r, v, k);
         note(part, v, v);

@@ -30,35 +30,35 @@ module _ (n : ℕ) (mark : ℕ → ℕ) (key : ℕ → Code) where
       → (i : ℕ) → i < 2 * n → 0 < mark i → i ≢ r → held mark key i ≢ k
   others e m k r f = other (2 * n) (codeHome n) (held mark key) mark k r (home-in n k (omega (arith, f .within))) (m .spread) f
 
-module _ (wide : Bool) (n : ℕ) (t : List ℕ) (e : ℕ) (m : Entries n (markIn t) (entryKey wide n t) e) where
+module _ (wide : Bool) (n : ℕ) (t : List ℕ) (e : ℕ) (m : Entries n (markIn wide t) (entryKey wide n t) e) where
   pub entries-searchable : e < n → HasWords wide n t → Searchable wide n t
   entries-searchable l words = record {
     words = words;
     within = λ r b. omega (arith, m .within r b);
-    free = used-few (markIn t) (2 * n) (omega (arith, m .few));
+    free = used-few (markIn wide t) (2 * n) (omega (arith, m .few));
   }
 
   -- the slot r that a search for k found, and that was free, is given to the entry v
-  module _ (k : Code) (r : ℕ) (f : Found (2 * n) (codeHome n k) (heldKey wide n t) (markIn t) k r)
+  module _ (k : Code) (r : ℕ) (f : Found (2 * n) (codeHome n k) (heldKey wide n t) (markIn wide t) k r)
       (v : ℕ) (w : List ℕ) (next : e ≤ v) (c : Claimed wide n r v k t w) where
     pub held-now : heldKey wide n w r ≡ k
-    held-now = let s : markIn w r - 1 ≡ v = omega (arith, c .mark-at) in ap (entryKey wide n w) s ∙ c .key-at
+    held-now = let s : markIn wide w r - 1 ≡ v = omega (arith, c .mark-at) in ap (entryKey wide n w) s ∙ c .key-at
 
     -- another used slot is of another entry, whose key stands as before
-    pub held-kept : (i : ℕ) → i < 2 * n → i ≢ r → 0 < markIn t i → heldKey wide n w i ≡ heldKey wide n t i
+    pub held-kept : (i : ℕ) → i < 2 * n → i ≢ r → 0 < markIn wide t i → heldKey wide n w i ≡ heldKey wide n t i
     held-kept i l ne p =
         ap (λ (x : ℕ). entryKey wide n w (x - 1)) (c .mark-off i l ne)
-        ∙ c .key-off (markIn t i - 1) (λ z. omega (arith, m .within i l))
+        ∙ c .key-off (markIn wide t i - 1) (λ z. omega (arith, m .within i l))
 
-    written : Written (2 * n) r k (heldKey wide n t) (heldKey wide n w) (markIn t) (markIn w)
+    written : Written (2 * n) r k (heldKey wide n t) (heldKey wide n w) (markIn wide t) (markIn wide w)
     written = record { key-at = held-now; mark-at = omega (arith, c .mark-at); key-off = held-kept; mark-off = c .mark-off }
 
-    pub entries-claimed : Entries n (markIn w) (entryKey wide n w) (v + 1)
+    pub entries-claimed : Entries n (markIn wide w) (entryKey wide n w) (v + 1)
     entries-claimed = record {
       spread =
-          spread-step (2 * n) (codeHome n) (heldKey wide n t) (markIn t) k r (home-in n k (omega (arith, f .within)))
-          (m .spread) f (heldKey wide n w) (markIn w) written;
-      few = omega (arith, m .few, used-more (markIn t) (markIn w) (2 * n) r (f .within) (c .mark-off) (omega (arith, c .mark-at)));
+          spread-step (2 * n) (codeHome n) (heldKey wide n t) (markIn wide t) k r (home-in n k (omega (arith, f .within)))
+          (m .spread) f (heldKey wide n w) (markIn wide w) written;
+      few = omega (arith, m .few, used-more (markIn wide t) (markIn wide w) (2 * n) r (f .within) (c .mark-off) (omega (arith, c .mark-at)));
       within = λ i l. elim (ℕ-discrete i r) [
         | yes q ↦ rw q (omega (arith, c .mark-at))
         | no q ↦ omega (arith, c .mark-off i l q, m .within i l)

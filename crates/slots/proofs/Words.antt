@@ -9,7 +9,7 @@ use native.Mathlib.Decide.{ℕ-discrete}
 use lib.ListN.{length, getD, set, length-set}
 use lib.Seq.{sets, getD-set-same, getD-set-other}
 use Rattle.slots.specs.declared.Code.{Code}
-use Rattle.slots.specs.inner.Slots.{keyWords, keyFrom, keyInto, markIn, entryKey, HasWords, Claimable, Claimed}
+use Rattle.slots.specs.inner.Slots.{keyWords, keyFrom, keyInto, markOf, markIn, entryKey, HasWords, Claimable, Claimed}
 
 -- ---- several words written
 
@@ -85,6 +85,22 @@ module _ (wide b : Bool) (told : wide ≡ b) (n v : ℕ) (t : List ℕ) where
 
 -- ---- a slot is given to an entry
 
+-- the entry's number and 1 more are added to a word that is free
+pub word-fits : (wide : Bool) (x v : ℕ) → markOf wide x ≡ 0 → v < 32768 → x < 4294967296 → x + (v + 1) < 4294967296
+unfolding markOf
+word-fits true x v free small l = omega arith
+word-fits false x v free small l = omega arith
+
+mark-given : (wide : Bool) (x v : ℕ) → markOf wide x ≡ 0 → v < 32768 → markOf wide (x + (v + 1)) ≡ v + 1
+unfolding markOf
+mark-given true x v free small = omega arith
+mark-given false x v free small = omega arith
+
+upper-given : (wide : Bool) (x v : ℕ) → markOf wide x ≡ 0 → v < 32768 → (x + (v + 1)) / 65536 ≡ x / 65536
+unfolding markOf
+upper-given true x v free small = omega arith
+upper-given false x v free small = omega arith
+
 module _ (wide : Bool) (n r v : ℕ) (k : Code) (t w : List ℕ) (can : Claimable wide n r v k t)
     (is : w ≡ sets (set t r (getD t r 0 + (v + 1))) (2 * n + keyWords wide * v) (keyInto wide k)) where
   abbrev at : ℕ
@@ -111,20 +127,22 @@ module _ (wide : Bool) (n r v : ℕ) (k : Code) (t w : List ℕ) (can : Claimabl
 
   claimed : Claimed wide n r v k t w
   unfolding markIn entryKey
-  claimed = record {
-    mark-at = omega (arith, word-at, can .free, can .entry, can .words .small);
-    mark-off = λ i l ne. rw (word-off i l ne);
-    key-at =
-        key-kept wide _ (λ d. getD (keyInto wide k) d 0)
-        (λ d b. rw is (sets-at (keyInto wide k) marked at d (omega (arith, length-into wide k)) room)) ∙ key-into wide k;
-    key-off = λ j ne. key-kept wide _ _ (λ d b.
-        off (2 * n + keyWords wide * j + d) (λ e l q. entries-apart wide j v d e ne b l (omega arith))
-        ∙ getD-set-other t r (2 * n + keyWords wide * j + d) (getD t r 0 + (v + 1)) 0 (omega (arith, can .slot)));
-    upper = λ i l. elim (ℕ-discrete i r) [
-      | yes e ↦ rw e (omega (arith, word-at, can .free, can .entry, can .words .small))
-      | no ne ↦ rw (word-off i l ne)
-    ];
-  }
+  claimed =
+      let small : v < 32768 = omega (arith, can .entry, can .words .small) in
+      record {
+        mark-at = rw word-at (mark-given wide (getD t r 0) v (can .free) small);
+        mark-off = λ i l ne. rw (word-off i l ne);
+        key-at =
+            key-kept wide _ (λ d. getD (keyInto wide k) d 0)
+            (λ d b. rw is (sets-at (keyInto wide k) marked at d (omega (arith, length-into wide k)) room)) ∙ key-into wide k;
+        key-off = λ j ne. key-kept wide _ _ (λ d b.
+            off (2 * n + keyWords wide * j + d) (λ e l q. entries-apart wide j v d e ne b l (omega arith))
+            ∙ getD-set-other t r (2 * n + keyWords wide * j + d) (getD t r 0 + (v + 1)) 0 (omega (arith, can .slot)));
+        upper = λ i l. elim (ℕ-discrete i r) [
+          | yes e ↦ rw (e, word-at) (upper-given wide (getD t r 0) v (can .free) small)
+          | no ne ↦ rw (word-off i l ne)
+        ];
+      }
 
 pub claimed-as : (wide b : Bool) (n r v : ℕ) (k : Code) (t w : List ℕ) → wide ≡ b → Claimable wide n r v k t
     → w ≡ sets (set t r (getD t r 0 + (v + 1))) (2 * n + keyWords b * v) (keyInto b k) → Claimed wide n r v k t w

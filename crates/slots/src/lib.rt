@@ -44,15 +44,15 @@ fn same_wide(part: &[u32], at: usize, k: Code) -> bool
 
 // Is k the key in three words, one a number?
 fn same_narrow(part: &[u32], at: usize, k: Code) -> bool
-    requires { ⌜ at + 2 < length (now part) ⌝ }
+    requires { ⌜ (at + 2 < length (now part)) × KeyFits false k ⌝ }
     ensures { λ r. ⌜ r ≡ sameCode (keyFrom false (λ d. getD (now (part .entry)) (at + d) 0)) k ⌝ }
 {
-    (part[at] as u64 == k.x) & ((part[at + 1] as u64 == k.y) & (part[at + 2] as u64 == k.z))
+    (part[at] == k.x as u32) & ((part[at + 1] == k.y as u32) & (part[at + 2] == k.z as u32))
 }
 
 // Is k the key of entry v?
 fn same(part: &[u32], n: usize, wide: bool, v: usize, k: Code) -> bool
-    requires { ⌜ HasWords wide n (now part) × (v < n) ⌝ }
+    requires { ⌜ HasWords wide n (now part) × (v < n) × KeyFits wide k ⌝ }
     ensures { λ r. ⌜ r ≡ sameCode (entryKey wide n (now (part .entry)) v) k ⌝ }
 {
     if wide {
@@ -65,22 +65,26 @@ fn same(part: &[u32], n: usize, wide: bool, v: usize, k: Code) -> bool
 // ---- the search
 
 // The mark of slot r: 0 where it is free, else one more than its entry's number.
-pub fn mark(part: &[u32], r: usize) -> usize
+pub fn mark(part: &[u32], wide: bool, r: usize) -> usize
     requires { ⌜ r < length (now part) ⌝ }
-    ensures { λ s. ⌜ s ≡ markIn (now (part .entry)) r ⌝ }
+    ensures { λ s. ⌜ s ≡ markIn wide (now (part .entry)) r ⌝ }
 {
-    (part[r] % 65536) as usize
+    if wide {
+        (part[r] % 65536) as usize
+    } else {
+        part[r] as usize
+    }
 }
 
 // The first slot, from `start` on and round, that holds the key or is free.
 fn find_from(part: &[u32], n: usize, wide: bool, k: Code, start: usize) -> usize
-    requires { ⌜ Searchable wide n (now part) × (start < 2 * n) ⌝ }
-    ensures { λ r. ⌜ Found (2 * n) start (heldKey wide n (now (part .entry))) (markIn (now (part .entry))) k r ⌝ }
+    requires { ⌜ Searchable wide n (now part) × (start < 2 * n) × KeyFits wide k ⌝ }
+    ensures { λ r. ⌜ Found (2 * n) start (heldKey wide n (now (part .entry))) (markIn wide (now (part .entry))) k r ⌝ }
 {
     let m = 2 * n;
     let mut r = start;
     loop {
-        let s = mark(part, r);
+        let s = mark(part, wide, r);
         if s == 0 {
             break r;
         }
@@ -93,8 +97,8 @@ fn find_from(part: &[u32], n: usize, wide: bool, k: Code, start: usize) -> usize
 
 // The slot that holds the key, or the free one that it would have.
 pub fn find(part: &[u32], n: usize, wide: bool, k: Code) -> usize
-    requires { ⌜ Searchable wide n (now part) ⌝ }
-    ensures { λ r. ⌜ Found (2 * n) (codeHome n k) (heldKey wide n (now (part .entry))) (markIn (now (part .entry))) k r ⌝ }
+    requires { ⌜ Searchable wide n (now part) × KeyFits wide k ⌝ }
+    ensures { λ r. ⌜ Found (2 * n) (codeHome n k) (heldKey wide n (now (part .entry))) (markIn wide (now (part .entry))) k r ⌝ }
 {
     let start = table::home(hash(k), 2 * n);
     find_from(part, n, wide, k, start)

@@ -9,7 +9,7 @@ use native.Mathlib.Decide.{ℕ-discrete}
 use lib.Ieee.{Float}
 use lib.ListN.{length, drop, replicate, length-append, getD-replicate}
 use Rattle.table.specs.Rows.{Found}
-use Rattle.slots.specs.inner.Slots.{markIn, entryKey, heldKey, codeHome, Searchable, Claimed}
+use Rattle.slots.specs.inner.Slots.{markOf, markIn, entryKey, heldKey, codeHome, Searchable, Claimed}
 use Rattle.slots.proofs.Entries.{entries-none, entries-searchable, entries-claimed, others}
 use Rattle.rows.specs.Rows.{flatten}
 use Rattle.surfaces.specs.declared.Key.{Key}
@@ -21,12 +21,12 @@ use Rattle.surfaces.proofs.Buckets.{fresh, put-new, row-more, withArea,
 -- ---- an empty index, and one with room
 
 pub gathered-none : (m : ℕ) (s : List Float) → Gathered m s (replicate (5 * m) 0) s []
-unfolding flatten rows markIn
+unfolding flatten rows markIn markOf
 gathered-none m s =
     let t : List ℕ = replicate (5 * m) 0 in
-    let z : (r : ℕ) → r < 2 * m → markIn t r ≡ 0 = (λ r l. omega (arith, getD-replicate {A = ℕ} (5 * m) r 0 0 (omega arith))) in
+    let z : (r : ℕ) → r < 2 * m → markIn false t r ≡ 0 = (λ r l. getD-replicate (5 * m) r 0 0 (omega arith)) in
     record {
-      entries = entries-none m (markIn t) (entryKey false m t) z;
+      entries = entries-none m (markIn false t) (entryKey false m t) z;
       holds = λ j l. absurd (omega arith);
       has = λ j l. absurd (omega arith);
       filled = refl;
@@ -41,17 +41,17 @@ ready-searchable m n t u c =
 -- ---- one triangle more
 
 module _ (m : ℕ) (s : List Float) (t : List ℕ) (u : List Float) (bs : List Bucket) (k : Key) (a : Float) (r : ℕ) (g : Gathered m s t u bs)
-    (f : Found (2 * m) (codeHome m (keyCode k)) (heldKey false m t) (markIn t) (keyCode k) r) where
+    (f : Found (2 * m) (codeHome m (keyCode k)) (heldKey false m t) (markIn false t) (keyCode k) r) where
   -- a row whose slot is not r has another key
-  not-here : (j : ℕ) (l : j < length bs) → markIn t r ≢ j + 1 → keyAt bs j ≢ k
+  not-here : (j : ℕ) (l : j < length bs) → markIn false t r ≢ j + 1 → keyAt bs j ≢ k
   not-here j l ne e =
       let b = g .has j l in
-      let row : markIn t (b .0) - 1 ≡ j = omega (arith, b .2) in
-      others m (markIn t) (entryKey false m t) (length bs) (g .entries) (keyCode k) r f (b .0) (b .1) (omega (arith, b .2))
-      (λ q. ne (ap (markIn t) (sym q) ∙ b .2)) (ap (entryKey false m t) row ∙ g .holds j l ∙ ap keyCode e)
+      let row : markIn false t (b .0) - 1 ≡ j = omega (arith, b .2) in
+      others m (markIn false t) (entryKey false m t) (length bs) (g .entries) (keyCode k) r f (b .0) (b .1) (omega (arith, b .2))
+      (λ q. ne (ap (markIn false t) (sym q) ∙ b .2)) (ap (entryKey false m t) row ∙ g .holds j l ∙ ap keyCode e)
 
   -- the slot was free: no row has the key
-  module _ (free : markIn t r ≡ 0) where
+  module _ (free : markIn false t r ≡ 0) where
     abbrev more : List Bucket
     more = bs ++ fresh k a ∷ []
 
@@ -71,11 +71,11 @@ module _ (m : ℕ) (s : List Float) (t : List ℕ) (u : List Float) (bs : List B
           let b : j < length bs = omega arith in
           c .key-off j ne ∙ g .holds j b ∙ ap keyCode (sym (key-front bs (fresh k a ∷ []) j b))
 
-      has-now : (j : ℕ) → j < length bs + 1 → Dec (j ≡ length bs) → (i : ℕ) × (i < 2 * m) × (markIn w i ≡ j + 1)
+      has-now : (j : ℕ) → j < length bs + 1 → Dec (j ≡ length bs) → (i : ℕ) × (i < 2 * m) × (markIn false w i ≡ j + 1)
       has-now j l (yes e) = (r, f .within, c .mark-at ∙ ap (λ (x : ℕ). x + 1) (sym e))
       has-now j l (no ne) =
           let b = g .has j (omega arith) in
-          (b .0, b .1, c .mark-off (b .0) (b .1) (λ q. omega (arith, b .2, free, ap (markIn t) q)) ∙ b .2)
+          (b .0, b .1, c .mark-off (b .0) (b .1) (λ q. omega (arith, b .2, free, ap (markIn false t) q)) ∙ b .2)
 
       pub gathered-new : Gathered m s w (withRow u (length bs) k a) (addArea k a bs)
       gathered-new = rw more-is (
@@ -87,9 +87,9 @@ module _ (m : ℕ) (s : List Float) (t : List ℕ) (u : List Float) (bs : List B
           })
 
   -- the slot holds the key: its row grows
-  module _ (used : 0 < markIn t r) where
+  module _ (used : 0 < markIn false t r) where
     abbrev row : ℕ
-    row = markIn t r - 1
+    row = markIn false t r - 1
 
     below : row < length bs
     below = omega (arith, g .entries .within r (f .within))
@@ -113,8 +113,8 @@ module _ (m : ℕ) (s : List Float) (t : List ℕ) (u : List Float) (bs : List B
 -- ---- the same, whatever rows the index and the floats meant
 
 module _ (m n : ℕ) (k : Key) (a : Float) (t : List ℕ) (u v : List Float) (r : ℕ) (ready : Ready m n t u)
-    (f : Found (2 * m) (codeHome m (keyCode k)) (heldKey false m t) (markIn t) (keyCode k) r) where
-  pub adds-new : (w : List ℕ) → markIn t r ≡ 0 → Claimed false m r n (keyCode k) t w → v ≡ withRow u n k a → AddsArea m n k a t w u v (n + 1)
+    (f : Found (2 * m) (codeHome m (keyCode k)) (heldKey false m t) (markIn false t) (keyCode k) r) where
+  pub adds-new : (w : List ℕ) → markIn false t r ≡ 0 → Claimed false m r n (keyCode k) t w → v ≡ withRow u n k a → AddsArea m n k a t w u v (n + 1)
   adds-new w free c e = record {
     adds = λ s bs is g. (
       ap (λ (x : ℕ). x + 1) (sym is) ∙ length-new m s t u bs k a r g f free,
@@ -122,7 +122,7 @@ module _ (m n : ℕ) (k : Key) (a : Float) (t : List ℕ) (u v : List Float) (r 
     );
   }
 
-  pub adds-known : 0 < markIn t r → v ≡ withArea u (markIn t r - 1) a → AddsArea m n k a t t u v n
+  pub adds-known : 0 < markIn false t r → v ≡ withArea u (markIn false t r - 1) a → AddsArea m n k a t t u v n
   adds-known used e = record {
     adds = λ s bs is g. (sym is ∙ sym (same-length m s t u bs k a r g f used), rw e (gathered-known m s t u bs k a r g f used));
   }

@@ -167,7 +167,7 @@ pub fn put_normal(
 {
     let l = code_of_normal(nx, ny, nz);
     let r = slots::find(index, m, false, l);
-    let s = slots::mark(index, r);
+    let s = slots::mark(index, false, r);
     if s == 0 {
         slots::claim(index, m, false, r, n, l);
         new_row(rows, n, key_of(l), area);

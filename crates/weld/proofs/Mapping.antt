@@ -15,7 +15,7 @@ use Rattle.ids.specs.Lent.{cleared}
 use Rattle.table.proofs.Cleared.{front-zero}
 use Rattle.vertices.specs.Vertices.{vertexCount}
 use Rattle.cells.specs.Cells.{named}
-use Rattle.slots.specs.inner.Slots.{markIn}
+use Rattle.slots.specs.inner.Slots.{markOf, markIn}
 use Rattle.cells.specs.inner.Table.{nameIn, Welds}
 use Rattle.weld.specs.Weld.{weldId, weldAll, inverse, unwelded, welded}
 use Rattle.weld.specs.inner.Mapped.{idBy, mapped}
@@ -102,8 +102,8 @@ mapped-none t (x ∷ ids) = rw (le-ltb x 0 (omega arith)) (ap (λ (l : List ℕ)
 -- ---- the whole
 
 -- the slots are free in the part that is lent of an area whose first k words are cleared
-pub slots-cleared : (k m : ℕ) (t z : List ℕ) → z ≡ cleared k t → (r : ℕ) → r < k → r < m → markIn (take m z) r ≡ 0
-unfolding markIn
+pub slots-cleared : (k m : ℕ) (t z : List ℕ) → z ≡ cleared k t → (r : ℕ) → r < k → r < m → markIn true (take m z) r ≡ 0
+unfolding markIn markOf
 slots-cleared k m t z e r l b = omega (arith, front-zero k m t z e r l b)
 
 -- a front of m words is cleared

@@ -6,7 +6,7 @@ use native.Mathlib.Omega.{arith}
 use borrow.Author.Needs.{needs}
 use Rattle.table.specs.Rows.{Found}
 use Rattle.slots.specs.declared.Code.{Code}
-use Rattle.slots.specs.inner.Slots.{markIn, heldKey, codeHome, KeyFits, Claimed}
+use Rattle.slots.specs.inner.Slots.{markOf, markIn, heldKey, codeHome, KeyFits, Claimed}
 use Rattle.vertices.specs.Vertices.{vertexCount}
 use Rattle.cells.specs.inner.Table.{vertexCode}
 use Rattle.cells.proofs.Welding.{welds-searchable, welds-new, welds-known}
@@ -25,9 +25,10 @@ module _ (c : tie.After-cell-at) where
   k = vertexCode (st .args .vertices .now) (st .args .inv) (st .args .v)
 
 find-requires : tie.Need-find-requires
+unfolding KeyFits
 find-requires c κs =
     let s = st (c .before) in
-    welds-searchable (s .args .vertices .now) (s .args .inv) (s .args .part .now) (s .args .v) (s .pre .1) (s .pre .0)
+    (welds-searchable (s .args .vertices .now) (s .args .inv) (s .args .part .now) (s .args .v) (s .pre .1) (s .pre .0), tt)
 
 mark-requires : tie.Need-mark-requires
 mark-requires c κs = let q = c .before in omega (arith, q .find .ensures .within, st (q .before .before) .pre .0 .words)
@@ -40,8 +41,8 @@ module _ (c : tie.After-mark) where
   abbrev r : ℕ
   r = c .before .before .find .result
 
-  found : Found (2 * n at) (codeHome (n at) (k at)) (heldKey true (n at) (st at .args .part .now)) (markIn (st at .args .part .now)) (k at) r
-  found = subst (λ (x : Code). Found (2 * n at) (codeHome (n at) x) (heldKey true (n at) (st at .args .part .now)) (markIn (st at .args .part .now)) x r)
+  found : Found (2 * n at) (codeHome (n at) (k at)) (heldKey true (n at) (st at .args .part .now)) (markIn true (st at .args .part .now)) (k at) r
+  found = subst (λ (x : Code). Found (2 * n at) (codeHome (n at) x) (heldKey true (n at) (st at .args .part .now)) (markIn true (st at .args .part .now)) x r)
       (at .cell-at .ensures) (c .before .before .find .ensures)
 
 claim-requires : tie.Need-claim-requires
@@ -58,7 +59,7 @@ claim-requires c κs =
     }
 
 note-requires-2 : tie.Need-note-requires-2
-unfolding markIn
+unfolding markIn markOf
 note-requires-2 c κs =
     let m = c .before .before in
     (omega (arith, st (at m) .pre .0 .words, st (at m) .pre .1), omega (arith, m .mark .ensures))

@@ -42,7 +42,7 @@ nameIn t v = getD t v 0 / 65536
 
 -- and each becomes the vertex that names its cell
 pub record Welds (n : ℕ) (vs : List Float) (inv : Float) (t : List ℕ) (v : ℕ) : Type 0 where
-  pub celled : Celled n vs inv (markIn t) (entryKey true n t) v
+  pub celled : Celled n vs inv (markIn true t) (entryKey true n t) v
   pub sent : (j : ℕ) → j < v → nameIn t j ≡ named vs inv j
 
 -- and t has room for all vertices

@@ -6,13 +6,17 @@ use native.Mathlib.Omega.{arith}
 use borrow.Author.Needs.{needs}
 use lib.ListN.{length, getD, length-set}
 use Rattle.slots.specs.inner.Slots.{markIn, KeyFits}
-use Rattle.slots.proofs.Words.{entry-fits, claimed-as}
+use Rattle.slots.proofs.Words.{word-fits, entry-fits, claimed-as}
 use Rattle.slots.proofs.claim.Statement.{statement}
 use Rattle.slots.proofs.claim.Tie as tie
 
 add-part-2 : tie.Need-add-part-2
 unfolding markIn
-add-part-2 c = let s = c .before .before in omega (arith, s .pre .free, c .slice-known2 .given (s .args .r))
+add-part-2 c =
+    let s = c .before .before in
+    let word = getD (s .args .part .now) (s .args .r) 0 in
+    omega (arith, word-fits (s .args .wide) word (s .args .v) (s .pre .free) (omega (arith, s .pre .entry, s .pre .words .small))
+    (omega (arith, c .slice-known2 .given (s .args .r))))
 
 put-wide-requires : tie.Need-put-wide-requires
 put-wide-requires c κs =

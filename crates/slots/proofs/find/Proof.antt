@@ -12,7 +12,7 @@ unfolding codeHome
 returns c =
     let a = c .before .before .before .before .args in
     let starts : c .before .home .result ≡ codeHome (a .n) (a .k) = c .before .home .ensures .0 ∙ ap (homeRow (2 * a .n)) (c .before .before .hash .ensures) in
-    subst (λ (s : ℕ). Found (2 * a .n) s (heldKey (a .wide) (a .n) (a .part .now)) (markIn (a .part .now)) (a .k) (c .find-from .result)) starts (c .find-from .ensures)
+    subst (λ (s : ℕ). Found (2 * a .n) s (heldKey (a .wide) (a .n) (a .part .now)) (markIn (a .wide) (a .part .now)) (a .k) (c .find-from .result)) starts (c .find-from .ensures)
 
 pub find-spec : {M : Type 1} → statement M
 find-spec =

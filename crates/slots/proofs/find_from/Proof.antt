@@ -14,7 +14,7 @@ use Rattle.slots.proofs.find_from.Statement.{statement}
 use Rattle.slots.proofs.find_from.Tie as tie
 
 abbrev Inv-loop : tie.InvT-loop
-Inv-loop part n wide k start m r₀ r = (r < 2 * n) × Passed (2 * n) start (heldKey wide n part) (markIn part) k r
+Inv-loop part n wide k start m r₀ r = (r < 2 * n) × Passed (2 * n) start (heldKey wide n part) (markIn wide part) k r
 
 abbrev μ-loop : tie.MeasureT-loop
 μ-loop part n wide k start m r₀ r = 2 * n - dist (2 * n) start r
@@ -37,7 +37,7 @@ module _ (l : tie.At-loop Inv-loop μ-loop) where
   key = heldKey (st .args .wide) (st .args .n) (st .args .part .now)
 
   abbrev mark : ℕ → ℕ
-  mark = markIn (st .args .part .now)
+  mark = markIn (st .args .wide) (st .args .part .now)
 
   found : (0 < mark r → key r ≡ st .args .k) → Found m (st .args .start) key mark (st .args .k) r
   found h = record { within = l .loop .inv .0; holds = h; passed = l .loop .inv .1 }
@@ -51,7 +51,7 @@ mark-requires c κs = omega (arith, st c .pre .0 .words .long, c .loop .inv .0)
 same-requires : tie.Need-same-requires Inv-loop μ-loop
 same-requires c κs =
     let l = c .before .before in
-    (st l .pre .0 .words, omega (arith, c .if1 .left, c .before .mark .ensures, st l .pre .0 .within (r l) (l .loop .inv .0)))
+    (st l .pre .0 .words, omega (arith, c .if1 .left, c .before .mark .ensures, st l .pre .0 .within (r l) (l .loop .inv .0)), st l .pre .2)
 
 -- what the test says: the slot holds the key, or the search goes on
 module _ (c : tie.After-same Inv-loop μ-loop) where

@@ -1,10 +1,10 @@
 -- `slots::same` meets its contract: by the layout. Assumes nothing.
-use mathlib.Core.Path.{ap, _∙_}
-use mathlib.Core.Bool.{true, false}
+use mathlib.Core.Path.{ap, _∙_, subst}
+use mathlib.Core.Bool.{Bool, true, false}
 use native.Mathlib.Omega.{arith}
 use borrow.Author.Needs.{needs}
 use Rattle.slots.specs.declared.Code.{Code}
-use Rattle.slots.specs.inner.Slots.{sameCode}
+use Rattle.slots.specs.inner.Slots.{sameCode, KeyFits}
 use Rattle.slots.proofs.Words.{entry-is, entry-fits}
 use Rattle.slots.proofs.same.Statement.{statement}
 use Rattle.slots.proofs.same.Tie as tie
@@ -17,7 +17,8 @@ same-wide-requires c κs =
 same-narrow-requires : tie.Need-same-narrow-requires
 same-narrow-requires c κs =
     let s = c .before .before in
-    omega (arith, entry-fits (s .args .wide) false (c .if1 .left) (s .args .n) (s .args .v) (s .args .part .now) (s .pre .0) (s .pre .1))
+    (omega (arith, entry-fits (s .args .wide) false (c .if1 .left) (s .args .n) (s .args .v) (s .args .part .now) (s .pre .0) (s .pre .1)),
+    subst (λ (b : Bool). KeyFits b (s .args .k)) (c .if1 .left) (s .pre .2))
 
 returns : tie.Need-returns
 returns c =

@@ -5,19 +5,22 @@ use native.Mathlib.Omega.{arith}
 use borrow.Author.Needs.{needs}
 use lib.Dec.{eqb}
 use lib.ListN.{getD}
-use Rattle.slots.specs.inner.Slots.{keyFrom, sameCode}
+use Rattle.slots.specs.inner.Slots.{keyFrom, sameCode, KeyFits}
 use Rattle.slots.proofs.Codes.{by-tests}
 use Rattle.slots.proofs.same_narrow.Statement.{statement}
 use Rattle.slots.proofs.same_narrow.Tie as tie
 
 cast-result : tie.Need-cast-result
-cast-result c = omega (arith, c .shared-slice-known .given (c .before .args .at))
+unfolding KeyFits
+cast-result c = omega (arith, c .before .before .pre .1)
 
 cast-result-2 : tie.Need-cast-result-2
-cast-result-2 c = omega (arith, c .shared-slice-known2 .given (c .before .before .before .args .at + 1))
+unfolding KeyFits
+cast-result-2 c = omega (arith, c .before .before .before .before .pre .1)
 
 cast-result-3 : tie.Need-cast-result-3
-cast-result-3 c = omega (arith, c .shared-slice-known3 .given (c .before .before .before .before .before .args .at + 2))
+unfolding KeyFits
+cast-result-3 c = omega (arith, c .before .before .before .before .before .before .pre .1)
 
 returns : tie.Need-returns
 unfolding keyFrom sameCode

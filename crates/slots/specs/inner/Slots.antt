@@ -1,5 +1,6 @@
--- A table of n entries at most, by their keys, in lent words. Two words an entry in front are slots: the lower half of a word is 0, or the number of an entry
--- plus 1; the upper half is for whoever has the table. Behind the slots each entry has the words of its key: three numbers of two words each (wide) or of one.
+-- A table of n entries at most, by their keys, in lent words. Two words an entry in front are slots: a slot's mark is 0, or the number of an entry plus 1. Behind
+-- the slots each entry has the words of its key, which is three numbers. In a wide table these are of two words each, and a mark is the lower half of its word:
+-- the upper half is for whoever has the table. Else a number has one word, and a mark a whole one.
 use mathlib.Core.Path.{_≡_}
 use mathlib.Core.Logic.{_≢_}
 use Prim.Native.Nat.{ℕ, _+_, _-_, _*_, _/_, _%_, _≤_, _<_}
@@ -45,9 +46,13 @@ codeHome n k = homeRow (2 * n) (codeHash k)
 
 -- ---- slots and entries
 
--- the mark of slot r: 0, or the number of its entry plus 1
-unfoldable pub markIn : List ℕ → ℕ → ℕ
-markIn t r = getD t r 0 % 65536
+-- the mark in a word, and that of slot r
+unfoldable pub markOf : Bool → ℕ → ℕ
+markOf true w = w % 65536
+markOf false w = w
+
+unfoldable pub markIn : Bool → List ℕ → ℕ → ℕ
+markIn wide t r = markOf wide (getD t r 0)
 
 -- the key in the words of entry v
 unfoldable pub entryKey : Bool → ℕ → List ℕ → ℕ → Code
@@ -58,7 +63,7 @@ abbrev pub held : (ℕ → ℕ) → (ℕ → Code) → ℕ → Code
 held mark key r = key (mark r - 1)
 
 abbrev pub heldKey : Bool → ℕ → List ℕ → ℕ → Code
-heldKey wide n t = held (markIn t) (entryKey wide n t)
+heldKey wide n t = held (markIn wide t) (entryKey wide n t)
 
 -- ---- what the table means
 
@@ -76,21 +81,21 @@ pub record Entries (n : ℕ) (mark : ℕ → ℕ) (key : ℕ → Code) (e : ℕ)
 -- slots name entries, and some slot is free: what a search needs
 pub record Searchable (wide : Bool) (n : ℕ) (t : List ℕ) : Type 0 where
   pub words : HasWords wide n t
-  pub within : (r : ℕ) → r < 2 * n → markIn t r ≤ n
-  pub free : Free (2 * n) (markIn t)
+  pub within : (r : ℕ) → r < 2 * n → markIn wide t r ≤ n
+  pub free : Free (2 * n) (markIn wide t)
 
 -- slot r can be given to entry v, whose key is k
 pub record Claimable (wide : Bool) (n r v : ℕ) (k : Code) (t : List ℕ) : Type 0 where
   pub words : HasWords wide n t
   pub slot : r < 2 * n
   pub entry : v < n
-  pub free : markIn t r ≡ 0
+  pub free : markIn wide t r ≡ 0
   pub fits : KeyFits wide k
 
 -- w is t with slot r given to it
 pub record Claimed (wide : Bool) (n r v : ℕ) (k : Code) (t w : List ℕ) : Type 0 where
-  pub mark-at : markIn w r ≡ v + 1
-  pub mark-off : (i : ℕ) → i < 2 * n → i ≢ r → markIn w i ≡ markIn t i
+  pub mark-at : markIn wide w r ≡ v + 1
+  pub mark-off : (i : ℕ) → i < 2 * n → i ≢ r → markIn wide w i ≡ markIn wide t i
   pub key-at : entryKey wide n w v ≡ k
   pub key-off : (j : ℕ) → j ≢ v → entryKey wide n w j ≡ entryKey wide n t j
   -- the upper halves stay

@@ -35,7 +35,9 @@ module _ (c : tie.After-code-of-normal) where
   fits = subst (KeyFits false) (sym (c .code-of-normal .ensures)) (normal-fits (st .args .nx) (st .args .ny) (st .args .nz))
 
 find-requires : tie.Need-find-requires
-find-requires c κs = let s = st (c .before) in ready-searchable (s .args .m) (s .args .n) (s .args .index .now) (s .args .rows .now) (s .pre)
+find-requires c κs =
+    let s = st (c .before) in
+    (ready-searchable (s .args .m) (s .args .n) (s .args .index .now) (s .args .rows .now) (s .pre), fits (c .before))
 
 -- what the search found
 module _ (c : tie.After-mark) where
@@ -45,8 +47,8 @@ module _ (c : tie.After-mark) where
   abbrev r : ℕ
   r = c .before .before .find .result
 
-  found : Found (2 * m at) (codeHome (m at) (keyCode (k at))) (heldKey false (m at) (t at)) (markIn (t at)) (keyCode (k at)) r
-  found = subst (λ (x : Code). Found (2 * m at) (codeHome (m at) x) (heldKey false (m at) (t at)) (markIn (t at)) x r)
+  found : Found (2 * m at) (codeHome (m at) (keyCode (k at))) (heldKey false (m at) (t at)) (markIn false (t at)) (keyCode (k at)) r
+  found = subst (λ (x : Code). Found (2 * m at) (codeHome (m at) x) (heldKey false (m at) (t at)) (markIn false (t at)) x r)
       (at .code-of-normal .ensures) (c .before .before .find .ensures)
 
   -- the slot names a row, of n at most

@@ -20,10 +20,10 @@ keyCode k = record { x = coded (k .x); y = coded (k .y); z = coded (k .z) }
 
 -- what the index t and the floats u of the surface area say while the rows are summed: they are the buckets bs, and behind these the area is as it was, s
 pub record Gathered (m : ℕ) (s : List Float) (t : List ℕ) (u : List Float) (bs : List Bucket) : Type 0 where
-  pub entries : Entries m (markIn t) (entryKey false m t) (length bs)
+  pub entries : Entries m (markIn false t) (entryKey false m t) (length bs)
   -- each row has its key's words and a slot
   pub holds : (j : ℕ) → j < length bs → entryKey false m t j ≡ keyCode (keyAt bs j)
-  pub has : (j : ℕ) → j < length bs → (r : ℕ) × (r < 2 * m) × (markIn t r ≡ j + 1)
+  pub has : (j : ℕ) → j < length bs → (r : ℕ) × (r < 2 * m) × (markIn false t r ≡ j + 1)
   pub filled : u ≡ flatten (rows bs) ++ drop (4 * length bs) s
 
 -- ---- one triangle more

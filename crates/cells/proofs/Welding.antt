@@ -103,15 +103,18 @@ module _ (n : ℕ) (vs : List Float) (inv : Float) (t : List ℕ) (v r : ℕ) (l
     welds-new fits = send u v fits celled-new is-own (λ i l. c .upper i (omega arith))
 
   -- the slot holds the cell: its vertex names it
-  pub welds-known : 0 < markIn true t r → v < length t → Welds n vs inv (noted t v (markIn true t r - 1)) (v + 1)
-  welds-known used fits =
-      let alike : vertexCode vs inv (markIn true t r - 1) ≡ k = sym (was .holds r (f .within) used) ∙ f .holds used in
-      let below : markIn true t r ≤ v = was .entries .within r (f .within) in
-      send t (markIn true t r - 1) fits (
+  pub welds-known : (name : ℕ) → markIn true t r ≡ name + 1 → v < length t → Welds n vs inv (noted t v name) (v + 1)
+  welds-known name told fits =
+      let used : 0 < markIn true t r = omega arith in
+      let of : markIn true t r - 1 ≡ name = omega arith in
+      let alike : vertexCode vs inv name ≡ k = rw of at (sym (was .holds r (f .within) used) ∙ f .holds used) in
+      let own : named vs inv name ≡ name = rw of at (was .names r (f .within) used) in
+      let below : name < v = omega (arith, was .entries .within r (f .within)) in
+      send t name fits (
       record {
         entries = entries-past n (markIn true t) (entryKey true n t) v (v + 1) (omega arith) (was .entries);
         holds = was .holds;
         names = was .names;
         has = λ j l. elim (ℕ-discrete j v) [ yes q ↦ (r, f .within, used, rw q (f .holds used)) | no q ↦ was .has j (omega arith) ];
       }
-      ) (known-name vs inv (markIn true t r - 1) v (was .names r (f .within) used) (omega arith) alike) (λ i l. refl)
+      ) (known-name vs inv name v own (omega arith) alike) (λ i l. refl)

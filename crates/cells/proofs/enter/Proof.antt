@@ -62,7 +62,8 @@ note-requires-2 : tie.Need-note-requires-2
 unfolding markIn markOf
 note-requires-2 c κs =
     let m = c .before .before in
-    (omega (arith, st (at m) .pre .0 .words, st (at m) .pre .1), omega (arith, m .mark .ensures))
+    let s = st (at m) in
+    (omega (arith, s .pre .0 .words, s .pre .1), omega (arith, m .mark .ensures, s .pre .0 .few))
 
 returns : tie.Need-returns
 returns c =
@@ -82,8 +83,8 @@ returns-2 c =
     let m = w .before .before .before in
     let s = st (at m) in
     let a = s .args in
-    rw (w .note2 .ensures, m .mark .ensures) (welds-known (n (at m)) (a .vertices .now) (a .inv) (a .part .now) (a .v) (r m) (s .pre .1) (s .pre .0 .welds)
-    (found m) (omega (arith, m .mark .ensures, w .before .before .if1 .left)) (omega (arith, s .pre .0 .words, s .pre .1)))
+    rw (w .note2 .ensures) (welds-known (n (at m)) (a .vertices .now) (a .inv) (a .part .now) (a .v) (r m) (s .pre .1) (s .pre .0 .welds) (found m)
+    _ (omega (arith, m .mark .ensures, w .before .before .if1 .left)) (omega (arith, s .pre .0 .words, s .pre .1)))
 
 pub enter-spec : {M : Type 1} → statement M
 enter-spec =

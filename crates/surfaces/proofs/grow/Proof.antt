@@ -1,13 +1,11 @@
 -- `surfaces::grow` meets its contract: it writes the sum, in either order. Assumes nothing.
 use borrow.Author.Needs.{needs}
-use lib.Ieee.{binary32, nan}
-use lib.ListN.{getD}
 use Rattle.ieee.proofs.Values.NegatedSum.{add-commutes}
 use Rattle.surfaces.proofs.grow.Statement.{statement}
 use Rattle.surfaces.proofs.grow.Tie as tie
 
 returns : tie.Need-returns
-returns c = let a = c .before .args in cc (add-commutes binary32 (getD (a .rows .now) (a .at) nan) (a .area))
+returns c = search (needs, add-commutes)
 
 pub grow-spec : {M : Type 1} → statement M
 grow-spec =

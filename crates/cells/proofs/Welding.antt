@@ -1,5 +1,5 @@
--- What one vertex more does to the table: it finds the slot of its cell, or a free one, which is then its own, and becomes the vertex that the slot names. Assumes
--- nothing.
+-- What one vertex more does to the table: it finds the slot of its cell, or a free one, which is then its own, and becomes the vertex
+-- that the slot names. Assumes nothing.
 use mathlib.Core.Path.{_≡_, refl, sym, ap, _∙_}
 use mathlib.Core.Logic.{_≢_}
 use mathlib.Core.Bool.{true}
@@ -32,7 +32,8 @@ welds-none n vs inv t z = record {
   sent = λ j l. absurd (omega arith);
 }
 
-pub welds-searchable : (vs : List Float) (inv : Float) (t : List ℕ) (v : ℕ) → v < vertexCount vs → Weldable vs inv t v → Searchable true (vertexCount vs) t
+pub welds-searchable : (vs : List Float) (inv : Float) (t : List ℕ) (v : ℕ) → v < vertexCount vs → Weldable vs inv t v
+    → Searchable true (vertexCount vs) t
 welds-searchable vs inv t v l w = entries-searchable true (vertexCount vs) t v (w .welds .celled .entries) l (
     record { small = omega (arith, w .few); long = omega (arith, w .words) })
 
@@ -62,7 +63,8 @@ module _ (n : ℕ) (vs : List Float) (inv : Float) (t : List ℕ) (v r : ℕ) (l
     is-own : named vs inv v ≡ v
     is-own = new-name vs inv v (λ j l z.
         let b = was .has j l in
-        others n (markIn true t) (entryKey true n t) v (was .entries) k r f (b .0) (b .1) (b .2) (λ q. omega (arith, b .2, free, ap (markIn true t) q)) (b .3 ∙ z))
+        let ne : b .0 ≢ r = (λ q. omega (arith, b .2, free, ap (markIn true t) q)) in
+        others n (markIn true t) (entryKey true n t) v (was .entries) k r f (b .0) (b .1) (b .2) ne (b .3 ∙ z))
 
     here : heldKey true n u r ≡ k
     here = held-now true n t v (was .entries) k r f v u (omega arith) c
@@ -82,7 +84,10 @@ module _ (n : ℕ) (vs : List Float) (inv : Float) (t : List ℕ) (v r : ℕ) (l
       entries = entries-claimed true n t v (was .entries) k r f v u (omega arith) c;
       holds = λ i l p. elim (ℕ-discrete i r) [
         | yes q ↦ rw q (here ∙ ap (vertexCode vs inv) (sym own))
-        | no q ↦ there i l q (before i l q p) ∙ was .holds i l (before i l q p) ∙ ap (λ (x : ℕ). vertexCode vs inv (x - 1)) (sym (c .mark-off i l q))
+        | no q ↦ (
+          let u : 0 < markIn true t i = before i l q p in
+          there i l q u ∙ was .holds i l u ∙ ap (λ (x : ℕ). vertexCode vs inv (x - 1)) (sym (c .mark-off i l q))
+        )
       ];
       names = λ i l p. elim (ℕ-discrete i r) [
         | yes q ↦ rw (q, own) is-own

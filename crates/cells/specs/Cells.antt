@@ -35,8 +35,8 @@ firstThat test (suc n) j = cond (test j) j (firstThat test n (suc j))
 unfoldable pub named : List Float → Float → ℕ → ℕ
 named vs inv v = firstThat (λ j. sameCell (cellAt vs inv j) (cellAt vs inv v)) v 0
 
--- that is to say: f has v's cell, is not behind v, and no vertex before f has it (`named-names`). No other vertex is that (`named-is`), so two
--- vertices have one name just where they have one cell (`named-one`, `named-tells`)
+-- that is to say: f has v's cell, is not behind v, and no vertex before f has it (`named-names`). No other vertex is that
+-- (`named-is`), so two vertices have one name just where they have one cell (`named-one`, `named-tells`)
 pub record NamesCell (vs : List Float) (inv : Float) (v f : ℕ) : Type 0 where
   pub not-behind : f ≤ v
   pub alike : cellAt vs inv f ≡ cellAt vs inv v

@@ -98,7 +98,8 @@ fn enter(vertices: &[f32], inv: f64, part: &mut [u32], v: usize)
 // Enters all vertices.
 pub fn gather(vertices: &[f32], inv: f64, part: &mut [u32])
     requires { ⌜ Weldable (now vertices) inv (now part) 0 ⌝ }
-    ensures { λ _. ⌜ Welds (vertexCount (now (vertices .entry))) (now (vertices .entry)) inv (now (part .exit)) (vertexCount (now (vertices .entry))) ⌝ }
+    ensures { λ _. ⌜ Welds (vertexCount (now (vertices .entry))) (now (vertices .entry)) inv (now (part .exit))
+        (vertexCount (now (vertices .entry))) ⌝ }
 {
     let n = vertices.len() / 3;
     let mut v = 0;

@@ -24,15 +24,16 @@ pub home-in : (n : ℕ) (k : Code) → 0 < n → codeHome n k < 2 * n
 unfolding codeHome codeHash
 home-in n k some = home-below (2 * n) (codeHash k) (omega arith) (omega arith)
 
--- three tests, by what each says
+-- ---- tests, by what they say
+
+pub by : {P : Type 0} (b : Bool) → (b ≡ true → P) → (b ≡ false → P) → P
+by true f g = f refl
+by false f g = g refl
+
+-- three of them, all cases
 pub by-tests : {P : Type 0} (a b c : Bool) → (a ≡ true → b ≡ true → c ≡ true → P) → (a ≡ true → b ≡ true → c ≡ false → P)
     → (a ≡ true → b ≡ false → c ≡ true → P) → (a ≡ true → b ≡ false → c ≡ false → P) → (a ≡ false → b ≡ true → c ≡ true → P)
     → (a ≡ false → b ≡ true → c ≡ false → P) → (a ≡ false → b ≡ false → c ≡ true → P) → (a ≡ false → b ≡ false → c ≡ false → P) → P
-by-tests true true true f1 f2 f3 f4 f5 f6 f7 f8 = f1 refl refl refl
-by-tests true true false f1 f2 f3 f4 f5 f6 f7 f8 = f2 refl refl refl
-by-tests true false true f1 f2 f3 f4 f5 f6 f7 f8 = f3 refl refl refl
-by-tests true false false f1 f2 f3 f4 f5 f6 f7 f8 = f4 refl refl refl
-by-tests false true true f1 f2 f3 f4 f5 f6 f7 f8 = f5 refl refl refl
-by-tests false true false f1 f2 f3 f4 f5 f6 f7 f8 = f6 refl refl refl
-by-tests false false true f1 f2 f3 f4 f5 f6 f7 f8 = f7 refl refl refl
-by-tests false false false f1 f2 f3 f4 f5 f6 f7 f8 = f8 refl refl refl
+by-tests a b c f₁ f₂ f₃ f₄ f₅ f₆ f₇ f₈ = by a
+    (λ p. by b (λ q. by c (f₁ p q) (f₂ p q)) (λ q. by c (f₃ p q) (f₄ p q)))
+    (λ p. by b (λ q. by c (f₅ p q) (f₆ p q)) (λ q. by c (f₇ p q) (f₈ p q)))

@@ -1,4 +1,5 @@
-// A table of entries by their keys, in lent words: where a key's entry is, and an entry more. Internal: `cells` and `surfaces` have one each.
+// A table of entries by their keys, in lent words: where a key's entry is, and an entry more. Internal: `cells` and `surfaces` have
+// one each.
 ghost use mathlib.Core.Path.{_≡_};
 ghost use mathlib.Core.Bool.{true, false};
 ghost use Prim.Native.Nat.{_+_, _*_, _<_};

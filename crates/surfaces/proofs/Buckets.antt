@@ -1,5 +1,5 @@
--- What one area more does to the buckets by their numbers, and to the floats that they are: a new key is a row more behind the others, a known key grows its
--- row's area and nothing else. Assumes nothing.
+-- What one area more does to the buckets by their numbers, and to the floats that they are: a new key is a row more behind the others,
+-- a known key grows its row's area and nothing else. Assumes nothing.
 use mathlib.Core.Path.{_≡_, refl, sym, ap, _∙_}
 use mathlib.Core.Logic.{_≢_}
 use mathlib.Core.List.{List, [], _∷_, _++_}
@@ -10,10 +10,11 @@ use lib.ListN.{length, getD, set, drop, length-append}
 use lib.Seq.{sets, sets-eq, take-at, drop-drop, drop-append-add}
 use Rattle.ieee.specs.Single.{_⊕_, nought}
 use Rattle.rows.specs.Rows.{flatten}
+use Rattle.slots.proofs.Codes.{by}
 use Rattle.surfaces.specs.declared.Key.{Key}
 use Rattle.surfaces.specs.Surfaces.{sameKey, Bucket, addArea, keyAt, rows, tenth}
 use Rattle.surfaces.specs.inner.Index.{withRow}
-use Rattle.surfaces.proofs.Keys.{key-same, key-ne, by}
+use Rattle.surfaces.proofs.Keys.{key-same, key-ne}
 
 abbrev pub fresh : Key → Float → Bucket
 fresh k a = record { key = k; area = nought ⊕ a }
@@ -39,7 +40,8 @@ module _ (k : Key) (a : Float) where
   pub put-new : (bs : List Bucket) → ((j : ℕ) → j < length bs → keyAt bs j ≢ k) → addArea k a bs ≡ bs ++ fresh k a ∷ []
   unfolding addArea keyAt
   put-new [] none = refl
-  put-new (b ∷ bs) none = rw (key-ne k (b .key) (none 0 (omega arith))) (ap (λ (l : List Bucket). b ∷ l) (put-new bs (λ j l. none (suc j) (omega arith))))
+  put-new (b ∷ bs) none =
+      rw (key-ne k (b .key) (none 0 (omega arith))) (ap (λ (l : List Bucket). b ∷ l) (put-new bs (λ j l. none (suc j) (omega arith))))
 
   written : (u : List Float) (n : ℕ) → withRow u n k a ≡ sets u (4 * n) (floats (fresh k a))
   unfolding withRow
@@ -49,8 +51,8 @@ module _ (k : Key) (a : Float) where
       let three : 4 * n + 3 ≡ suc (suc (suc (4 * n))) = omega arith in
       rw (one, two, three)
 
-  pub row-more : (bs : List Bucket) (s : List Float) → 4 * length bs + 4 ≤ length (flatten (rows bs) ++ drop (4 * length bs) s)
-      → withRow (flatten (rows bs) ++ drop (4 * length bs) s) (length bs) k a ≡ flatten (rows (bs ++ fresh k a ∷ [])) ++ drop (4 * length (bs ++ fresh k a ∷ [])) s
+  pub row-more : (bs : List Bucket) (s : List Float) → let u = flatten (rows bs) ++ drop (4 * length bs) s in let more = bs ++ fresh k a ∷ [] in
+      4 * length bs + 4 ≤ length u → withRow u (length bs) k a ≡ flatten (rows more) ++ drop (4 * length more) s
   row-more bs s room =
       let b : Bucket = fresh k a in
       let front : List Float = flatten (rows bs) in

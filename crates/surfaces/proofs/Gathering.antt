@@ -106,15 +106,16 @@ module _ (m : ℕ) (s : List Float) (t : List ℕ) (u : List Float) (bs : List B
       holds = λ j l. g .holds j (omega (arith, same-length)) ∙ ap keyCode (sym (known-keys k a bs row below here j));
       has = λ j l. g .has j (omega (arith, same-length));
       filled =
-          rw (g .filled) (known-floats k a bs row below here (λ i l. not-here i (omega (arith, below)) (omega arith)) (drop (4 * length bs) s)
-          ∙ ap (λ (n : ℕ). flatten (rows (addArea k a bs)) ++ drop (4 * n) s) (sym same-length));
+          rw (g .filled) (known-floats k a bs row below here (λ i l. not-here i (omega (arith, below)) (omega arith))
+          (drop (4 * length bs) s) ∙ ap (λ (n : ℕ). flatten (rows (addArea k a bs)) ++ drop (4 * n) s) (sym same-length));
     }
 
 -- ---- the same, whatever rows the index and the floats meant
 
 module _ (m n : ℕ) (k : Key) (a : Float) (t : List ℕ) (u v : List Float) (r : ℕ) (ready : Ready m n t u)
     (f : Found (2 * m) (codeHome m (keyCode k)) (heldKey false m t) (markIn false t) (keyCode k) r) where
-  pub adds-new : (w : List ℕ) → markIn false t r ≡ 0 → Claimed false m r n (keyCode k) t w → v ≡ withRow u n k a → AddsArea m n k a t w u v (n + 1)
+  pub adds-new : (w : List ℕ) → markIn false t r ≡ 0 → Claimed false m r n (keyCode k) t w → v ≡ withRow u n k a
+      → AddsArea m n k a t w u v (n + 1)
   adds-new w free c e = record {
     adds = λ s bs is g. (
       ap (λ (x : ℕ). x + 1) (sym is) ∙ length-new m s t u bs k a r g f free,

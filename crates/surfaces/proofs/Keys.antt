@@ -10,6 +10,7 @@ use lib.ListN.{length}
 use Rattle.ids.proofs.Same.{three-eq, three-refl}
 use Rattle.ieee.specs.Single.{_⊕_, nought}
 use Rattle.ieee.specs.Integer.{sameInteger}
+use Rattle.slots.proofs.Codes.{by}
 use Rattle.cells.proofs.Codes.{integer-eq, integer-refl}
 use Rattle.surfaces.specs.declared.Key.{Key}
 use Rattle.surfaces.specs.Surfaces.{sameKey, Bucket, addArea, areaFor, hasKey, Apart, AllAreas, rows}
@@ -29,11 +30,6 @@ key-refl k = three-refl sameInteger integer-refl (k .x) (k .y) (k .z)
 pub key-same : (k l : Key) → k ≡ l → sameKey k l ≡ true
 key-same k l e = rw e (key-refl l)
 
--- a test, by what it says
-pub by : {P : Type 0} (b : Bool) → (b ≡ true → P) → (b ≡ false → P) → P
-by true f g = f refl
-by false f g = g refl
-
 pub key-ne : (k l : Key) → l ≢ k → sameKey k l ≡ false
 key-ne k l ne = by (sameKey k l) (λ h. absurd (ne (sym (key-eq k l h)))) (λ h. h)
 
@@ -42,7 +38,8 @@ key-differs k l h = by (sameKey l k) (λ e. absurd (true≢false (sym (key-same 
 
 -- ---- the area of each key
 
-pub area-put : (k l : Key) (a : Float) (bs : List Bucket) → areaFor k (addArea l a bs) ≡ cond (sameKey k l) (areaFor k bs ⊕ a) (areaFor k bs)
+pub area-put : (k l : Key) (a : Float) (bs : List Bucket)
+    → areaFor k (addArea l a bs) ≡ cond (sameKey k l) (areaFor k bs ⊕ a) (areaFor k bs)
 unfolding areaFor addArea
 area-put k l a [] = refl
 area-put k l a (b ∷ bs) = by (sameKey l (b .key))
@@ -99,8 +96,11 @@ module _ (P Q : Float → Type 0) (still : (x : Float) → P x → Q x) where
   areas-still [] w = tt
   areas-still (b ∷ bs) w = (still (b .area) (w .0), areas-still bs (w .1))
 
-  pub put-all : (k : Key) (a : Float) → ((x : Float) → P x → Q (x ⊕ a)) → Q (nought ⊕ a) → (bs : List Bucket) → AllAreas P bs → AllAreas Q (addArea k a bs)
+  pub put-all : (k : Key) (a : Float) → ((x : Float) → P x → Q (x ⊕ a)) → Q (nought ⊕ a)
+      → (bs : List Bucket) → AllAreas P bs → AllAreas Q (addArea k a bs)
   unfolding AllAreas addArea
   put-all k a more one [] w = (one, tt)
   put-all k a more one (b ∷ bs) w =
-      by (sameKey k (b .key)) (λ h. rw h (more (b .area) (w .0), areas-still bs (w .1))) (λ h. rw h (still (b .area) (w .0), put-all k a more one bs (w .1)))
+      by (sameKey k (b .key))
+      (λ h. rw h (more (b .area) (w .0), areas-still bs (w .1)))
+      (λ h. rw h (still (b .area) (w .0), put-all k a more one bs (w .1)))

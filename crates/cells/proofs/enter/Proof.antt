@@ -1,7 +1,9 @@
--- `cells::enter` meets its contract: from what the search found and what was written, by the laws `welds-new` and `welds-known`. Assumes nothing.
+-- `cells::enter` meets its contract: from what the search found and what was written, by the laws `welds-new` and `welds-known`.
+-- Assumes nothing.
 use mathlib.Core.Path.{subst}
 use Prim.Native.Nat.{ℕ, _*_}
 use mathlib.Core.Bool.{true}
+use mathlib.Core.List.{List}
 use native.Mathlib.Omega.{arith}
 use borrow.Author.Needs.{needs}
 use Rattle.table.specs.Rows.{Found}
@@ -20,6 +22,9 @@ module _ (c : tie.After-cell-at) where
 
   abbrev n : ℕ
   n = vertexCount (st .args .vertices .now)
+
+  abbrev t : List ℕ
+  t = st .args .part .now
 
   abbrev k : Code
   k = vertexCode (st .args .vertices .now) (st .args .inv) (st .args .v)
@@ -41,8 +46,8 @@ module _ (c : tie.After-mark) where
   abbrev r : ℕ
   r = c .before .before .find .result
 
-  found : Found (2 * n at) (codeHome (n at) (k at)) (heldKey true (n at) (st at .args .part .now)) (markIn true (st at .args .part .now)) (k at) r
-  found = subst (λ (x : Code). Found (2 * n at) (codeHome (n at) x) (heldKey true (n at) (st at .args .part .now)) (markIn true (st at .args .part .now)) x r)
+  found : Found (2 * n at) (codeHome (n at) (k at)) (heldKey true (n at) (t at)) (markIn true (t at)) (k at) r
+  found = subst (λ (x : Code). Found (2 * n at) (codeHome (n at) x) (heldKey true (n at) (t at)) (markIn true (t at)) x r)
       (at .cell-at .ensures) (c .before .before .find .ensures)
 
 claim-requires : tie.Need-claim-requires
@@ -72,9 +77,10 @@ returns c =
     let m = u .before .before .before in
     let s = st (at m) in
     let a = s .args in
-    rw (w .note .ensures) (welds-new (n (at m)) (a .vertices .now) (a .inv) (a .part .now) (a .v) (r m) (s .pre .1) (s .pre .0 .welds) (found m)
-    (u .claim .last .0) (omega (arith, m .mark .ensures, u .before .before .if1 .taken))
-    (subst (λ (x : Code). Claimed true (n (at m)) (r m) (a .v) x (a .part .now) (u .claim .last .0)) (at m .cell-at .ensures) (u .claim .ensures))
+    let now = u .claim .last .0 in
+    rw (w .note .ensures) (welds-new (n (at m)) (a .vertices .now) (a .inv) (t (at m)) (a .v) (r m) (s .pre .1) (s .pre .0 .welds)
+    (found m) now (omega (arith, m .mark .ensures, u .before .before .if1 .taken))
+    (subst (λ (x : Code). Claimed true (n (at m)) (r m) (a .v) x (t (at m)) now) (at m .cell-at .ensures) (u .claim .ensures))
     (omega (arith, u .claim .kept .0, s .pre .0 .words, s .pre .1)))
 
 returns-2 : tie.Need-returns-2
@@ -83,8 +89,8 @@ returns-2 c =
     let m = w .before .before .before in
     let s = st (at m) in
     let a = s .args in
-    rw (w .note2 .ensures) (welds-known (n (at m)) (a .vertices .now) (a .inv) (a .part .now) (a .v) (r m) (s .pre .1) (s .pre .0 .welds) (found m)
-    _ (omega (arith, m .mark .ensures, w .before .before .if1 .left)) (omega (arith, s .pre .0 .words, s .pre .1)))
+    rw (w .note2 .ensures) (welds-known (n (at m)) (a .vertices .now) (a .inv) (t (at m)) (a .v) (r m) (s .pre .1) (s .pre .0 .welds)
+    (found m) _ (omega (arith, m .mark .ensures, w .before .before .if1 .left)) (omega (arith, s .pre .0 .words, s .pre .1)))
 
 pub enter-spec : {M : Type 1} → statement M
 enter-spec =

@@ -1,5 +1,5 @@
--- The table of cells, in 8 words a vertex: a vertex is an entry (`slots`), and its cell the key, in wide numbers. The upper half of word v, one of the slots, is
--- the vertex that v becomes.
+-- The table of cells, in 8 words a vertex: a vertex is an entry (`slots`), and its cell the key, in wide numbers. The upper half of word
+-- v, one of the slots, is the vertex that v becomes.
 use mathlib.Core.Path.{_≡_}
 use Prim.Native.Nat.{ℕ, _+_, _-_, _*_, _/_, _≤_, _<_}
 use mathlib.Core.Bool.{true}

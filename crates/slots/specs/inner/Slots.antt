@@ -1,6 +1,7 @@
--- A table of n entries at most, by their keys, in lent words. Two words an entry in front are slots: a slot's mark is 0, or the number of an entry plus 1. Behind
--- the slots each entry has the words of its key, which is three numbers. In a wide table these are of two words each, and a mark is the lower half of its word:
--- the upper half is for whoever has the table. Else a number has one word, and a mark a whole one.
+-- A table of n entries at most, by their keys, in lent words. Two words an entry in front are slots: a slot's mark is 0, or the number of
+-- an entry plus 1. Behind the slots each entry has the words of its key, which is three numbers. In a wide table these are of two words
+-- each, and a mark is the lower half of its word: the upper half is for whoever has the table. Else a number has one word, and a mark a
+-- whole one.
 use mathlib.Core.Path.{_≡_}
 use mathlib.Core.Logic.{_≢_}
 use Prim.Native.Nat.{ℕ, _+_, _-_, _*_, _/_, _%_, _≤_, _<_}
@@ -29,7 +30,8 @@ keyFrom false f = record { x = f 0; y = f 1; z = f 2 }
 
 -- and the words of a key
 unfoldable pub keyInto : Bool → Code → List ℕ
-keyInto true k = k .x % 4294967296 ∷ k .x / 4294967296 ∷ k .y % 4294967296 ∷ k .y / 4294967296 ∷ k .z % 4294967296 ∷ k .z / 4294967296 ∷ []
+keyInto true k =
+    k .x % 4294967296 ∷ k .x / 4294967296 ∷ k .y % 4294967296 ∷ k .y / 4294967296 ∷ k .z % 4294967296 ∷ k .z / 4294967296 ∷ []
 keyInto false k = k .x ∷ k .y ∷ k .z ∷ []
 
 -- a number of 64 bits has room in two words; in one it has where it is below 2^32

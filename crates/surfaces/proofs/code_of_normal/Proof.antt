@@ -17,7 +17,13 @@ returns-3 c = c .code-of3 .ensures ∙ ap keyCode (c .before .quantize-normal3 .
 
 returns-4 : tie.Need-returns-4
 unfolding keyCode normalKey
-returns-4 c = rw (c .before .before .pattern-code .ensures (c .before .before .before .before .before .before .before .before .before .args .nx) (c .before .before .before .before .before .before .before .before .tenfold .ensures .0), c .before .pattern-code2 .ensures (c .before .before .before .before .before .before .before .before .before .args .ny) (c .before .before .before .before .before .before .before .tenfold2 .ensures .0), c .pattern-code3 .ensures (c .before .before .before .before .before .before .before .before .before .args .nz) (c .before .before .before .before .before .before .tenfold3 .ensures .0))
+returns-4 c =
+    let z = c .before .before .before .before .before .before in
+    let y = z .before in
+    let x = y .before in
+    let a = x .before .args in
+    rw (c .before .before .pattern-code .ensures (a .nx) (x .tenfold .ensures .0), c .before .pattern-code2 .ensures (a .ny) (y .tenfold2 .ensures .0),
+    c .pattern-code3 .ensures (a .nz) (z .tenfold3 .ensures .0))
 
 pub code-of-normal-spec : {M : Type 1} → statement M
 code-of-normal-spec =

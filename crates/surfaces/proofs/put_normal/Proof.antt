@@ -1,4 +1,5 @@
--- `surfaces::put_normal` meets its contract: from what the search found and what was written, by the laws `adds-new` and `adds-known`. Assumes nothing.
+-- `surfaces::put_normal` meets its contract: from what the search found and what was written, by the laws `adds-new` and `adds-known`.
+-- Assumes nothing.
 use mathlib.Core.Path.{sym, ap, _∙_, subst}
 use mathlib.Core.Bool.{false}
 use mathlib.Core.List.{List}
@@ -83,10 +84,12 @@ returns c =
     let q = u .before .before .before in
     let s = st (at q) in
     let a = s .args in
-    let key = w .before .key-of .ensures (a .nx) (a .ny) (a .nz) (at q .code-of-normal .ensures) in
-    adds-new (a .m) (a .n) (k (at q)) (a .area) (a .index .now) (a .rows .now) (w .new-row .last .0) (r q) (s .pre) (found q) (u .claim .last .0)
+    let code = at q .code-of-normal .ensures in
+    let key = w .before .key-of .ensures (a .nx) (a .ny) (a .nz) code in
+    let now = u .claim .last .0 in
+    adds-new (a .m) (a .n) (k (at q)) (a .area) (a .index .now) (a .rows .now) (w .new-row .last .0) (r q) (s .pre) (found q) now
     (omega (arith, q .mark .ensures, u .before .before .if1 .taken))
-    (subst (λ (x : Code). Claimed false (a .m) (r q) (a .n) x (a .index .now) (u .claim .last .0)) (at q .code-of-normal .ensures) (u .claim .ensures))
+    (subst (λ (x : Code). Claimed false (a .m) (r q) (a .n) x (a .index .now) now) code (u .claim .ensures))
     (w .new-row .ensures ∙ ap (λ (x : Key). withRow (a .rows .now) (a .n) x (a .area)) key)
 
 returns-2 : tie.Need-returns-2

@@ -1,5 +1,5 @@
--- The index to the rows, in 5 words for each of m rows at most: a row is an entry (`slots`), and its key's three codes have a word each. So the key of a normal
--- finds its row with no search through all rows.
+-- The index to the rows, in 5 words for each of m rows at most: a row is an entry (`slots`), and its key's three codes have a word each.
+-- So the key of a normal finds its row with no search through all rows.
 use mathlib.Core.Path.{_≡_}
 use Prim.Native.Nat.{ℕ, _+_, _*_, _≤_, _<_}
 use mathlib.Core.Bool.{false}
@@ -18,7 +18,8 @@ use Rattle.surfaces.specs.Surfaces.{Bucket, keyAt, rows, tenth, addArea}
 unfoldable pub keyCode : Key → Code
 keyCode k = record { x = coded (k .x); y = coded (k .y); z = coded (k .z) }
 
--- what the index t and the floats u of the surface area say while the rows are summed: they are the buckets bs, and behind these the area is as it was, s
+-- what the index t and the floats u of the surface area say while the rows are summed: they are the buckets bs, and behind these the
+-- area is as it was, s
 pub record Gathered (m : ℕ) (s : List Float) (t : List ℕ) (u : List Float) (bs : List Bucket) : Type 0 where
   pub entries : Entries m (markIn false t) (entryKey false m t) (length bs)
   -- each row has its key's words and a slot

@@ -8,37 +8,35 @@ use native.Mathlib.Omega.{arith}
 use native.Mathlib.Decide.{ℕ-discrete, decLt}
 use lib.Ieee.{Float}
 use Rattle.ids.proofs.Same.{same-ne}
-use Rattle.cells.specs.Cells.{cellAt, sameCell, first, named, NamesCell}
-use Rattle.cells.specs.Table.{codeOf, codeAt}
+use Rattle.slots.proofs.Codes.{by}
+use Rattle.cells.specs.Cells.{cellAt, sameCell, firstThat, named, NamesCell}
+use Rattle.cells.specs.inner.Table.{cellCode, vertexCode}
 use Rattle.cells.proofs.Codes.{code-one, cell-eq, cell-refl}
-
--- a test, by what it says
-by : {P : Type 0} (b : Bool) → (b ≡ true → P) → (b ≡ false → P) → P
-by true f g = f refl
-by false f g = g refl
 
 -- ---- the first that passes
 
 module _ (test : ℕ → Bool) where
-  pub first-is : (n j f : ℕ) → j ≤ f → f ≤ j + n → ((i : ℕ) → j ≤ i → i < f → test i ≡ false) → (f < j + n → test f ≡ true) → first test n j ≡ f
-  unfolding first
+  pub first-is : (n j f : ℕ) → j ≤ f → f ≤ j + n → ((i : ℕ) → j ≤ i → i < f → test i ≡ false) → (f < j + n → test f ≡ true)
+      → firstThat test n j ≡ f
+  unfolding firstThat
   first-is zero j f a b miss hit = omega arith
-  first-is (suc n) j f a b miss hit = go (ℕ-discrete j f) (λ l. first-is n (suc j) f l (omega arith) (λ i p q. miss i (omega arith) q) (λ q. hit (omega arith)))
+  first-is (suc n) j f a b miss hit =
+      go (ℕ-discrete j f) (λ l. first-is n (suc j) f l (omega arith) (λ i p q. miss i (omega arith) q) (λ q. hit (omega arith)))
     where
-      go : Dec (j ≡ f) → (suc j ≤ f → first test n (suc j) ≡ f) → cond (test j) j (first test n (suc j)) ≡ f
+      go : Dec (j ≡ f) → (suc j ≤ f → firstThat test n (suc j) ≡ f) → cond (test j) j (firstThat test n (suc j)) ≡ f
       go (yes e) ih = let h : test j ≡ true = rw e (hit (omega arith)) in rw h e
       go (no e) ih = rw (miss j (omega arith) (omega arith)) (ih (omega arith))
 
   -- what is before it does not pass, and it does, unless there is none
-  pub first-misses : (n j i : ℕ) → j ≤ i → i < first test n j → test i ≡ false
-  unfolding first
+  pub first-misses : (n j i : ℕ) → j ≤ i → i < firstThat test n j → test i ≡ false
+  unfolding firstThat
   first-misses zero j i a b = absurd (omega arith)
   first-misses (suc n) j i a b = by (test j)
       (λ h. let c : i < j = rw h at b in absurd (omega arith))
       (λ h. elim (ℕ-discrete j i) [ yes e ↦ rw (← e) h | no e ↦ first-misses n (suc j) i (omega arith) (rw h at b) ])
 
-  pub first-passes : (n j : ℕ) → ((first test n j < j + n) × (test (first test n j) ≡ true)) ⊎ (first test n j ≡ j + n)
-  unfolding first
+  pub first-passes : (n j : ℕ) → ((firstThat test n j < j + n) × (test (firstThat test n j) ≡ true)) ⊎ (firstThat test n j ≡ j + n)
+  unfolding firstThat
   first-passes zero j = inr (omega arith)
   first-passes (suc n) j = by (test j)
       (λ h. rw h (inl (omega arith, h)))
@@ -57,7 +55,10 @@ module _ (vs : List Float) (inv : Float) where
 
   pub named-alike : (v : ℕ) → cellAt vs inv (named vs inv v) ≡ cellAt vs inv v
   unfolding named
-  named-alike v = ⊎-elim (λ w. cell-eq _ _ (w .1)) (λ w. let e : first (like v) v 0 ≡ v = omega (arith, w) in ap (cellAt vs inv) e) (first-passes (like v) v 0)
+  named-alike v = ⊎-elim
+      (λ w. cell-eq _ _ (w .1))
+      (λ w. let e : firstThat (like v) v 0 ≡ v = omega (arith, w) in ap (cellAt vs inv) e)
+      (first-passes (like v) v 0)
 
   pub named-first : (v j : ℕ) → j < named vs inv v → cellAt vs inv j ≢ cellAt vs inv v
   unfolding named
@@ -77,14 +78,19 @@ module _ (vs : List Float) (inv : Float) where
 
   -- a vertex that names its own cell names that of each later vertex in it
   pub named-by : (f v : ℕ) → named vs inv f ≡ f → f ≤ v → cellAt vs inv f ≡ cellAt vs inv v → named vs inv v ≡ f
-  named-by f v own l e = named-is v f (record { not-behind = l; alike = e; first-of = λ j b z. named-first f j (omega (arith, own)) (z ∙ sym e) })
+  named-by f v own l e =
+      named-is v f (record { not-behind = l; alike = e; first-of = λ j b z. named-first f j (omega (arith, own)) (z ∙ sym e) })
+
+  no-later : (u v : ℕ) → cellAt vs inv u ≡ cellAt vs inv v → named vs inv u ≤ named vs inv v
+  no-later u v e =
+      elim (decLt (named vs inv v) (named vs inv u)) [
+        | yes l ↦ absurd (named-first u (named vs inv v) l (named-alike v ∙ sym e))
+        | no l ↦ omega arith
+      ]
 
   -- vertices of one cell have one name
   pub named-one : (u v : ℕ) → cellAt vs inv u ≡ cellAt vs inv v → named vs inv u ≡ named vs inv v
-  named-one u v e =
-      let f : named vs inv u ≤ named vs inv v = elim (decLt (named vs inv v) (named vs inv u)) [ yes l ↦ absurd (named-first u (named vs inv v) l (named-alike v ∙ sym e)) | no l ↦ omega arith ] in
-      let g : named vs inv v ≤ named vs inv u = elim (decLt (named vs inv u) (named vs inv v)) [ yes l ↦ absurd (named-first v (named vs inv u) l (named-alike u ∙ e)) | no l ↦ omega arith ] in
-      omega arith
+  named-one u v e = omega (arith, no-later u v e, no-later v u (sym e))
 
   -- and vertices of one name have one cell
   pub named-tells : (u v : ℕ) → named vs inv u ≡ named vs inv v → cellAt vs inv u ≡ cellAt vs inv v
@@ -92,8 +98,8 @@ module _ (vs : List Float) (inv : Float) where
 
   -- ---- by codes, as a table has them
 
-  pub known-name : (f v : ℕ) → named vs inv f ≡ f → f ≤ v → codeAt vs inv f ≡ codeAt vs inv v → named vs inv v ≡ f
+  pub known-name : (f v : ℕ) → named vs inv f ≡ f → f ≤ v → vertexCode vs inv f ≡ vertexCode vs inv v → named vs inv v ≡ f
   known-name f v own l e = named-by f v own l (code-one (cellAt vs inv f) (cellAt vs inv v) e)
 
-  pub new-name : (v : ℕ) → ((j : ℕ) → j < v → codeAt vs inv j ≢ codeAt vs inv v) → named vs inv v ≡ v
-  new-name v h = named-is v v (record { not-behind = omega arith; alike = refl; first-of = λ j l e. h j l (ap codeOf e) })
+  pub new-name : (v : ℕ) → ((j : ℕ) → j < v → vertexCode vs inv j ≢ vertexCode vs inv v) → named vs inv v ≡ v
+  new-name v h = named-is v v (record { not-behind = omega arith; alike = refl; first-of = λ j l e. h j l (ap cellCode e) })

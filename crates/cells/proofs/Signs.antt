@@ -1,4 +1,5 @@
--- What `coded` is, by the steps in which the code makes it: of an i64 by the test of the sign and the casts, of a float's pattern by its size and sign. Assumes nothing.
+-- What `coded` is, by the steps in which the code makes it: of an i64 by the test of the sign and the casts, of a float's pattern by its
+-- size and sign. Assumes nothing.
 use mathlib.Core.Path.{_≡_, refl, sym, ap, _∙_}
 use mathlib.Core.Bool.{Bool, true, false, true≢false, false≢true}
 use Prim.Native.Nat.{ℕ, zero, suc, _+_, _-_, _*_, _/_, _^_, _<_, min}
@@ -17,7 +18,7 @@ use Rattle.ieee.specs.inner.Wholes.{signed}
 use Rattle.ieee.proofs.Patterns.Integral.{field, size-of}
 use Rattle.ieee.proofs.Patterns.Rounding.{few, nearest-signed}
 use Rattle.ids.specs.Uses.{bit}
-use Rattle.cells.specs.Table.{coded}
+use Rattle.cells.specs.inner.Table.{coded}
 
 -- what is left of it above -1
 abbrev pub rest : ℤ → ℤ
@@ -34,7 +35,9 @@ pub record Up (z : ℤ) : Type 0 where
 
 pub from-zero : (z : ℤ) → SFits w64 z → leZ (pos 0) z ≡ true → Up z
 unfolding coded
-from-zero (pos n) f up = record { unsigned = (tt, record { fits = omega (arith, f .sfits) }); twice = record { fits = omega (arith, f .sfits) }; is = refl }
+from-zero (pos n) f up =
+    let fit = f .sfits in
+    record { unsigned = (tt, record { fits = omega arith }); twice = record { fits = omega arith }; is = refl }
 from-zero (negsuc n) f up = absurd (false≢true up)
 
 -- below zero
@@ -73,7 +76,9 @@ sign-bit t b l =
     ]
 
 -- below hid f, and so within a word that has more digits than the format
-pub by-pattern : (f : Format) (w : ℕ) → prec f < w → (y : Float) (b n : ℕ) → ofBits f b ≡ y → b < 2 * top f → field f b < low f + 1 → n ≡ toWhole half (size-of f b) (2 ^ low f)
-    → (2 * n - min (b / top f) n ≡ coded (toSigned w (halfAway f y))) × (n < 2 ^ w)
+pub by-pattern : (f : Format) (w : ℕ) → prec f < w → (y : Float) (b n : ℕ) → ofBits f b ≡ y → b < 2 * top f → field f b < low f + 1
+    → n ≡ toWhole half (size-of f b) (2 ^ low f) → (2 * n - min (b / top f) n ≡ coded (toSigned w (halfAway f y))) × (n < 2 ^ w)
 by-pattern f w wide y b n is l h r =
-    (ap (λ (z : ℕ). 2 * n - min z n) (sign-bit (top f) b l) ∙ coded-signed (leb (top f) b) n ∙ ap coded (nearest-signed f w wide y b is n h r (leb (top f) b) refl), few f w wide y b is n h r)
+    let s = leb (top f) b in
+    (ap (λ (z : ℕ). 2 * n - min z n) (sign-bit (top f) b l) ∙ coded-signed s n ∙ ap coded (nearest-signed f w wide y b is n h r s refl),
+    few f w wide y b is n h r)

@@ -27,16 +27,16 @@ unfoldable pub sameCell : Cell → Cell → Bool
 sameCell a b = sameInteger (a .x) (b .x) && (sameInteger (a .y) (b .y) && sameInteger (a .z) (b .z))
 
 -- the first of the n numbers from j on that passes the test, and j + n where none does
-unfoldable pub first : (ℕ → Bool) → ℕ → ℕ → ℕ
-first test zero j = j
-first test (suc n) j = cond (test j) j (first test n (suc j))
+unfoldable pub firstThat : (ℕ → Bool) → ℕ → ℕ → ℕ
+firstThat test zero j = j
+firstThat test (suc n) j = cond (test j) j (firstThat test n (suc j))
 
 -- the vertex that names v's cell: the first that has the same
 unfoldable pub named : List Float → Float → ℕ → ℕ
-named vs inv v = first (λ j. sameCell (cellAt vs inv j) (cellAt vs inv v)) v 0
+named vs inv v = firstThat (λ j. sameCell (cellAt vs inv j) (cellAt vs inv v)) v 0
 
--- that is to say: f has v's cell, is not behind v, and no vertex before f has it (`named-names`). No other vertex is that (`named-is`), so two
--- vertices have one name just where they have one cell (`named-one`, `named-tells`)
+-- that is to say: f has v's cell, is not behind v, and no vertex before f has it (`named-names`). No other vertex is that
+-- (`named-is`), so two vertices have one name just where they have one cell (`named-one`, `named-tells`)
 pub record NamesCell (vs : List Float) (inv : Float) (v f : ℕ) : Type 0 where
   pub not-behind : f ≤ v
   pub alike : cellAt vs inv f ≡ cellAt vs inv v

@@ -1,3 +1,3 @@
--- Weld (01): the cells of vertices, and what the table of cells means.
+-- Weld (01): the cells of vertices.
 pub mod Cells
-pub mod Table
+pub mod inner

@@ -1,20 +1,14 @@
-// The cells of a weld: which cell a vertex is in, and a table in lent words of the first vertex in each. Internal: `weld` asks it; `surfaces` has an integer as an unsigned number from here.
+// The cells of a weld: which cell a vertex is in, and a table in lent words of the first vertex in each. Internal: `weld` asks it, and
+// `surfaces` has an integer as an unsigned number from here.
 ghost use mathlib.Core.Path.{_≡_};
 ghost use Prim.Native.Nat.{_+_, _-_, _*_, _/_, _%_, _^_, _≤_, _<_, min};
 ghost use lib.ListN.{length, getD, set};
-ghost use Rattle.table.specs.inner.Rows.{Found};
 ghost use Rattle.vertices.specs.Vertices.{vertexCount};
 ghost use Rattle.cells.specs.Cells.{cellOf};
-ghost use Rattle.cells.specs.Table.{coded as codedOf, codeAt, sameCode, pair as pairOf, stored, slotIn, keyIn, hashOf, Searchable, Claimed, Welds};
+ghost use Rattle.cells.specs.inner.Table.{coded as codedOf, vertexCode, Welds, Weldable};
 use patterns::FIELD;
 use patterns::SIGN;
-
-// A cell as three numbers.
-pub struct Code {
-    pub x: u64,
-    pub y: u64,
-    pub z: u64,
-}
+use slots::Code;
 
 // ---- the cell of a vertex
 
@@ -64,7 +58,7 @@ fn cell(x: f32, inv: f64) -> u64
 // The cell of vertex v.
 fn cell_at(vertices: &[f32], v: usize, inv: f64) -> Code
     requires { ⌜ v < vertexCount (now vertices) ⌝ }
-    ensures { λ r. ⌜ r ≡ codeAt (now (vertices .entry)) inv v ⌝ }
+    ensures { λ r. ⌜ r ≡ vertexCode (now (vertices .entry)) inv v ⌝ }
 {
     let at = 3 * v;
     Code {
@@ -74,74 +68,7 @@ fn cell_at(vertices: &[f32], v: usize, inv: f64) -> Code
     }
 }
 
-fn hash(k: Code) -> u32
-    ensures { λ r. ⌜ r ≡ hashOf k ⌝ }
-{
-    let x = k.x % 0x1_0000_0000;
-    let y = k.y % 0x1_0000_0000;
-    let z = k.z % 0x1_0000_0000;
-    ((x * 1640531527 + y * 1052792407 + z * 779470673) % 0x1_0000_0000) as u32
-}
-
 // ---- the table
-
-// The number in two words.
-fn pair(part: &[u32], at: usize) -> u64
-    requires { ⌜ at + 1 < length (now part) ⌝ }
-    ensures { λ r. ⌜ r ≡ pairOf (now (part .entry)) at ⌝ }
-{
-    part[at] as u64 + 0x1_0000_0000 * part[at + 1] as u64
-}
-
-// Is k the cell in the words of vertex v?
-fn same(part: &[u32], n: usize, v: usize, k: Code) -> bool
-    requires { ⌜ (n ≤ 32768) × (v < n) × (8 * n ≤ length (now part)) ⌝ }
-    ensures { λ r. ⌜ r ≡ sameCode (stored n (now (part .entry)) v) k ⌝ }
-{
-    let at = 2 * n + 6 * v;
-    (pair(part, at) == k.x) & ((pair(part, at + 2) == k.y) & (pair(part, at + 4) == k.z))
-}
-
-// The first slot, from `start` on and round, that holds the cell or is free.
-fn find(part: &[u32], n: usize, k: Code, start: usize) -> usize
-    requires { ⌜ (n ≤ 32768) × (start < 2 * n) × (8 * n ≤ length (now part)) × Searchable n (now part) ⌝ }
-    ensures { λ r. ⌜ Found (2 * n) start (keyIn n (now (part .entry))) (slotIn (now (part .entry))) k r ⌝ }
-{
-    let m = 2 * n;
-    let mut r = start;
-    loop {
-        let s = (part[r] % 65536) as usize;
-        if s == 0 {
-            break r;
-        }
-        if same(part, n, s - 1, k) {
-            break r;
-        }
-        r = table::next(r, m);
-    }
-}
-
-// Writes a number into two words.
-fn put(part: &mut [u32], at: usize, x: u64)
-    requires { ⌜ at + 1 < length (now part) ⌝ }
-    ensures { λ _. ⌜ now (part .exit) ≡ set (set (now (part .entry)) at (x % 4294967296)) (at + 1) (x / 4294967296) ⌝ }
-{
-    part[at] = (x % 0x1_0000_0000) as u32;
-    part[at + 1] = (x / 0x1_0000_0000) as u32;
-}
-
-// Gives the free slot r to vertex v.
-fn claim(part: &mut [u32], n: usize, r: usize, v: usize, k: Code)
-    requires { ⌜ (n ≤ 32768) × (r < 2 * n) × (v < n) × (length (now part) ≡ 8 * n) × (slotIn (now part) r ≡ 0) ⌝ }
-    ensures { λ _. ⌜ Claimed n r v k (now (part .entry)) (now (part .exit)) ⌝ }
-{
-    let word = part[r];
-    part[r] = word + (v as u32 + 1);
-    let at = 2 * n + 6 * v;
-    put(part, at, k.x);
-    put(part, at + 2, k.y);
-    put(part, at + 4, k.z);
-}
 
 // Vertex v becomes another: the upper half of its word.
 fn note(part: &mut [u32], v: usize, name: usize)
@@ -153,17 +80,15 @@ fn note(part: &mut [u32], v: usize, name: usize)
 
 // Enters vertex v.
 fn enter(vertices: &[f32], inv: f64, part: &mut [u32], v: usize)
-    requires { ⌜ (length (now vertices) ≤ 98304) × (v < vertexCount (now vertices)) × (length (now part) ≡ 8 * vertexCount (now vertices))
-        × Welds (vertexCount (now vertices)) (now vertices) inv (now part) v ⌝ }
+    requires { ⌜ Weldable (now vertices) inv (now part) v × (v < vertexCount (now vertices)) ⌝ }
     ensures { λ _. ⌜ Welds (vertexCount (now (vertices .entry))) (now (vertices .entry)) inv (now (part .exit)) (v + 1) ⌝ }
 {
     let n = vertices.len() / 3;
     let k = cell_at(vertices, v, inv);
-    let start = table::home(hash(k), 2 * n);
-    let r = find(part, n, k, start);
-    let s = (part[r] % 65536) as usize;
+    let r = slots::find(part, n, true, k);
+    let s = slots::mark(part, true, r);
     if s == 0 {
-        claim(part, n, r, v, k);
+        slots::claim(part, n, true, r, v, k);
         note(part, v, v);
     } else {
         note(part, v, s - 1);
@@ -172,9 +97,9 @@ fn enter(vertices: &[f32], inv: f64, part: &mut [u32], v: usize)
 
 // Enters all vertices.
 pub fn gather(vertices: &[f32], inv: f64, part: &mut [u32])
-    requires { ⌜ (length (now vertices) ≤ 98304) × (length (now part) ≡ 8 * vertexCount (now vertices))
-        × Welds (vertexCount (now vertices)) (now vertices) inv (now part) 0 ⌝ }
-    ensures { λ _. ⌜ Welds (vertexCount (now (vertices .entry))) (now (vertices .entry)) inv (now (part .exit)) (vertexCount (now (vertices .entry))) ⌝ }
+    requires { ⌜ Weldable (now vertices) inv (now part) 0 ⌝ }
+    ensures { λ _. ⌜ Welds (vertexCount (now (vertices .entry))) (now (vertices .entry)) inv (now (part .exit))
+        (vertexCount (now (vertices .entry))) ⌝ }
 {
     let n = vertices.len() / 3;
     let mut v = 0;

@@ -11,7 +11,7 @@ use lib.ListN.{length}
 use lib.Ieee.{Float}
 use Rattle.ieee.proofs.Integers.Order.{eq-whole, eq-moved}
 use Rattle.vertices.specs.Vertices.{vertexCount, coordinate}
-use Rattle.cells.specs.Cells.{cellOf, cellAt, sameCell, first, named}
+use Rattle.cells.specs.Cells.{cellOf, cellAt, sameCell, firstThat, named}
 use Rattle.ieee.specs.Integer.{sameInteger}
 use Rattle.weld.specs.Weld.{epsilonOf, inverse, weldId, weldAll, unwelded, welded}
 use Rattle.refusals.specs.Refusals.{unitFits}
@@ -22,8 +22,8 @@ use Rattle.place.proofs.Vertices.{along, coordinate-shifted}
 use Rattle.place.proofs.Cells.{same-cell}
 
 -- tests that agree find the same number first
-same-first : (test test′ : ℕ → Bool) (n j : ℕ) → ((i : ℕ) → i < j + n → test′ i ≡ test i) → first test′ n j ≡ first test n j
-unfolding first
+same-first : (test test′ : ℕ → Bool) (n j : ℕ) → ((i : ℕ) → i < j + n → test′ i ≡ test i) → firstThat test′ n j ≡ firstThat test n j
+unfolding firstThat
 same-first test test′ zero j h = refl
 same-first test test′ (suc n) j h = rw (h j (omega arith), same-first test test′ n (suc j) (λ i g. h i (omega arith)))
 

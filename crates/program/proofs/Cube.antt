@@ -19,7 +19,7 @@ use Rattle.sums.specs.Fine.{allFine}
 use Rattle.sums.specs.Totals.{onSlope, slopeOf, totalsTo, withFacet, withPart}
 use Rattle.ieee.specs.Integer.{sameInteger}
 use Rattle.rows.specs.Rows.{inserted, largest, leastAbove, precedes, scaled, smallest, sorted}
-use Rattle.surfaces.specs.Surfaces.{keyOf, put, rows, sameKey, tenths}
+use Rattle.surfaces.specs.Surfaces.{normalKey, addArea, rows, sameKey, tenths}
 use Rattle.walk.specs.Walk.{bucketsTo, withSurface}
 use Rattle.verdict.specs.Verdict.{byChain, byFaces, nearZero, quality, tooLarge}
 use Rattle.volume.specs.Best.{bestOf}

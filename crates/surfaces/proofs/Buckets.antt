@@ -1,5 +1,5 @@
--- What one area more does to the buckets by their numbers, and to the floats that they are: a new key is a row more behind the others, a known key grows its
--- row's area and nothing else. Assumes nothing.
+-- What one area more does to the buckets by their numbers, and to the floats that they are: a new key is a row more behind the others,
+-- a known key grows its row's area and nothing else. Assumes nothing.
 use mathlib.Core.Path.{_≡_, refl, sym, ap, _∙_}
 use mathlib.Core.Logic.{_≢_}
 use mathlib.Core.List.{List, [], _∷_, _++_}
@@ -10,10 +10,11 @@ use lib.ListN.{length, getD, set, drop, length-append}
 use lib.Seq.{sets, sets-eq, take-at, drop-drop, drop-append-add}
 use Rattle.ieee.specs.Single.{_⊕_, nought}
 use Rattle.rows.specs.Rows.{flatten}
+use Rattle.slots.proofs.Codes.{by}
 use Rattle.surfaces.specs.declared.Key.{Key}
-use Rattle.surfaces.specs.Surfaces.{sameKey, Bucket, put, keyAt, rows, tenth}
-use Rattle.surfaces.specs.Index.{withRow}
-use Rattle.surfaces.proofs.Keys.{key-same, key-ne, by}
+use Rattle.surfaces.specs.Surfaces.{sameKey, Bucket, addArea, keyAt, rows, tenth}
+use Rattle.surfaces.specs.inner.Index.{withRow}
+use Rattle.surfaces.proofs.Keys.{key-same, key-ne}
 
 abbrev pub fresh : Key → Float → Bucket
 fresh k a = record { key = k; area = nought ⊕ a }
@@ -36,10 +37,11 @@ floats-more (c ∷ bs) b = rw (floats-more bs b)
 -- ---- a new key
 
 module _ (k : Key) (a : Float) where
-  pub put-new : (bs : List Bucket) → ((j : ℕ) → j < length bs → keyAt bs j ≢ k) → put k a bs ≡ bs ++ fresh k a ∷ []
-  unfolding put keyAt
+  pub put-new : (bs : List Bucket) → ((j : ℕ) → j < length bs → keyAt bs j ≢ k) → addArea k a bs ≡ bs ++ fresh k a ∷ []
+  unfolding addArea keyAt
   put-new [] none = refl
-  put-new (b ∷ bs) none = rw (key-ne k (b .key) (none 0 (omega arith))) (ap (λ (l : List Bucket). b ∷ l) (put-new bs (λ j l. none (suc j) (omega arith))))
+  put-new (b ∷ bs) none =
+      rw (key-ne k (b .key) (none 0 (omega arith))) (ap (λ (l : List Bucket). b ∷ l) (put-new bs (λ j l. none (suc j) (omega arith))))
 
   written : (u : List Float) (n : ℕ) → withRow u n k a ≡ sets u (4 * n) (floats (fresh k a))
   unfolding withRow
@@ -49,8 +51,8 @@ module _ (k : Key) (a : Float) where
       let three : 4 * n + 3 ≡ suc (suc (suc (4 * n))) = omega arith in
       rw (one, two, three)
 
-  pub row-more : (bs : List Bucket) (s : List Float) → 4 * length bs + 4 ≤ length (flatten (rows bs) ++ drop (4 * length bs) s)
-      → withRow (flatten (rows bs) ++ drop (4 * length bs) s) (length bs) k a ≡ flatten (rows (bs ++ fresh k a ∷ [])) ++ drop (4 * length (bs ++ fresh k a ∷ [])) s
+  pub row-more : (bs : List Bucket) (s : List Float) → let u = flatten (rows bs) ++ drop (4 * length bs) s in let more = bs ++ fresh k a ∷ [] in
+      4 * length bs + 4 ≤ length u → withRow u (length bs) k a ≡ flatten (rows more) ++ drop (4 * length more) s
   row-more bs s room =
       let b : Bucket = fresh k a in
       let front : List Float = flatten (rows bs) in
@@ -86,14 +88,14 @@ area-past : (w x y z : Float) (u : List Float) (j : ℕ) (a : Float) → withAre
 area-past w x y z u j a = let e : 4 * suc j ≡ suc (suc (suc (suc (4 * j)))) = omega arith in rw e
 
 module _ (k : Key) (a : Float) where
-  pub known-length : (bs : List Bucket) (j : ℕ) → j < length bs → keyAt bs j ≡ k → length (put k a bs) ≡ length bs
-  unfolding put keyAt
+  pub known-length : (bs : List Bucket) (j : ℕ) → j < length bs → keyAt bs j ≡ k → length (addArea k a bs) ≡ length bs
+  unfolding addArea keyAt
   known-length [] j l e = absurd (omega arith)
   known-length (b ∷ bs) zero l e = rw (key-same k (b .key) (sym e))
   known-length (b ∷ bs) (suc j) l e = by (sameKey k (b .key)) (λ h. rw h) (λ h. rw (h, known-length bs j (omega arith) e))
 
-  pub known-keys : (bs : List Bucket) (j : ℕ) → j < length bs → keyAt bs j ≡ k → (i : ℕ) → keyAt (put k a bs) i ≡ keyAt bs i
-  unfolding put keyAt
+  pub known-keys : (bs : List Bucket) (j : ℕ) → j < length bs → keyAt bs j ≡ k → (i : ℕ) → keyAt (addArea k a bs) i ≡ keyAt bs i
+  unfolding addArea keyAt
   known-keys [] j l e i = absurd (omega arith)
   known-keys (b ∷ bs) zero l e zero = rw (key-same k (b .key) (sym e))
   known-keys (b ∷ bs) zero l e (suc i) = rw (key-same k (b .key) (sym e))
@@ -101,8 +103,8 @@ module _ (k : Key) (a : Float) where
   known-keys (b ∷ bs) (suc j) l e (suc i) = by (sameKey k (b .key)) (λ h. rw h) (λ h. rw h (known-keys bs j (omega arith) e i))
 
   pub known-floats : (bs : List Bucket) (j : ℕ) → j < length bs → keyAt bs j ≡ k → ((i : ℕ) → i < j → keyAt bs i ≢ k) → (s : List Float)
-      → withArea (flatten (rows bs) ++ s) j a ≡ flatten (rows (put k a bs)) ++ s
-  unfolding flatten rows put keyAt
+      → withArea (flatten (rows bs) ++ s) j a ≡ flatten (rows (addArea k a bs)) ++ s
+  unfolding flatten rows addArea keyAt
   known-floats [] j l e first s = absurd (omega arith)
   known-floats (b ∷ bs) zero l e first s = rw (key-same k (b .key) (sym e))
   known-floats (b ∷ bs) (suc j) l e first s =

@@ -10,9 +10,10 @@ use lib.ListN.{length}
 use Rattle.ids.proofs.Same.{three-eq, three-refl}
 use Rattle.ieee.specs.Single.{_⊕_, nought}
 use Rattle.ieee.specs.Integer.{sameInteger}
+use Rattle.slots.proofs.Codes.{by}
 use Rattle.cells.proofs.Codes.{integer-eq, integer-refl}
 use Rattle.surfaces.specs.declared.Key.{Key}
-use Rattle.surfaces.specs.Surfaces.{sameKey, Bucket, put, areaFor, hasKey, Apart, AllAreas, rows}
+use Rattle.surfaces.specs.Surfaces.{sameKey, Bucket, addArea, areaFor, hasKey, Apart, AllAreas, rows}
 
 -- ---- `sameKey` is equality
 
@@ -29,11 +30,6 @@ key-refl k = three-refl sameInteger integer-refl (k .x) (k .y) (k .z)
 pub key-same : (k l : Key) → k ≡ l → sameKey k l ≡ true
 key-same k l e = rw e (key-refl l)
 
--- a test, by what it says
-pub by : {P : Type 0} (b : Bool) → (b ≡ true → P) → (b ≡ false → P) → P
-by true f g = f refl
-by false f g = g refl
-
 pub key-ne : (k l : Key) → l ≢ k → sameKey k l ≡ false
 key-ne k l ne = by (sameKey k l) (λ h. absurd (ne (sym (key-eq k l h)))) (λ h. h)
 
@@ -42,8 +38,9 @@ key-differs k l h = by (sameKey l k) (λ e. absurd (true≢false (sym (key-same 
 
 -- ---- the area of each key
 
-pub area-put : (k l : Key) (a : Float) (bs : List Bucket) → areaFor k (put l a bs) ≡ cond (sameKey k l) (areaFor k bs ⊕ a) (areaFor k bs)
-unfolding areaFor put
+pub area-put : (k l : Key) (a : Float) (bs : List Bucket)
+    → areaFor k (addArea l a bs) ≡ cond (sameKey k l) (areaFor k bs ⊕ a) (areaFor k bs)
+unfolding areaFor addArea
 area-put k l a [] = refl
 area-put k l a (b ∷ bs) = by (sameKey l (b .key))
     (λ h. rw (h, key-eq l (b .key) h) (by (sameKey k (b .key)) (λ e. rw e) (λ e. rw e)))
@@ -64,16 +61,16 @@ or-swap false true r = refl
 or-swap false false r = refl
 
 -- the key, and those that there were
-pub has-put : (k l : Key) (a : Float) (bs : List Bucket) → hasKey l (put k a bs) ≡ sameKey l k || hasKey l bs
-unfolding hasKey put
+pub has-put : (k l : Key) (a : Float) (bs : List Bucket) → hasKey l (addArea k a bs) ≡ sameKey l k || hasKey l bs
+unfolding hasKey addArea
 has-put k l a [] = refl
 has-put k l a (b ∷ bs) = by (sameKey k (b .key))
     (λ h. rw (h, key-eq k (b .key) h) (or-again (sameKey l (b .key)) (hasKey l bs)))
     (λ h. rw (h, has-put k l a bs) (or-swap (sameKey l (b .key)) (sameKey l k) (hasKey l bs)))
 
 -- they stay apart
-pub apart-put : (k : Key) (a : Float) (bs : List Bucket) → Apart bs → Apart (put k a bs)
-unfolding Apart put hasKey
+pub apart-put : (k : Key) (a : Float) (bs : List Bucket) → Apart bs → Apart (addArea k a bs)
+unfolding Apart addArea hasKey
 apart-put k a [] w = (refl, tt)
 apart-put k a (b ∷ bs) w = by (sameKey k (b .key))
     (λ h. rw h w)
@@ -81,8 +78,8 @@ apart-put k a (b ∷ bs) w = by (sameKey k (b .key))
 
 -- ---- how many
 
-pub length-put-le : (k : Key) (a : Float) (bs : List Bucket) → length (put k a bs) ≤ length bs + 1
-unfolding put
+pub length-put-le : (k : Key) (a : Float) (bs : List Bucket) → length (addArea k a bs) ≤ length bs + 1
+unfolding addArea
 length-put-le k a [] = omega arith
 length-put-le k a (b ∷ bs) = by (sameKey k (b .key)) (λ h. rw h (omega arith)) (λ h. rw h (omega (arith, length-put-le k a bs)))
 
@@ -99,8 +96,11 @@ module _ (P Q : Float → Type 0) (still : (x : Float) → P x → Q x) where
   areas-still [] w = tt
   areas-still (b ∷ bs) w = (still (b .area) (w .0), areas-still bs (w .1))
 
-  pub put-all : (k : Key) (a : Float) → ((x : Float) → P x → Q (x ⊕ a)) → Q (nought ⊕ a) → (bs : List Bucket) → AllAreas P bs → AllAreas Q (put k a bs)
-  unfolding AllAreas put
+  pub put-all : (k : Key) (a : Float) → ((x : Float) → P x → Q (x ⊕ a)) → Q (nought ⊕ a)
+      → (bs : List Bucket) → AllAreas P bs → AllAreas Q (addArea k a bs)
+  unfolding AllAreas addArea
   put-all k a more one [] w = (one, tt)
   put-all k a more one (b ∷ bs) w =
-      by (sameKey k (b .key)) (λ h. rw h (more (b .area) (w .0), areas-still bs (w .1))) (λ h. rw h (still (b .area) (w .0), put-all k a more one bs (w .1)))
+      by (sameKey k (b .key))
+      (λ h. rw h (more (b .area) (w .0), areas-still bs (w .1)))
+      (λ h. rw h (still (b .area) (w .0), put-all k a more one bs (w .1)))

@@ -1,5 +1,5 @@
--- A number of tenths as a float can be put in order: it is no NaN and no -0. For 0 over 10 is +0, and another whole number over 10 is 1/10 at least in size,
--- which no rounding takes below 1/16. Assumes nothing.
+-- A number of tenths as a float can be put in order: it is no NaN and no -0. For 0 over 10 is +0, and another whole number over 10 is
+-- 1/10 at least in size, which no rounding takes below 1/16. Assumes nothing.
 use mathlib.Core.Bool.{true, false}
 use Prim.Native.Nat.{ℕ, zero, suc, _*_, _≤_, _<_}
 use native.Mathlib.Omega.{arith}
@@ -30,7 +30,8 @@ unfolding round
 sixteenth = tt
 
 round-above : (a c : ℕ) → 0 < c → c ≤ 16 * a → T (above (round binary32 false a c))
-round-above a c some l = above-of-le (round binary32 false 1 16) (round binary32 false a c) sixteenth (round-mono binary32 1 16 a c (omega arith) some (omega arith))
+round-above a c some l =
+    above-of-le (round binary32 false 1 16) (round binary32 false a c) sixteenth (round-mono binary32 1 16 a c (omega arith) some (omega arith))
 
 -- ---- a float of 1 at least, over 10
 
@@ -43,7 +44,8 @@ over-ten nan l a = absurd a
 over-ten (inf true) l a = absurd a
 over-ten (inf false) l a = tt
 over-ten (fin true m e) l a = absurd a
-over-ten (fin false m e) l a = round-above (m * up e * 1) (5 * 2 * down e) (omega (arith, down-pos e)) (omega (arith, le→cross one (fin false m e) tt a l))
+over-ten (fin false m e) l a =
+    round-above (m * up e * 1) (5 * 2 * down e) (omega (arith, down-pos e)) (omega (arith, le→cross one (fin false m e) tt a l))
 
 -- a whole number that is not 0
 tenth-above : (n : ℕ) → T (above (tenth (pos (suc n))))
@@ -56,4 +58,6 @@ pub tenth-plain : (z : ℤ) → T (plainFloat (tenth z))
 unfolding plainFloat ofInt round div ofBits
 tenth-plain (pos zero) = tt
 tenth-plain (pos (suc n)) = plain-above (tenth (pos (suc n))) (tenth-above n) .0
-tenth-plain (negsuc n) = rw (ofInt-neg binary32 (pos (suc n)) (omega arith), div-neg-left binary32 (ofInt binary32 (pos (suc n))) ten) (plain-above (tenth (pos (suc n))) (tenth-above n) .1)
+tenth-plain (negsuc n) =
+    rw (ofInt-neg binary32 (pos (suc n)) (omega arith), div-neg-left binary32 (ofInt binary32 (pos (suc n))) ten)
+    (plain-above (tenth (pos (suc n))) (tenth-above n) .1)

@@ -1,3 +1,3 @@
--- Surfaces (01): keys of normals, the area of each, and what the index to their rows means.
+-- Surfaces (01): keys of normals, and the area of each.
 pub mod Surfaces
-pub mod Index
+pub mod inner

@@ -20,8 +20,8 @@ ten = ofBits binary32 0x4120_0000
 unfoldable pub tenths : Float → ℤ
 tenths c = toSigned 31 (halfAway binary32 (c ⊗ ten))
 
-unfoldable pub keyOf : Float → Float → Float → Key
-keyOf nx ny nz = record { x = tenths nx; y = tenths ny; z = tenths nz }
+unfoldable pub normalKey : Float → Float → Float → Key
+normalKey nx ny nz = record { x = tenths nx; y = tenths ny; z = tenths nz }
 
 unfoldable pub sameKey : Key → Key → Bool
 sameKey k l = sameInteger (k .x) (l .x) && (sameInteger (k .y) (l .y) && sameInteger (k .z) (l .z))
@@ -33,9 +33,9 @@ pub record Bucket : Type 0 where
   pub area : Float
 
 -- an area more for a key, in f32: a new key comes last, and starts at 0
-unfoldable pub put : Key → Float → List Bucket → List Bucket
-put k a [] = record { key = k; area = nought ⊕ a } ∷ []
-put k a (b ∷ bs) = cond (sameKey k (b .key)) (record { key = b .key; area = b .area ⊕ a } ∷ bs) (b ∷ put k a bs)
+unfoldable pub addArea : Key → Float → List Bucket → List Bucket
+addArea k a [] = record { key = k; area = nought ⊕ a } ∷ []
+addArea k a (b ∷ bs) = cond (sameKey k (b .key)) (record { key = b .key; area = b .area ⊕ a } ∷ bs) (b ∷ addArea k a bs)
 
 -- the area of a key: 0 where it has none
 unfoldable pub areaFor : Key → List Bucket → Float

@@ -1,27 +1,22 @@
 // The surface rows while they are summed: the key of a normal, and its row, found by an index in lent words. Internal: `walk` asks it.
 ghost use mathlib.Core.Path.{_≡_};
+ghost use mathlib.Core.Bool.{false};
 ghost use Prim.Native.Nat.{_+_, _*_, _/_, _%_, _^_, _≤_, _<_};
 ghost use lib.Ieee.{Float, nan, binary32, ofBits};
 ghost use lib.IntN.{ℤ};
 ghost use lib.ListN.{length, getD, set};
 ghost use Rattle.ieee.specs.Single.{_⊕_, _⊗_, nought};
-ghost use Rattle.table.specs.inner.Rows.{Found};
-ghost use Rattle.cells.specs.Table.{coded as codedOf};
-ghost use Rattle.surfaces.specs.Surfaces.{ten, tenths as tenthsOf, tenth as tenthOf, keyOf};
-ghost use Rattle.surfaces.specs.Index.{codeOf, sameCode, stored, slotIn, keyIn, hashOf, Searchable, Claimed, withRow, Ready, Puts};
+ghost use Rattle.slots.specs.inner.Slots.{KeyFits};
+ghost use Rattle.cells.specs.inner.Table.{coded as codedOf};
+ghost use Rattle.surfaces.specs.Surfaces.{ten, tenths as tenthsOf, tenth as tenthOf, normalKey};
+ghost use Rattle.surfaces.specs.inner.Index.{keyCode, withRow, Ready, AddsArea};
+use slots::Code;
 
 // A unit normal in tenths.
 pub struct Key {
     pub x: i32,
     pub y: i32,
     pub z: i32,
-}
-
-// The same as unsigned numbers.
-pub struct Code {
-    pub x: u32,
-    pub y: u32,
-    pub z: u32,
 }
 
 // The pattern of a component times 10.
@@ -40,7 +35,7 @@ fn tenths(c: f32) -> i32
 }
 
 pub fn quantize_normal(nx: f32, ny: f32, nz: f32) -> Key
-    ensures { λ r. ⌜ r ≡ keyOf nx ny nz ⌝ }
+    ensures { λ r. ⌜ r ≡ normalKey nx ny nz ⌝ }
 {
     Key {
         x: tenths(nx),
@@ -56,24 +51,24 @@ fn tenth(k: i32) -> f32
     std::num::nearest_i32_to_f32(k) / 10.0
 }
 
-fn coded(k: i32) -> u32
+fn coded(k: i32) -> u64
     ensures { λ r. ⌜ r ≡ codedOf k ⌝ }
 {
-    cells::coded(k as i64) as u32
+    cells::coded(k as i64)
 }
 
 // The code of a component by the pattern of ten times it, below 2^23 tenths: no float or signed integer between.
-fn pattern_code(b: u64) -> u32
+fn pattern_code(b: u64) -> u64
     requires { ⌜ (b < 2 ^ 32) × (b % 2147483648 / 8388608 < 150) ⌝ }
     ensures { λ r. ⌜ ((c : Float) → ofBits binary32 b ≡ c ⊗ ten → r ≡ codedOf (tenthsOf c)) ⌝ }
 {
     let n = rounding::half_size32(b % 0x8000_0000 / 0x80_0000, b % 0x80_0000);
-    cells::coded_size(b / 0x8000_0000, n) as u32
+    cells::coded_size(b / 0x8000_0000, n)
 }
 
 // The code of a normal's key, by the key.
 fn code_of(k: Key) -> Code
-    ensures { λ r. ⌜ r ≡ codeOf k ⌝ }
+    ensures { λ r. ⌜ r ≡ keyCode k ⌝ }
 {
     Code {
         x: coded(k.x),
@@ -84,7 +79,7 @@ fn code_of(k: Key) -> Code
 
 // The same by the patterns, where they have so few tenths, as those of a unit normal do.
 fn code_of_normal(nx: f32, ny: f32, nz: f32) -> Code
-    ensures { λ r. ⌜ r ≡ codeOf (keyOf nx ny nz) ⌝ }
+    ensures { λ r. ⌜ r ≡ keyCode (normalKey nx ny nz) ⌝ }
 {
     let x = tenfold(nx);
     let y = tenfold(ny);
@@ -106,7 +101,8 @@ fn code_of_normal(nx: f32, ny: f32, nz: f32) -> Code
 }
 
 // A number by its code: its half, or what is left of that below 0.
-fn decoded(x: u32) -> i32
+fn decoded(x: u64) -> i32
+    requires { ⌜ x < 4294967296 ⌝ }
     ensures { λ r. ⌜ ((z : ℤ) → x ≡ codedOf z → r ≡ z) ⌝ }
 {
     let h = (x / 2) as i32;
@@ -115,60 +111,14 @@ fn decoded(x: u32) -> i32
 
 // The key of a normal by its code.
 fn key_of(l: Code) -> Key
-    ensures { λ r. ⌜ ((x y z : Float) → l ≡ codeOf (keyOf x y z) → r ≡ keyOf x y z) ⌝ }
+    requires { ⌜ KeyFits false l ⌝ }
+    ensures { λ r. ⌜ ((x y z : Float) → l ≡ keyCode (normalKey x y z) → r ≡ normalKey x y z) ⌝ }
 {
     Key {
         x: decoded(l.x),
         y: decoded(l.y),
         z: decoded(l.z),
     }
-}
-
-fn hash(k: Code) -> u32
-    ensures { λ r. ⌜ r ≡ hashOf k ⌝ }
-{
-    ((k.x as u64 * 1640531527 + k.y as u64 * 1052792407 + k.z as u64 * 779470673)
-        % 0x1_0000_0000) as u32
-}
-
-// Is k the code in the words of row j?
-fn same(index: &[u32], m: usize, j: usize, k: Code) -> bool
-    requires { ⌜ (m ≤ 32768) × (j < m) × (5 * m ≤ length (now index)) ⌝ }
-    ensures { λ r. ⌜ r ≡ sameCode (stored m (now (index .entry)) j) k ⌝ }
-{
-    let at = 2 * m + 3 * j;
-    (index[at] == k.x) & ((index[at + 1] == k.y) & (index[at + 2] == k.z))
-}
-
-// The first slot, from `start` on and round, that holds the code or is free.
-fn find(index: &[u32], m: usize, k: Code, start: usize) -> usize
-    requires { ⌜ (m ≤ 32768) × (start < 2 * m) × (5 * m ≤ length (now index)) × Searchable m (now index) ⌝ }
-    ensures { λ r. ⌜ Found (2 * m) start (keyIn m (now (index .entry))) (slotIn (now (index .entry))) k r ⌝ }
-{
-    let n = 2 * m;
-    let mut r = start;
-    loop {
-        let s = index[r] as usize;
-        if s == 0 {
-            break r;
-        }
-        if same(index, m, s - 1, k) {
-            break r;
-        }
-        r = table::next(r, n);
-    }
-}
-
-// Gives slot r to row n.
-fn claim(index: &mut [u32], m: usize, r: usize, n: usize, k: Code)
-    requires { ⌜ (m ≤ 32768) × (r < 2 * m) × (n < m) × (length (now index) ≡ 5 * m) ⌝ }
-    ensures { λ _. ⌜ Claimed m r n k (now (index .entry)) (now (index .exit)) ⌝ }
-{
-    index[r] = n as u32 + 1;
-    let at = 2 * m + 3 * n;
-    index[at] = k.x;
-    index[at + 1] = k.y;
-    index[at + 2] = k.z;
 }
 
 // The area of a new row: that of a triangle, added to 0.
@@ -212,14 +162,14 @@ pub fn put_normal(
     area: f32,
 ) -> usize
     requires { ⌜ Ready m n (now index) (now rows) ⌝ }
-    ensures { λ r. ⌜ Puts m n (keyOf nx ny nz) area (now (index .entry)) (now (index .exit)) (now (rows .entry)) (now (rows .exit)) r ⌝ }
+    ensures { λ r. ⌜ AddsArea m n (normalKey nx ny nz) area
+        (now (index .entry)) (now (index .exit)) (now (rows .entry)) (now (rows .exit)) r ⌝ }
 {
     let l = code_of_normal(nx, ny, nz);
-    let from = table::home(hash(l), 2 * m);
-    let r = find(index, m, l, from);
-    let s = index[r] as usize;
+    let r = slots::find(index, m, false, l);
+    let s = slots::mark(index, false, r);
     if s == 0 {
-        claim(index, m, r, n, l);
+        slots::claim(index, m, false, r, n, l);
         new_row(rows, n, key_of(l), area);
         n + 1
     } else {

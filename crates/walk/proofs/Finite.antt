@@ -22,7 +22,7 @@ use Rattle.sums.specs.Fine.{allFine}
 use Rattle.sums.specs.Totals.{bySlope, noTotals, onSlope, slopeOf, withFacet, withPart, totalsTo}
 use Rattle.sums.proofs.Areas.{Adds, part-within}
 use Rattle.sums.proofs.Within.{Within, within-add, within-most}
-use Rattle.surfaces.specs.Surfaces.{Bucket, keyOf, AllAreas}
+use Rattle.surfaces.specs.Surfaces.{Bucket, normalKey, AllAreas}
 use Rattle.surfaces.proofs.Keys.{areas-still, put-all}
 use Rattle.walk.specs.Domain.{FiniteTotals, FiniteAreas}
 use Rattle.walk.specs.Walk.{withSurface, bucketsTo}
@@ -153,7 +153,7 @@ surface-next n N bs sliver a w = areas-still (Times n) (Times (suc n)) (within-s
 surface-next n N bs (used f) a w =
     let more : (x : Float) → Times n x → Times (suc n) (x ⊕ f .area32) =
     λ x v. within-next binary32 72 n (lit≤ tt) N x (f .area32) v (a f refl .area32) in
-    put-all (Times n) (Times (suc n)) (within-still 72 n) (keyOf (f .nx) (f .ny) (f .nz)) (f .area32) more
+    put-all (Times n) (Times (suc n)) (within-still 72 n) (normalKey (f .nx) (f .ny) (f .nz)) (f .area32) more
     (more nought (within-most (0 * 2 ^ 72) (n * 2 ^ 72) nought (omega arith) (within-none 72 binary32))) bs w
 
 pub buckets-within : (vs : List Float) (ids : List ℕ) (n : ℕ) → T (allFine vs) → n ≤ 32768

@@ -16,8 +16,8 @@ use Rattle.sums.specs.Facet.{Part, outOfRange, sliver, used, shortest}
 use Rattle.sums.specs.inner.Prepared.{noTriangle, facetBy, partBy, withRoot, partIn}
 use Rattle.sums.specs.Totals.{noTotals, withFacet, withPart, totalsTo}
 use Rattle.sums.proofs.Parts.{has-root, no-length, no-part, no-part-yet}
-use Rattle.surfaces.specs.Surfaces.{Bucket, keyOf}
-use Rattle.surfaces.specs.Index.{Gathered, Puts, Ready}
+use Rattle.surfaces.specs.Surfaces.{Bucket, normalKey}
+use Rattle.surfaces.specs.inner.Index.{Gathered, AddsArea, Ready}
 use Rattle.surfaces.proofs.Gathering.{gathered-none}
 use Rattle.surfaces.proofs.Keys.{length-put-le}
 use Rattle.walk.specs.declared.Sums.{Sums}
@@ -45,7 +45,7 @@ module _ (m : ℕ) (pair : Thresholds) (p : Prepared) (s : State) where
 
 -- a facet
 pub takes-facet : (m : ℕ) (pair : Thresholds) (f : Facet) (s : State) (t : List ℕ) (u : List Float) (n : ℕ) (a : Totals)
-    → Puts m (s .sums .rows) (keyOf (f .nx) (f .ny) (f .nz)) (f .area32) (s .index) t (s .rows) u n
+    → AddsArea m (s .sums .rows) (normalKey (f .nx) (f .ny) (f .nz)) (f .area32) (s .index) t (s .rows) u n
     → a ≡ withFacet pair (s .sums .totals) f → Takes m pair (used f) s (state t u (record { totals = a; rows = n }))
 unfolding withPart withSurface
 takes-facet m pair f s t u n a p h = record { totals = h; puts = p .puts }

@@ -17,7 +17,7 @@ use Rattle.sums.proofs.Areas.{part-plus}
 use Rattle.sums.proofs.Plus.{plus-add, plus-mul, plus-zero}
 use Rattle.rows.specs.Rows.{plainFloat, plainRow, allPlain, scaled}
 use Rattle.surfaces.specs.declared.Key.{Key}
-use Rattle.surfaces.specs.Surfaces.{Bucket, keyOf, areaFor, hasKey, Apart, AllAreas, tenth, rows}
+use Rattle.surfaces.specs.Surfaces.{Bucket, normalKey, areaFor, hasKey, Apart, AllAreas, tenth, rows}
 use Rattle.surfaces.proofs.Keys.{area-put, has-put, apart-put, put-all}
 use Rattle.surfaces.proofs.Plain.{tenth-plain}
 use Rattle.walk.specs.Walk.{withSurface, bucketsTo, sumWith, sumFor, hasPart, keyAmong}
@@ -28,7 +28,7 @@ area-with : (k : Key) (bs : List Bucket) (p : Part) → areaFor k (withSurface b
 unfolding withSurface sumWith
 area-with k bs outOfRange = refl
 area-with k bs sliver = refl
-area-with k bs (used f) = area-put k (keyOf (f .nx) (f .ny) (f .nz)) (f .area32) bs
+area-with k bs (used f) = area-put k (normalKey (f .nx) (f .ny) (f .nz)) (f .area32) bs
 
 pub buckets-sums : (vs o : List Float) (ids : List ℕ) (k : Key) (n : ℕ) → areaFor k (bucketsTo vs o ids n) ≡ sumFor vs o ids k n
 unfolding bucketsTo sumFor areaFor
@@ -41,7 +41,7 @@ has-with : (k : Key) (bs : List Bucket) (p : Part) → hasKey k (withSurface bs 
 unfolding withSurface hasPart
 has-with k bs outOfRange = refl
 has-with k bs sliver = refl
-has-with k bs (used f) = has-put (keyOf (f .nx) (f .ny) (f .nz)) k (f .area32) bs
+has-with k bs (used f) = has-put (normalKey (f .nx) (f .ny) (f .nz)) k (f .area32) bs
 
 pub buckets-keys : (vs o : List Float) (ids : List ℕ) (k : Key) (n : ℕ) → hasKey k (bucketsTo vs o ids n) ≡ keyAmong vs o ids k n
 unfolding bucketsTo keyAmong hasKey
@@ -54,7 +54,7 @@ apart-with : (bs : List Bucket) (p : Part) → Apart bs → Apart (withSurface b
 unfolding withSurface
 apart-with bs outOfRange h = h
 apart-with bs sliver h = h
-apart-with bs (used f) h = apart-put (keyOf (f .nx) (f .ny) (f .nz)) (f .area32) bs h
+apart-with bs (used f) h = apart-put (normalKey (f .nx) (f .ny) (f .nz)) (f .area32) bs h
 
 pub buckets-apart : (vs o : List Float) (ids : List ℕ) (n : ℕ) → Apart (bucketsTo vs o ids n)
 unfolding bucketsTo Apart
@@ -73,7 +73,7 @@ plus-with bs outOfRange g h = h
 plus-with bs sliver g h = h
 plus-with bs (used f) g h =
     let a = g f refl in
-    put-all Plus Plus (λ x p. p) (keyOf (f .nx) (f .ny) (f .nz)) (f .area32) (λ x p. plus-add binary32 x (f .area32) p a)
+    put-all Plus Plus (λ x p. p) (normalKey (f .nx) (f .ny) (f .nz)) (f .area32) (λ x p. plus-add binary32 x (f .area32) p a)
     (plus-add binary32 nought (f .area32) (plus-zero binary32) a) bs h
 
 buckets-plus : (vs : List Float) (ids : List ℕ) → T (allFine vs) → (n : ℕ) → AllAreas Plus (bucketsTo vs (origin (box vs)) ids n)

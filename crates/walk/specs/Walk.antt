@@ -7,13 +7,13 @@ use Rattle.ieee.specs.Single.{_⊕_, nought}
 use Rattle.ids.specs.Triangles.{triangle}
 use Rattle.sums.specs.Facet.{Part, outOfRange, sliver, used, part}
 use Rattle.surfaces.specs.declared.Key.{Key}
-use Rattle.surfaces.specs.Surfaces.{Bucket, keyOf, sameKey, put}
+use Rattle.surfaces.specs.Surfaces.{Bucket, normalKey, sameKey, addArea}
 
 -- with one triangle's part: only a used one has a surface
 unfoldable pub withSurface : List Bucket → Part → List Bucket
 withSurface bs outOfRange = bs
 withSurface bs sliver = bs
-withSurface bs (used f) = put (keyOf (f .nx) (f .ny) (f .nz)) (f .area32) bs
+withSurface bs (used f) = addArea (normalKey (f .nx) (f .ny) (f .nz)) (f .area32) bs
 
 -- after the first n triangles, in order
 unfoldable pub bucketsTo : List Float → List Float → List ℕ → ℕ → List Bucket
@@ -26,7 +26,7 @@ bucketsTo vs o ids (suc n) = withSurface (bucketsTo vs o ids n) (part vs o (tria
 unfoldable pub sumWith : Key → Float → Part → Float
 sumWith k s outOfRange = s
 sumWith k s sliver = s
-sumWith k s (used f) = cond (sameKey k (keyOf (f .nx) (f .ny) (f .nz))) (s ⊕ f .area32) s
+sumWith k s (used f) = cond (sameKey k (normalKey (f .nx) (f .ny) (f .nz))) (s ⊕ f .area32) s
 
 -- the areas with key k among the first n triangles
 unfoldable pub sumFor : List Float → List Float → List ℕ → Key → ℕ → Float
@@ -36,7 +36,7 @@ sumFor vs o ids k (suc n) = sumWith k (sumFor vs o ids k n) (part vs o (triangle
 unfoldable pub hasPart : Key → Part → Bool
 hasPart k outOfRange = false
 hasPart k sliver = false
-hasPart k (used f) = sameKey k (keyOf (f .nx) (f .ny) (f .nz))
+hasPart k (used f) = sameKey k (normalKey (f .nx) (f .ny) (f .nz))
 
 -- whether one of them has key k
 unfoldable pub keyAmong : List Float → List Float → List ℕ → Key → ℕ → Bool

@@ -3,7 +3,7 @@ ghost use mathlib.Core.Path.{_≡_};
 ghost use Prim.Native.Nat.{_*_};
 ghost use lib.ListN.{replicate};
 ghost use Rattle.ids.specs.Triangles.{triangleCount};
-ghost use Rattle.surfaces.specs.Index.{Ready};
+ghost use Rattle.surfaces.specs.inner.Index.{Ready};
 ghost use Rattle.sums.specs.Facet.{used};
 ghost use Rattle.sums.specs.inner.Prepared.{partBy};
 ghost use Rattle.walk.specs.inner.Steps.{given, state, Takes, Taken};

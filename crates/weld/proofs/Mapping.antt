@@ -1,4 +1,5 @@
--- All ids by a table, behind its words; and what the steps of a weld leave: words that are zero, and the ids that the definition says. Assumes nothing.
+-- All ids by a table, behind its words; and what the steps of a weld leave: words that are zero, and the ids that the definition says.
+-- Assumes nothing.
 use mathlib.Core.Path.{_≡_, refl, sym, ap, _∙_}
 use mathlib.Core.Bool.{true, false, cond}
 use mathlib.Core.List.{List, [], _∷_, _++_}
@@ -14,9 +15,10 @@ use Rattle.ids.specs.Lent.{cleared}
 use Rattle.table.proofs.Cleared.{front-zero}
 use Rattle.vertices.specs.Vertices.{vertexCount}
 use Rattle.cells.specs.Cells.{named}
-use Rattle.cells.specs.Table.{slotIn, nameIn, Welds}
+use Rattle.slots.specs.inner.Slots.{markOf, markIn}
+use Rattle.cells.specs.inner.Table.{nameIn, Welds}
 use Rattle.weld.specs.Weld.{weldId, weldAll, inverse, unwelded, welded}
-use Rattle.weld.specs.Mapped.{idBy, mapped}
+use Rattle.weld.specs.inner.Mapped.{idBy, mapped}
 
 -- ---- one id after the other
 
@@ -34,7 +36,8 @@ id-kept : (m n : ℕ) (t u : List ℕ) (x : ℕ) → n ≤ m → ((j : ℕ) → 
 unfolding idBy nameIn
 id-kept m n t u x l h = elim (decLt x n) [ yes a ↦ rw (h x (omega arith)) | no a ↦ rw (le-ltb x n (omega arith)) ]
 
-pub map-next : (m n : ℕ) (ids t u : List ℕ) (i y : ℕ) → n ≤ m → length t ≡ m + length ids → i < length ids → y ≡ idBy n u (getD ids i 0) → Mapping m n ids t u i → Mapping m n ids t (set u (m + i) y) (i + 1)
+pub map-next : (m n : ℕ) (ids t u : List ℕ) (i y : ℕ) → n ≤ m → length t ≡ m + length ids → i < length ids
+    → y ≡ idBy n u (getD ids i 0) → Mapping m n ids t u i → Mapping m n ids t (set u (m + i) y) (i + 1)
 map-next m n ids t u i y lm fits l e c =
     let long = c .long in
     record {
@@ -58,7 +61,8 @@ mapped-at n t [] i l = absurd (omega arith)
 mapped-at n t (x ∷ ids) zero l = refl
 mapped-at n t (x ∷ ids) (suc i) l = mapped-at n t ids i (omega arith)
 
-pub map-last : (m n : ℕ) (ids t u : List ℕ) (i : ℕ) → length t ≡ m + length ids → length ids ≤ i → Mapping m n ids t u i → u ≡ take m t ++ mapped n t ids
+pub map-last : (m n : ℕ) (ids t u : List ℕ) (i : ℕ) → length t ≡ m + length ids → length ids ≤ i → Mapping m n ids t u i
+    → u ≡ take m t ++ mapped n t ids
 map-last m n ids t u i fits l c =
     let long = c .long in
     let p : length u ≡ length (take m t ++ mapped n t ids) = rw (length-append, front, mapped-long n t ids) (omega arith) in
@@ -68,17 +72,20 @@ map-last m n ids t u i fits l c =
     front = length-take-le m t (omega arith)
 
     go : (j : ℕ) → j < length u → Dec (j < m) → getD u j 0 ≡ getD (take m t ++ mapped n t ids) j 0
-    go j b (yes a) = c .under j a ∙ sym (getD-take m t j 0 a) ∙ sym (List·getD-append (take m t) (mapped n t ids) 0 j (omega (arith, front)))
+    go j b (yes a) =
+        c .under j a ∙ sym (getD-take m t j 0 a) ∙ sym (List·getD-append (take m t) (mapped n t ids) 0 j (omega (arith, front)))
     go j b (no a) =
         let long = c .long in
         let e : m + (j - m) ≡ j = omega arith in
-        let w : getD (take m t ++ mapped n t ids) (m + (j - m)) 0 ≡ getD (mapped n t ids) (j - m) 0 = rw front at (getD-append-add (take m t) (mapped n t ids) (j - m) 0) in
+        let w : getD (take m t ++ mapped n t ids) (m + (j - m)) 0 ≡ getD (mapped n t ids) (j - m) 0 =
+            rw front at (getD-append-add (take m t) (mapped n t ids) (j - m) 0) in
         rw e at (c .done (j - m) (omega (arith, c .within)) ∙ sym (mapped-at n t ids (j - m) (omega arith)) ∙ sym w)
 
 -- ---- what they are
 
 -- by a table of all vertices: the weld
-mapped-weld : (vs : List Float) (inv : Float) (t ids : List ℕ) → ((j : ℕ) → j < vertexCount vs → nameIn t j ≡ named vs inv j) → mapped (vertexCount vs) t ids ≡ weldAll vs inv ids
+mapped-weld : (vs : List Float) (inv : Float) (t ids : List ℕ) → ((j : ℕ) → j < vertexCount vs → nameIn t j ≡ named vs inv j)
+    → mapped (vertexCount vs) t ids ≡ weldAll vs inv ids
 unfolding mapped weldAll idBy weldId
 mapped-weld vs inv t [] h = refl
 mapped-weld vs inv t (x ∷ ids) h = λ i. here i ∷ mapped-weld vs inv t ids h i
@@ -95,8 +102,8 @@ mapped-none t (x ∷ ids) = rw (le-ltb x 0 (omega arith)) (ap (λ (l : List ℕ)
 -- ---- the whole
 
 -- the slots are free in the part that is lent of an area whose first k words are cleared
-pub slots-cleared : (k m : ℕ) (t z : List ℕ) → z ≡ cleared k t → (r : ℕ) → r < k → r < m → slotIn (take m z) r ≡ 0
-unfolding slotIn
+pub slots-cleared : (k m : ℕ) (t z : List ℕ) → z ≡ cleared k t → (r : ℕ) → r < k → r < m → markIn true (take m z) r ≡ 0
+unfolding markIn markOf
 slots-cleared k m t z e r l b = omega (arith, front-zero k m t z e r l b)
 
 -- a front of m words is cleared
@@ -104,17 +111,27 @@ cleared-front : (m : ℕ) (a b : List ℕ) → length a ≡ m → cleared m (a +
 unfolding cleared
 cleared-front m a b e = rw (drop-at a b m e)
 
--- g is the table of all vertices, u the area with it, w with the ids behind it, and x with the table cleared
-pub weld-last : (vs : List Float) (inv : Float) (ids g b u w x : List ℕ) → length g ≡ 8 * vertexCount vs → u ≡ g ++ b → length b ≡ length ids
-    → Welds (vertexCount vs) vs inv g (vertexCount vs) → w ≡ take (8 * vertexCount vs) u ++ mapped (vertexCount vs) u ids → x ≡ cleared (8 * vertexCount vs) w
+-- g is the table of all vertices, u the area with it and b behind it, w with the ids in place of b, and x with the table cleared
+pub record WeldSteps (vs : List Float) (inv : Float) (ids g b u w x : List ℕ) : Type 0 where
+  pub table-long : length g ≡ 8 * vertexCount vs
+  pub behind-long : length b ≡ length ids
+  pub laid : u ≡ g ++ b
+  pub welds : Welds (vertexCount vs) vs inv g (vertexCount vs)
+  pub by-table : w ≡ take (8 * vertexCount vs) u ++ mapped (vertexCount vs) u ids
+  pub wiped : x ≡ cleared (8 * vertexCount vs) w
+
+pub weld-last : (vs : List Float) (inv : Float) (ids g b u w x : List ℕ) → WeldSteps vs inv ids g b u w x
     → x ≡ replicate (8 * vertexCount vs) 0 ++ weldAll vs inv ids
 unfolding nameIn
-weld-last vs inv ids g b u w x lg eu lb m ew ex =
+weld-last vs inv ids g b u w x s =
     let n : ℕ = vertexCount vs in
-    let lu : length u ≡ length g + length b = ap length eu ∙ length-append g b in
+    let long : length u ≡ 8 * n + length ids = ap length (s .laid) ∙ length-append g b ∙ omega (arith, s .table-long, s .behind-long) in
     let front : length (take (8 * n) u) ≡ 8 * n = length-take-le (8 * n) u (omega arith) in
-    let names : (j : ℕ) → j < n → nameIn u j ≡ named vs inv j = λ j l. ap (λ (s : List ℕ). getD s j 0 / 65536) eu ∙ ap (λ (y : ℕ). y / 65536) (List·getD-append g b 0 j (omega arith)) ∙ m .sent j l in
-    ex ∙ ap (cleared (8 * n)) ew ∙ cleared-front (8 * n) (take (8 * n) u) (mapped n u ids) front ∙ ap (λ (l : List ℕ). replicate (8 * n) 0 ++ l) (mapped-weld vs inv u ids names)
+    let names : (j : ℕ) → j < n → nameIn u j ≡ named vs inv j = λ j l.
+        ap (λ (y : List ℕ). getD y j 0 / 65536) (s .laid)
+        ∙ ap (λ (y : ℕ). y / 65536) (List·getD-append g b 0 j (omega (arith, s .table-long))) ∙ s .welds .sent j l in
+    s .wiped ∙ ap (cleared (8 * n)) (s .by-table) ∙ cleared-front (8 * n) (take (8 * n) u) (mapped n u ids) front
+    ∙ ap (λ (l : List ℕ). replicate (8 * n) 0 ++ l) (mapped-weld vs inv u ids names)
 
 -- the same with no table
 pub lay-last : (m : ℕ) (ids t w : List ℕ) → w ≡ take m t ++ mapped 0 t ids → w ≡ take m t ++ ids

@@ -1,3 +1,3 @@
--- Weld (01): which vertices are one, and ids by the table of cells.
+-- Weld (01): which vertices are one.
 pub mod Weld
-pub mod Mapped
+pub mod inner

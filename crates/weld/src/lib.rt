@@ -1,11 +1,12 @@
-// `welded_indices`: vertices in one cell become the first of them. Internal: `verdict` asks it where the given ids are not boundary-free, and has given ids laid into its area by `lay`; `qto` asks for ε.
+// `welded_indices`: vertices in one cell become the first of them. Internal: `verdict` asks it where the given ids are not boundary-free,
+// and has given ids laid into its area by `lay`; `qto` asks for ε.
 ghost use mathlib.Core.Path.{_≡_};
 ghost use mathlib.Core.List.{_++_};
 ghost use Prim.Native.Nat.{_+_, _*_, _≤_};
 ghost use lib.ListN.{length, replicate, take};
 ghost use Rattle.vertices.specs.Vertices.{vertexCount};
 ghost use Rattle.weld.specs.Weld.{epsilonOf, weldAll, welded};
-ghost use Rattle.weld.specs.Mapped.{idBy, mapped};
+ghost use Rattle.weld.specs.inner.Mapped.{idBy, mapped, WeldFits};
 
 // ε of a distance in metres and the metres a unit.
 pub fn epsilon(distance: f32, unit: f32) -> f32
@@ -40,8 +41,9 @@ fn map_ids(ids: &[u32], part: &mut [u32], m: usize, n: usize)
 
 // The weld by 1/ε.
 fn weld(vertices: &[f32], ids: &[u32], inv: f64, part: &mut [u32])
-    requires { ⌜ (length (now vertices) ≤ 98304) × (length (now part) ≡ 8 * vertexCount (now vertices) + length (now ids)) ⌝ }
-    ensures { λ _. ⌜ now (part .exit) ≡ replicate (8 * vertexCount (now (vertices .entry))) 0 ++ weldAll (now (vertices .entry)) inv (now (ids .entry)) ⌝ }
+    requires { ⌜ WeldFits (now vertices) (now ids) (now part) ⌝ }
+    ensures { λ _. ⌜ now (part .exit)
+        ≡ replicate (8 * vertexCount (now (vertices .entry))) 0 ++ weldAll (now (vertices .entry)) inv (now (ids .entry)) ⌝ }
 {
     let n = vertices.len() / 3;
     let m = 8 * n;
@@ -70,8 +72,9 @@ fn keep(ids: &[u32], part: &mut [u32], m: usize)
 
 // The ids after the weld at eps, behind 8 words a vertex that are then zero: no cell is left that tells the position.
 pub fn welded_indices(vertices: &[f32], indices: &[u32], eps: f32, part: &mut [u32])
-    requires { ⌜ (length (now vertices) ≤ 98304) × (length (now part) ≡ 8 * vertexCount (now vertices) + length (now indices)) ⌝ }
-    ensures { λ _. ⌜ now (part .exit) ≡ replicate (8 * vertexCount (now (vertices .entry))) 0 ++ welded (now (vertices .entry)) (now (indices .entry)) eps ⌝ }
+    requires { ⌜ WeldFits (now vertices) (now indices) (now part) ⌝ }
+    ensures { λ _. ⌜ now (part .exit)
+        ≡ replicate (8 * vertexCount (now (vertices .entry))) 0 ++ welded (now (vertices .entry)) (now (indices .entry)) eps ⌝ }
 {
     let m = 8 * (vertices.len() / 3);
     if (eps != eps) | ((eps <= 0.0) | (vertices.len() < 3)) {

@@ -8,7 +8,10 @@ use Rattle.cells.proofs.cell_at.Tie as tie
 
 returns : tie.Need-returns
 unfolding cellAt
-returns c = rw (c .before .before .before .before .cell .ensures, c .before .before .cell2 .ensures, c .cell3 .ensures, add-zero (3 * c .before .before .before .before .before .before .before .args .v))
+returns c =
+    let second = c .before .before in
+    let first = second .before .before in
+    rw (first .cell .ensures, second .cell2 .ensures, c .cell3 .ensures, add-zero (3 * first .before .before .before .args .v))
 
 pub cell-at-spec : {M : Type 1} → statement M
 cell-at-spec =

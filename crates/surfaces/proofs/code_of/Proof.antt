@@ -1,13 +1,13 @@
 -- `surfaces::code_of` meets its contract: each component is coded. Assumes nothing.
 use mir.Syntax.{w32}
 use mir.ValLaws.{toZ-ofZ}
-use Rattle.surfaces.specs.Index.{codeOf}
+use Rattle.surfaces.specs.inner.Index.{keyCode}
 use borrow.Author.Needs.{needs}
 use Rattle.surfaces.proofs.code_of.Statement.{statement}
 use Rattle.surfaces.proofs.code_of.Tie as tie
 
 returns : tie.Need-returns
-unfolding codeOf
+unfolding keyCode
 returns c =
     let k = c .before .before .before .before .before .before .args .k in
     let told = c .before .struct-told3 .given in

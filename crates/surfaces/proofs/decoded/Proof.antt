@@ -25,7 +25,8 @@ returns c =
 returns-2 : tie.Need-returns-2
 returns-2 c =
     let x = c .before .args .x in
-    λ z e. toZ-ofZ w32 (negsuc 0 -ℤ toZ w32 (x / 2)) (sub-result c) ∙ ap (λ y. negsuc 0 -ℤ y) (toZ-pos w32 (x / 2) (omega arith)) ∙ minus-one (x / 2) ∙ code-odd x z (omega arith) e
+    λ z e. toZ-ofZ w32 (negsuc 0 -ℤ toZ w32 (x / 2)) (sub-result c) ∙ ap (λ y. negsuc 0 -ℤ y) (toZ-pos w32 (x / 2) (omega arith))
+    ∙ minus-one (x / 2) ∙ code-odd x z (omega arith) e
 
 pub decoded-spec : {M : Type 1} → statement M
 decoded-spec =

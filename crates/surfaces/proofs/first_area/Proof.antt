@@ -1,11 +1,11 @@
--- `surfaces::first_area` meets its contract: it writes the sum. Assumes nothing.
-use mathlib.Core.Path.{refl}
+-- `surfaces::first_area` meets its contract: it writes the sum, in either order. Assumes nothing.
 use borrow.Author.Needs.{needs}
+use Rattle.ieee.proofs.Values.NegatedSum.{add-commutes}
 use Rattle.surfaces.proofs.first_area.Statement.{statement}
 use Rattle.surfaces.proofs.first_area.Tie as tie
 
 returns : tie.Need-returns
-returns c = refl
+returns c = search (needs, add-commutes)
 
 pub first-area-spec : {M : Type 1} → statement M
 first-area-spec =

@@ -1,11 +1,11 @@
--- `surfaces::grow` meets its contract: it writes the sum. Assumes nothing.
-use mathlib.Core.Path.{refl}
+-- `surfaces::grow` meets its contract: it writes the sum, in either order. Assumes nothing.
 use borrow.Author.Needs.{needs}
+use Rattle.ieee.proofs.Values.NegatedSum.{add-commutes}
 use Rattle.surfaces.proofs.grow.Statement.{statement}
 use Rattle.surfaces.proofs.grow.Tie as tie
 
 returns : tie.Need-returns
-returns c = refl
+returns c = search (needs, add-commutes)
 
 pub grow-spec : {M : Type 1} → statement M
 grow-spec =

@@ -1,72 +1,110 @@
--- `surfaces::put_normal` meets its contract: from what the search found and what was written, by the laws `puts-new` and `puts-known`. Assumes nothing.
-use mathlib.Core.Path.{ap, _∙_, subst}
-use Prim.Native.Nat.{_*_, _≤_}
+-- `surfaces::put_normal` meets its contract: from what the search found and what was written, by the laws `adds-new` and `adds-known`.
+-- Assumes nothing.
+use mathlib.Core.Path.{sym, ap, _∙_, subst}
+use mathlib.Core.Bool.{false}
+use mathlib.Core.List.{List}
+use Prim.Native.Nat.{ℕ, _-_, _*_, _≤_}
 use native.Mathlib.Omega.{arith}
 use borrow.Author.Needs.{needs}
 use Rattle.table.specs.inner.Rows.{Found}
-use Rattle.surfaces.specs.declared.Code.{Code}
+use Rattle.slots.specs.declared.Code.{Code}
+use Rattle.slots.specs.inner.Slots.{markIn, heldKey, codeHome, KeyFits, Claimed}
 use Rattle.surfaces.specs.declared.Key.{Key}
-use Rattle.surfaces.specs.Surfaces.{keyOf}
-use Rattle.surfaces.specs.Index.{codeOf, slotIn, keyIn, homeOf, Claimed, withRow}
-use Rattle.surfaces.proofs.Codes.{found-code}
-use Rattle.surfaces.proofs.Gathering.{gathered-searchable, puts-new, puts-known}
+use Rattle.surfaces.specs.Surfaces.{normalKey}
+use Rattle.surfaces.specs.inner.Index.{keyCode, withRow}
+use Rattle.surfaces.proofs.Codes.{normal-fits}
+use Rattle.surfaces.proofs.Buckets.{withArea}
+use Rattle.surfaces.proofs.Gathering.{ready-searchable, adds-new, adds-known}
 use Rattle.surfaces.proofs.put_normal.Statement.{statement}
 use Rattle.surfaces.proofs.put_normal.Tie as tie
 
-find-requires : tie.Need-find-requires
-find-requires c κs =
-    let s = c .before .before .before .before .before .before in
-    let w = s .pre .means in
-    (s .pre .small, c .before .home .ensures .1, omega (arith, s .pre .words), gathered-searchable (s .args .m) (w .0) (s .args .index .now) (s .args .rows .now) (w .1) (omega (arith, w .2, s .pre .left)) (w .3))
-
-cast-s : tie.Need-cast-s
-cast-s c = omega (arith, c .slice-known3 .given (c .before .find .result))
-
--- what the search found
-module _ (c : tie.After-find) where
+-- the key of the normal, and its code
+module _ (c : tie.After-code-of-normal) where
   abbrev st : tie.Start
-  st = c .before .before .before .before .before .before .before
+  st = c .before .before .before
+
+  abbrev m : ℕ
+  m = st .args .m
+
+  abbrev t : List ℕ
+  t = st .args .index .now
 
   abbrev k : Key
-  k = keyOf (st .args .nx) (st .args .ny) (st .args .nz)
+  k = normalKey (st .args .nx) (st .args .ny) (st .args .nz)
 
-  found : Found (2 * st .args .m) (homeOf (st .args .m) (codeOf k)) (keyIn (st .args .m) (st .args .index .now)) (slotIn (st .args .index .now)) (codeOf k) (c .find .result)
-  found = found-code (st .args .m) (c .before .before .home .result) (c .before .before .before .hash .result) (codeOf k) (c .before .before .before .before .code-of-normal .result) (keyIn (st .args .m) (st .args .index .now)) (slotIn (st .args .index .now)) (c .find .result)
-      (c .before .before .before .before .code-of-normal .ensures) (c .before .before .before .hash .ensures) (c .before .before .home .ensures .0) (c .find .ensures)
+  fits : KeyFits false (c .code-of-normal .result)
+  fits = subst (KeyFits false) (sym (c .code-of-normal .ensures)) (normal-fits (st .args .nx) (st .args .ny) (st .args .nz))
 
--- the slot names a row, of n at most
-named : (c : tie.Else1) → let s = c .before .before .before .before .before .before .before .before .before in let r = c .before .before .find .result in slotIn (s .args .index .now) r ≤ s .args .n
-named c =
-    let w = c .before .before .before .before .before .before .before .before .before .pre .means in
-    omega (arith, w .2, w .3 .within (c .before .before .find .result) (c .before .before .find .ensures .within))
+find-requires : tie.Need-find-requires
+find-requires c κs =
+    let s = st (c .before) in
+    (ready-searchable (s .args .m) (s .args .n) (s .args .index .now) (s .args .rows .now) (s .pre), fits (c .before))
+
+-- what the search found
+module _ (c : tie.After-mark) where
+  abbrev at : tie.After-code-of-normal
+  at = c .before .before .before .before
+
+  abbrev r : ℕ
+  r = c .before .before .find .result
+
+  found : Found (2 * m at) (codeHome (m at) (keyCode (k at))) (heldKey false (m at) (t at)) (markIn false (t at)) (keyCode (k at)) r
+  found = subst (λ (x : Code). Found (2 * m at) (codeHome (m at) x) (heldKey false (m at) (t at)) (markIn false (t at)) x r)
+      (at .code-of-normal .ensures) (c .before .before .find .ensures)
+
+  -- the slot names a row, of n at most
+  named : c .mark .result ≤ st at .args .n
+  named = let w = st at .pre .means in omega (arith, c .mark .ensures, w .2, w .3 .entries .within r (found .within))
+
+claim-requires : tie.Need-claim-requires
+claim-requires c κs =
+    let q = c .before .before in
+    let s = st (at q) in
+    record {
+      words = record { small = s .pre .small; long = omega (arith, s .pre .words) };
+      slot = found q .within;
+      entry = s .pre .left;
+      free = omega (arith, q .mark .ensures, c .before .if1 .taken);
+      fits = fits (at q);
+    }
+
+key-of-requires : tie.Need-key-of-requires
+key-of-requires c κs = fits (at (c .before .before .before .before .before .before))
 
 mul-grow : tie.Need-mul-grow
-mul-grow c = let s = c .before .before .before .before .before .before .before .before .before .before in omega (arith, s .pre .small, s .pre .left, named (c .before))
+mul-grow c = let q = c .before .before in omega (arith, st (at q) .pre .small, st (at q) .pre .left, named q)
 
 grow-requires : tie.Need-grow-requires
-grow-requires c κs = let s = c .before .before .before .before .before .before .before .before .before .before in omega (arith, s .pre .room, s .pre .left, named (c .before), c .before .if1 .left)
+grow-requires c κs = let q = c .before .before in omega (arith, st (at q) .pre .room, st (at q) .pre .left, named q, c .before .if1 .left)
 
 returns : tie.Need-returns
 returns c =
-    let s = c .before .before .before .before .before .before .before .before .before .before .before .before .before .before .before .before .before .before in
+    let w = c .before .before in
+    let u = w .before .before .before .before .before in
+    let q = u .before .before .before in
+    let s = st (at q) in
     let a = s .args in
-    let q = c .before .before .before .before .before .before .before .before .before .before .before in
-    let w = c .before .before .before .before .before .before .before .claim .last .0 in
-    puts-new (a .m) (a .n) (k q) (a .area) (a .index .now) (a .rows .now) (c .before .before .new-row .last .0) (q .find .result) (s .pre .left) (found q) w (c .before .before .before .before .before .before .before .before .before .if1 .taken) (s .pre .room)
-    (subst (λ (x : Code). Claimed (a .m) (q .find .result) (a .n) x (a .index .now) w) (c .before .before .before .before .before .before .before .before .before .before .before .before .before .before .before .code-of-normal .ensures) (c .before .before .before .before .before .before .before .claim .ensures))
-    (c .before .before .new-row .ensures ∙ ap (λ (x : Key). withRow (a .rows .now) (a .n) x (a .area)) (c .before .before .before .key-of .ensures (a .nx) (a .ny) (a .nz) (c .before .before .before .before .before .before .before .before .before .before .before .before .before .before .before .code-of-normal .ensures)))
+    let code = at q .code-of-normal .ensures in
+    let key = w .before .key-of .ensures (a .nx) (a .ny) (a .nz) code in
+    let now = u .claim .last .0 in
+    adds-new (a .m) (a .n) (k (at q)) (a .area) (a .index .now) (a .rows .now) (w .new-row .last .0) (r q) (s .pre) (found q) now
+    (omega (arith, q .mark .ensures, u .before .before .if1 .taken))
+    (subst (λ (x : Code). Claimed false (a .m) (r q) (a .n) x (a .index .now) now) code (u .claim .ensures))
+    (w .new-row .ensures ∙ ap (λ (x : Key). withRow (a .rows .now) (a .n) x (a .area)) key)
 
 returns-2 : tie.Need-returns-2
 returns-2 c =
-    let s = c .before .before .before .before .before .before .before .before .before .before .before .before .before in
+    let w = c .before .before in
+    let q = w .before .before .before in
+    let s = st (at q) in
     let a = s .args in
-    let q = c .before .before .before .before .before .before in
-    puts-known (a .m) (a .n) (k q) (a .area) (a .index .now) (a .rows .now) (c .before .before .grow .last .0) (q .find .result) (s .pre .left) (found q) (omega (arith, c .before .before .before .before .if1 .left)) (c .before .before .grow .ensures)
+    adds-known (a .m) (a .n) (k (at q)) (a .area) (a .index .now) (a .rows .now) (w .grow .last .0) (r q) (s .pre) (found q)
+    (omega (arith, q .mark .ensures, w .before .before .if1 .left))
+    (w .grow .ensures ∙ ap (λ (x : ℕ). withArea (a .rows .now) (x - 1) (a .area)) (q .mark .ensures))
 
 pub put-normal-spec : {M : Type 1} → statement M
 put-normal-spec =
     tie.close
-    (tie.spec (λ c κs. search needs) (λ c κs. search needs) (λ c. search needs) (λ c κs. search needs) find-requires
-    (λ c. search needs) (λ c. search needs) cast-s (λ c κs. search needs) (λ c κs. search needs) (λ c κs. search needs)
+    (tie.spec (λ c κs. search needs) find-requires (λ c κs. search needs) claim-requires key-of-requires (λ c κs. search needs)
     (λ c. search needs) (λ c. search needs) mul-grow grow-requires (λ c. search needs) (λ c. search needs) returns
     (λ c. search needs) (λ c. search needs) returns-2)

@@ -1,4 +1,4 @@
--- `surfaces::tenfold` meets its contract. Assumes nothing.
+-- `surfaces::tenfold` meets its contract: a product has a pattern, which is read back. Assumes nothing.
 use mathlib.Core.Path.{ap, _∙_}
 use borrow.Author.Needs.{needs}
 use lib.Ieee.{binary32, ofBits}
@@ -13,7 +13,8 @@ returns : tie.Need-returns
 returns c =
     let x = c .before .args .c in
     let fit = mul-fits binary32 x ten in
-    (ap (ofBits binary32) (c .bits32 .ensures) ∙ ofBits-toBits binary32 (x ⊗ ten) fit, rw (c .bits32 .ensures) (toBits-lt binary32 (x ⊗ ten) fit))
+    (ap (ofBits binary32) (c .bits32 .ensures) ∙ ofBits-toBits binary32 (x ⊗ ten) fit,
+    rw (c .bits32 .ensures) (toBits-lt binary32 (x ⊗ ten) fit))
 
 pub tenfold-spec : {M : Type 1} → statement M
 tenfold-spec =

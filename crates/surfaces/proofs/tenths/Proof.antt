@@ -18,7 +18,9 @@ unfolding tenths
 rounds x y z rounded cut = rw (cut, rounded) (signed-kept w32 (halfAway binary32 (x ⊗ ten)))
 
 returns : tie.Need-returns
-returns c = rounds (c .before .before .args .c) (c .before .round32 .result) (c .to-i32 .result) (c .before .round32 .ensures) (c .to-i32 .ensures)
+returns c =
+    let b = c .before in
+    rounds (b .before .args .c) (b .round32 .result) (c .to-i32 .result) (b .round32 .ensures) (c .to-i32 .ensures)
 
 pub tenths-spec : {M : Type 1} → statement M
 tenths-spec =

@@ -11,7 +11,7 @@ use Rattle.sums.specs.Facet.{Part, outOfRange, part}
 use Rattle.sums.specs.inner.Prepared.{partBy, partIn, HasRoot}
 use Rattle.sums.specs.Totals.{withPart, totalsTo}
 use Rattle.surfaces.specs.Surfaces.{Bucket}
-use Rattle.surfaces.specs.Index.{Gathered}
+use Rattle.surfaces.specs.inner.Index.{Gathered}
 use Rattle.walk.specs.declared.Sums.{Sums}
 use Rattle.walk.specs.Walk.{withSurface, bucketsTo}
 

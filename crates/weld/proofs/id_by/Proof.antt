@@ -2,8 +2,8 @@
 use native.Mathlib.Omega.{arith}
 use borrow.Author.Tests.{lt-ltb, le-ltb}
 use borrow.Author.Needs.{needs}
-use Rattle.cells.specs.Table.{nameIn}
-use Rattle.weld.specs.Mapped.{idBy}
+use Rattle.cells.specs.inner.Table.{nameIn}
+use Rattle.weld.specs.inner.Mapped.{idBy}
 use Rattle.weld.proofs.id_by.Statement.{statement}
 use Rattle.weld.proofs.id_by.Tie as tie
 

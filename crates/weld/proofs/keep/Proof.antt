@@ -6,9 +6,11 @@ use Rattle.weld.proofs.keep.Tie as tie
 
 returns : tie.Need-returns
 returns c =
-    let s = c .before .before .before .before .before .before .before .before .before .before in
+    let k = c .before .before in
+    let l = k .before .before .before .before in
+    let s = l .before .before .before .before in
     let a = s .args in
-    keep-last (a .m) (a .ids .now) (a .part .now) (c .before .before .before .before .before .before .lay .last .1 .0) (c .before .before .clear .last .0) (s .pre) (c .before .before .before .before .before .before .lay .ensures) (c .before .before .clear .ensures)
+    keep-last (a .m) (a .ids .now) (a .part .now) (l .lay .last .1 .0) (k .clear .last .0) (s .pre) (l .lay .ensures) (k .clear .ensures)
 
 pub keep-spec : {M : Type 1} → statement M
 keep-spec =

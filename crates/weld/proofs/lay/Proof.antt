@@ -6,7 +6,10 @@ use Rattle.weld.proofs.lay.Statement.{statement}
 use Rattle.weld.proofs.lay.Tie as tie
 
 returns : tie.Need-returns
-returns c = lay-last (c .before .before .before .before .before .before .args .m) (c .before .before .before .before .before .before .args .ids .now) (c .before .before .before .before .before .before .args .part .now) _ (c .before .before .map-ids .ensures)
+returns c =
+    let k = c .before .before in
+    let a = k .before .before .before .before .args in
+    lay-last (a .m) (a .ids .now) (a .part .now) _ (k .map-ids .ensures)
 
 pub lay-spec : {M : Type 1} → statement M
 lay-spec =

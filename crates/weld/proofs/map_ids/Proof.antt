@@ -18,10 +18,12 @@ loop-holds c = let a = c .before .before .args in map-first (a .m) (a .n) (a .id
 
 loop-again : tie.Need-loop-again Inv-loop μ-loop
 loop-again c =
-    let s = c .before .before .before .before .before .before .before in
+    let t = c .before .before .before .before in
+    let s = t .before .before .before in
     let a = s .args in
-    let l = c .before .before .before .before .loop in
-    map-next (a .m) (a .n) (a .ids .now) (a .part .now) (l .part) (l .i) (c .id-by .result) (s .pre .0) (s .pre .1) (omega arith) (c .id-by .ensures) (l .inv)
+    let l = t .loop in
+    map-next (a .m) (a .n) (a .ids .now) (a .part .now) (l .part) (l .i) (c .id-by .result) (s .pre .0) (s .pre .1) (omega arith)
+    (c .id-by .ensures) (l .inv)
 
 returns : tie.Need-returns Inv-loop μ-loop
 returns c =

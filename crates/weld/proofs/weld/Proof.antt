@@ -13,30 +13,53 @@ use Rattle.weld.proofs.Mapping.{slots-cleared, weld-last}
 use Rattle.weld.proofs.weld.Statement.{statement}
 use Rattle.weld.proofs.weld.Tie as tie
 
+-- the area with its slots cleared, and what stands behind the table there
+module _ (c : tie.After-clear) where
+  abbrev st : tie.Start
+  st = c .before .before .before .before .before
+
+  abbrev m : ℕ
+  m = 8 * vertexCount (st .args .vertices .now)
+
+  abbrev behind : List ℕ
+  behind = postOf 0 (m - 0) (c .clear .last .0)
+
+  behind-long : length behind ≡ length (st .args .ids .now)
+  behind-long =
+      ap length (post-is 0 m (c .clear .last .0) (omega arith)) ∙ length-drop m (c .clear .last .0)
+      ∙ omega (arith, st .pre .words, c .clear .kept)
+
 gather-requires : tie.Need-gather-requires
 gather-requires c κs =
-    let s = c .before .before .before .before .before .before .before .before in
-    let a = s .args in
-    let k = c .before .before .before .clear in
+    let k = c .before .before .before in
+    let a = st k .args in
     let n : ℕ = vertexCount (a .vertices .now) in
-    let lent : ℕ = 8 * n - 0 in (
-      s .pre .0,
-      length-take-le lent (k .last .0) (omega (arith, s .pre .1, k .kept)) ∙ omega arith,
-      welds-none n (a .vertices .now) (a .inv) _ (λ r l. slots-cleared (2 * n) lent (a .part .now) (k .last .0) (k .ensures) r l (omega arith)),
-    )
+    let lent : ℕ = 8 * n - 0 in
+    record {
+      few = st k .pre .few;
+      words = length-take-le lent (k .clear .last .0) (omega (arith, st k .pre .words, k .clear .kept)) ∙ omega arith;
+      welds =
+          welds-none n (a .vertices .now) (a .inv) _
+          (λ r l. slots-cleared (2 * n) lent (a .part .now) (k .clear .last .0) (k .clear .ensures) r l (omega arith));
+    }
 
 returns : tie.Need-returns
 returns c =
-    let s = c .before .before .before .before .before .before .before .before .before .before .before .before .before .before .before .before .before .before .before in
-    let a = s .args in
-    let m : ℕ = 8 * vertexCount (a .vertices .now) in
-    let k = c .before .before .before .before .before .before .before .before .before .before .before .before .before .before .clear in
-    let g = c .before .before .before .before .before .before .before .before .before .before .gather in
-    let p = c .before .before .before .before .before .before .map-ids in
-    let behind : List ℕ = postOf 0 (m - 0) (k .last .0) in
-    let is : behind ≡ drop m (k .last .0) = post-is 0 m (k .last .0) (omega arith) in
-    let long : length behind ≡ length (a .ids .now) = ap length is ∙ length-drop m (k .last .0) ∙ omega (arith, s .pre .1, k .kept) in
-    weld-last (a .vertices .now) (a .inv) (a .ids .now) (g .last .1 .1 .0) behind (g .last .1 .1 .0 ++ behind) (p .last .1 .0) (c .before .before .clear2 .last .0) (omega (arith, g .kept)) refl long (g .ensures) (p .ensures) (c .before .before .clear2 .ensures)
+    let x = c .before .before in
+    let p = x .before .before .before .before in
+    let g = p .before .before .before .before in
+    let k = g .before .before .before .before in
+    let a = st k .args in
+    weld-last (a .vertices .now) (a .inv) (a .ids .now) (g .gather .last .1 .1 .0) (behind k) (g .gather .last .1 .1 .0 ++ behind k)
+    (p .map-ids .last .1 .0) (x .clear2 .last .0) (
+    record {
+      table-long = omega (arith, g .gather .kept);
+      behind-long = behind-long k;
+      laid = refl;
+      welds = g .gather .ensures;
+      by-table = p .map-ids .ensures;
+      wiped = x .clear2 .ensures;
+    })
 
 pub weld-spec : {M : Type 1} → statement M
 weld-spec =

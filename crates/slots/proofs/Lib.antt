@@ -1,0 +1,4 @@
+-- From keys in words to an entry more.
+pub mod Codes
+pub mod Words
+pub mod Entries

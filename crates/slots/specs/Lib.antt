@@ -1,0 +1,2 @@
+-- No definition of document 01 is here.
+pub mod inner

@@ -6,3 +6,4 @@ pub mod Totals
 pub mod Negation
 pub mod Root
 pub mod Cube
+pub mod Commutes

@@ -48,7 +48,7 @@ pub takes-facet : (m : ℕ) (pair : Thresholds) (f : Facet) (s : State) (t : Lis
     → AddsArea m (s .sums .rows) (normalKey (f .nx) (f .ny) (f .nz)) (f .area32) (s .index) t (s .rows) u n
     → a ≡ withFacet pair (s .sums .totals) f → Takes m pair (used f) s (state t u (record { totals = a; rows = n }))
 unfolding withPart withSurface
-takes-facet m pair f s t u n a p h = record { totals = h; puts = p .puts }
+takes-facet m pair f s t u n a p h = record { totals = h; puts = p .adds }
 
 -- ---- no more rows than triangles
 

@@ -1,6 +1,6 @@
 -- `surfaces::first_area` meets its contract: it writes the sum, in either order. Assumes nothing.
 use borrow.Author.Needs.{needs}
-use Rattle.ieee.proofs.Values.NegatedSum.{add-commutes}
+use Rattle.ieee.proofs.Values.Commutes.{add-commutes}
 use Rattle.surfaces.proofs.first_area.Statement.{statement}
 use Rattle.surfaces.proofs.first_area.Tie as tie
 

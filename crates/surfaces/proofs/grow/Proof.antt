@@ -1,6 +1,6 @@
 -- `surfaces::grow` meets its contract: it writes the sum, in either order. Assumes nothing.
 use borrow.Author.Needs.{needs}
-use Rattle.ieee.proofs.Values.NegatedSum.{add-commutes}
+use Rattle.ieee.proofs.Values.Commutes.{add-commutes}
 use Rattle.surfaces.proofs.grow.Statement.{statement}
 use Rattle.surfaces.proofs.grow.Tie as tie
 

@@ -15,8 +15,11 @@ unfolding markIn
 add-part-2 c =
     let s = c .before .before in
     let word = getD (s .args .part .now) (s .args .r) 0 in
-    omega (arith, word-fits (s .args .wide) word (s .args .v) (s .pre .free) (omega (arith, s .pre .entry, s .pre .words .small))
-    (omega (arith, c .slice-known2 .given (s .args .r))))
+    omega (
+      arith,
+      word-fits (s .args .wide) word (s .args .v) (s .pre .free) (omega (arith, s .pre .entry, s .pre .words .small))
+          (omega (arith, c .slice-known2 .given (s .args .r))),
+    )
 
 put-wide-requires : tie.Need-put-wide-requires
 put-wide-requires c κs =
@@ -38,9 +41,10 @@ put-narrow-requires : tie.Need-put-narrow-requires
 unfolding KeyFits
 put-narrow-requires c κs =
     let s = c .before .before .before .before in
-    let a = s .args in
-    (simp length-set (omega (arith, entry-fits (a .wide) false (c .before .if1 .left) (a .n) (a .v) (a .part .now) (s .pre .words) (s .pre .entry))),
-    rw (c .before .if1 .left) at (s .pre .fits))
+    let a = s .args in (
+      simp length-set (omega (arith, entry-fits (a .wide) false (c .before .if1 .left) (a .n) (a .v) (a .part .now) (s .pre .words) (s .pre .entry))),
+      rw (c .before .if1 .left) at (s .pre .fits),
+    )
 
 same-length-2 : tie.Need-same-length-2
 same-length-2 c = c .before .before .put-narrow .kept .0 ∙ simp length-set

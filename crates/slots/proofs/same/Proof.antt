@@ -16,9 +16,10 @@ same-wide-requires c κs =
 
 same-narrow-requires : tie.Need-same-narrow-requires
 same-narrow-requires c κs =
-    let s = c .before .before in
-    (omega (arith, entry-fits (s .args .wide) false (c .if1 .left) (s .args .n) (s .args .v) (s .args .part .now) (s .pre .0) (s .pre .1)),
-    subst (λ (b : Bool). KeyFits b (s .args .k)) (c .if1 .left) (s .pre .2))
+    let s = c .before .before in (
+      omega (arith, entry-fits (s .args .wide) false (c .if1 .left) (s .args .n) (s .args .v) (s .args .part .now) (s .pre .0) (s .pre .1)),
+      subst (λ (b : Bool). KeyFits b (s .args .k)) (c .if1 .left) (s .pre .2),
+    )
 
 returns : tie.Need-returns
 returns c =

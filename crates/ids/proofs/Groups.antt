@@ -10,9 +10,9 @@ use native.Mathlib.Decide.{decLt}
 use borrow.Author.Tests.{eq-eqb, eqb-true}
 use lib.Dec.{eqb}
 use lib.ListN.{length}
-use Rattle.ids.specs.Uses.{bit, sumBy}
+use Rattle.ids.specs.Uses.{bit, sumBy, times}
 use Rattle.ids.specs.Pieces.{any, touched, apart, groups}
-use Rattle.ids.specs.Classes.{mem, Each, times}
+use Rattle.ids.specs.Classes.{mem, Each}
 
 -- ---- members
 
@@ -74,21 +74,21 @@ unfolding groups sumBy
 total w r [] = refl
 total w r (t ∷ ts) = omega (arith, split-sum w (r t) (groups r ts), total w r ts)
 
-times-mem : (x : ℕ) (l : List ℕ) → mem x l ≡ true → 0 < times x l
+times-mem : (x : ℕ) (l : List ℕ) → mem x l ≡ true → 0 < times eqb x l
 unfolding any sumBy bit
 times-mem x [] h = absurd (false≢true h)
 times-mem x (y ∷ l) h = go (eqb x y) h (times-mem x l)
   where
-    go : (b : Bool) → b || mem x l ≡ true → (mem x l ≡ true → 0 < times x l) → 0 < bit b + times x l
+    go : (b : Bool) → b || mem x l ≡ true → (mem x l ≡ true → 0 < times eqb x l) → 0 < bit b + times eqb x l
     go true h f = omega arith
     go false h f = omega (arith, f h)
 
-mem-times : (x : ℕ) (l : List ℕ) → 0 < times x l → mem x l ≡ true
+mem-times : (x : ℕ) (l : List ℕ) → 0 < times eqb x l → mem x l ≡ true
 unfolding any sumBy bit
 mem-times x [] h = absurd (omega arith)
 mem-times x (y ∷ l) h = go (eqb x y) h (mem-times x l)
   where
-    go : (b : Bool) → 0 < bit b + times x l → (0 < times x l → mem x l ≡ true) → b || mem x l ≡ true
+    go : (b : Bool) → 0 < bit b + times eqb x l → (0 < times eqb x l → mem x l ≡ true) → b || mem x l ≡ true
     go true h f = refl
     go false h f = f (omega arith)
 
@@ -117,23 +117,23 @@ part-mem g ts h x m = mem-times x ts (omega (arith, times-mem x g m, h (λ y. bi
 
 module _ (joined : ℕ → ℕ → Bool) (both : (x y : ℕ) → joined x y ≡ true → joined y x ≡ true) where
   -- an element of the touched groups
-  touched-covers : (t y : ℕ) (gs : List (List ℕ)) → 0 < sumBy (times y) gs → joined t y ≡ true → mem y (touched (joined t) gs) ≡ true
+  touched-covers : (t y : ℕ) (gs : List (List ℕ)) → 0 < sumBy (times eqb y) gs → joined t y ≡ true → mem y (touched (joined t) gs) ≡ true
   unfolding sumBy touched
   touched-covers t y [] h j = absurd (omega arith)
   touched-covers t y (g ∷ gs) h j = go (mem y g) refl (any (joined t) g) refl (λ l. touched-covers t y gs l j)
     where
-      go : (a : Bool) → mem y g ≡ a → (b : Bool) → any (joined t) g ≡ b → (0 < sumBy (times y) gs → mem y (touched (joined t) gs) ≡ true)
+      go : (a : Bool) → mem y g ≡ a → (b : Bool) → any (joined t) g ≡ b → (0 < sumBy (times eqb y) gs → mem y (touched (joined t) gs) ≡ true)
           → mem y (cond b (g ++ touched (joined t) gs) (touched (joined t) gs)) ≡ true
       go true m true n ih = mem-append y g _ ∙ or-left (mem y g) _ m
       go true m false n ih = absurd (true≢false (sym (any-of (joined t) g y m j) ∙ n))
       go false m true n ih = mem-append y g _ ∙ or-right (mem y g) _ (ih (rest m))
         where
-          rest : mem y g ≡ false → 0 < sumBy (times y) gs
-          rest q = elim (decLt 0 (times y g)) [ yes l ↦ absurd (true≢false (sym (mem-times y g l) ∙ q)) | no l ↦ omega arith ]
+          rest : mem y g ≡ false → 0 < sumBy (times eqb y) gs
+          rest q = elim (decLt 0 (times eqb y g)) [ yes l ↦ absurd (true≢false (sym (mem-times y g l) ∙ q)) | no l ↦ omega arith ]
       go false m false n ih = ih (rest m)
         where
-          rest : mem y g ≡ false → 0 < sumBy (times y) gs
-          rest q = elim (decLt 0 (times y g)) [ yes l ↦ absurd (true≢false (sym (mem-times y g l) ∙ q)) | no l ↦ omega arith ]
+          rest : mem y g ≡ false → 0 < sumBy (times eqb y) gs
+          rest q = elim (decLt 0 (times eqb y g)) [ yes l ↦ absurd (true≢false (sym (mem-times y g l) ∙ q)) | no l ↦ omega arith ]
 
   touched-shut : (p : ℕ → Bool) (ts : List ℕ) (gs : List (List ℕ)) → Each (Group joined ts) gs → (x y : ℕ) → mem y ts ≡ true
       → joined x y ≡ true → mem x (touched p gs) ≡ true → mem y (touched p gs) ≡ true
@@ -255,7 +255,7 @@ module _ (joined : ℕ → ℕ → Bool) (both : (x y : ℕ) → joined x y ≡ 
   bit-true true h = refl
   bit-true false h = absurd (omega arith)
 
-  module _ (ts : List ℕ) (once : (x : ℕ) → times x ts ≤ 1) (f : ℕ → ℕ) (follows : Follows ts f)
+  module _ (ts : List ℕ) (once : (x : ℕ) → times eqb x ts ≤ 1) (f : ℕ → ℕ) (follows : Follows ts f)
       (inner : (h : ℕ → ℕ) → Follows ts h → (x : ℕ) → mem x ts ≡ true → h (f x) ≡ h x) where
     in-group : (g : List ℕ) → Group joined ts g × One f g → sumBy (λ x. bit (eqb (f x) x)) g ≡ 1
     unfolding bit

@@ -7,9 +7,9 @@ use native.Mathlib.Omega.{arith}
 use native.Mathlib.Decide.{ℕ-discrete}
 use borrow.Author.Tests.{eq-eqb, ne-eqb, eqb-true}
 use lib.Dec.{eqb}
-use Rattle.ids.specs.Uses.{bit, sumBy}
+use Rattle.ids.specs.Uses.{bit, sumBy, times}
 use Rattle.ids.specs.Pieces.{any, those}
-use Rattle.ids.specs.Classes.{mem, times}
+use Rattle.ids.specs.Classes.{mem}
 
 module _ (p : ℕ → Bool) where
   pub those-mem : (n x : ℕ) → mem x (those p n) ≡ true → (x < n) × (p x ≡ true)
@@ -37,21 +37,21 @@ module _ (p : ℕ → Bool) where
       go false e (yes q) ih = absurd (true≢false (sym h ∙ ap p q ∙ e))
       go false e (no q) ih = ih (omega arith)
 
-  those-past : (n x : ℕ) → n ≤ x → times x (those p n) ≡ 0
+  those-past : (n x : ℕ) → n ≤ x → times eqb x (those p n) ≡ 0
   unfolding those sumBy bit
   those-past zero x l = refl
   those-past (suc n) x l = go (p n) (those-past n x (omega arith))
     where
-      go : (b : Bool) → times x (those p n) ≡ 0 → times x (cond b (n ∷ those p n) (those p n)) ≡ 0
+      go : (b : Bool) → times eqb x (those p n) ≡ 0 → times eqb x (cond b (n ∷ those p n) (those p n)) ≡ 0
       go false ih = ih
       go true ih = rw (ne-eqb x n (omega arith)) (omega arith)
 
-  pub those-once : (n x : ℕ) → times x (those p n) ≤ 1
+  pub those-once : (n x : ℕ) → times eqb x (those p n) ≤ 1
   unfolding those sumBy bit
   those-once zero x = omega arith
   those-once (suc n) x = go (p n) (those-once n x) (ℕ-discrete x n)
     where
-      go : (b : Bool) → times x (those p n) ≤ 1 → Dec (x ≡ n) → times x (cond b (n ∷ those p n) (those p n)) ≤ 1
+      go : (b : Bool) → times eqb x (those p n) ≤ 1 → Dec (x ≡ n) → times eqb x (cond b (n ∷ those p n) (those p n)) ≤ 1
       go false ih d = ih
       go true ih (yes e) = rw (eq-eqb x n e) (omega (arith, those-past n x (omega arith)))
       go true ih (no e) = rw (ne-eqb x n e) (omega arith)

@@ -32,7 +32,7 @@ ones-length p (k ∷ ks) h = let one : bit (p k) ≡ 1 = rw (h k) refl in omega 
 module _ {K : Type 0} (same : K → K → Bool) (same-eq : (a b : K) → same a b ≡ true → a ≡ b) (same-refl : (a : K) → same a a ≡ true) where
   -- a key that passes stands as often among those that pass, and one that does not never
   pub passing-times : (p : K → Bool) (k : K) (ks : List K) → times same k (passing p ks) ≡ bit (p k) * times same k ks
-  unfolding times sumBy bit passing
+  unfolding sumBy bit passing
   passing-times p k [] = omega arith
   passing-times p k (j ∷ ks) = go (same k j) refl (p j) refl (passing-times p k ks)
     where
@@ -49,7 +49,7 @@ module _ {K : Type 0} (same : K → K → Bool) (same-eq : (a b : K) → same a 
   without x (j ∷ ks) = cond (same x j) ks (j ∷ without x ks)
 
   without-length : (x : K) (ks : List K) → 0 < times same x ks → length ks ≡ 1 + length (without x ks)
-  unfolding times sumBy bit without
+  unfolding sumBy bit without
   without-length x [] l = absurd (omega arith)
   without-length x (j ∷ ks) l = go (same x j) refl (without-length x ks)
     where
@@ -59,7 +59,7 @@ module _ {K : Type 0} (same : K → K → Bool) (same-eq : (a b : K) → same a 
       go false h ih = omega (arith, ih (omega (arith, l, ap bit h)))
 
   without-times : (x k : K) (ks : List K) → 0 < times same x ks → times same k ks ≡ bit (same k x) + times same k (without x ks)
-  unfolding times sumBy bit without
+  unfolding sumBy bit without
   without-times x k [] l = absurd (omega arith)
   without-times x k (j ∷ ks) l = go (same x j) refl (without-times x k ks)
     where
@@ -70,7 +70,7 @@ module _ {K : Type 0} (same : K → K → Bool) (same-eq : (a b : K) → same a 
 
   -- as often, so as long
   pub same-length : (ks js : List K) → ((k : K) → times same k ks ≡ times same k js) → length ks ≡ length js
-  unfolding times sumBy bit
+  unfolding sumBy bit
   same-length [] [] h = refl
   same-length [] (j ∷ js) h = absurd (omega (arith, h j, ap bit (same-refl j)))
   same-length (k ∷ ks) js h =

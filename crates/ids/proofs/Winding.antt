@@ -75,7 +75,6 @@ module _ (ids : List ℕ) where
   bad-count = sym (passing-length isBad edges)
 
   edge-times : (e : Edge) → times sameEdge e edges ≡ bit (ltb 0 (usesOf e))
-  unfolding times
   edge-times e = keys-once sameEdge edge-eq edge-refl e (properEdges ids)
 
   edges-listed : EachOnce (λ e. 0 < usesOf e) edges

@@ -5,7 +5,7 @@ use mathlib.Core.Bool.{Bool, true}
 use mathlib.Core.List.{List, [], _∷_}
 use Prim.Native.Nat.{ℕ}
 use lib.Dec.{eqb}
-use Rattle.ids.specs.Uses.{bit, sumBy}
+use Rattle.ids.specs.Uses.{sumBy, times}
 use Rattle.ids.specs.Pieces.{any}
 
 -- x stands in the list
@@ -22,15 +22,11 @@ abbrev pub Each : (List ℕ → Type 0) → List (List ℕ) → Type 0
 Each P [] = Unit {0}
 Each P (g ∷ gs) = P g × Each P gs
 
--- how often x stands in a list
-abbrev pub times : ℕ → List ℕ → ℕ
-times x l = sumBy (λ y. bit (eqb x y)) l
-
 -- The groups of ts are the classes of the relation that the joins generate: none is empty, each element is in the groups as often as in ts,
 -- a chain leads
 -- between any two of a group, and no chain leads out of one.
 pub record AreClasses (joined : ℕ → ℕ → Bool) (ts : List ℕ) (gs : List (List ℕ)) : Type 0 where
   pub some : Each (λ g. (x : ℕ) × (mem x g ≡ true)) gs
-  pub once : (x : ℕ) → sumBy (times x) gs ≡ times x ts
+  pub once : (x : ℕ) → sumBy (times eqb x) gs ≡ times eqb x ts
   pub tied : Each (λ g. (x y : ℕ) → mem x g ≡ true → mem y g ≡ true → Chain joined ts x y) gs
   pub closed : Each (λ g. (x y : ℕ) → Chain joined ts x y → mem x g ≡ true → mem y g ≡ true) gs

@@ -34,7 +34,7 @@ counting true false z = predℤ z
 
 module _ {K : Type 0} (same : K → K → Bool) where
   -- how often k stands in a list
-  unfoldable pub times : K → List K → ℕ
+  abbrev pub times : K → List K → ℕ
   times k ks = sumBy (λ j. bit (same k j)) ks
 
   -- how often k is used

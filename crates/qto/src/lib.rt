@@ -4,7 +4,7 @@ ghost use lib.ListN.{length};
 ghost use Rattle.refusals.specs.inner.Admitted.{Admitted};
 ghost use Rattle.qto.specs.Compute.{Computes};
 ghost use Rattle.qto.specs.inner.Steps.{Arrangeable, Arranged, Measurable, Measured};
-ghost use Rattle.qto.specs.inner.Steps.{Recordable, RecordedBy, Exact, RecordedIn, Recorded};
+ghost use Rattle.qto.specs.inner.Steps.{Recordable, RecordedBy, Recorded};
 use record::MeshQto;
 use record::Profile;
 pub use record::apply_product_flags;
@@ -126,26 +126,7 @@ fn record_by(
     }
 }
 
-// The full record, in areas of just the words and bytes needed.
-fn record_in(
-    vertices: &[f32],
-    indices: &[u32],
-    unit_scale: f32,
-    work: &mut [u32],
-    raster: &mut [u8],
-    surfaces: &mut [f32],
-) -> MeshQto
-    requires { ⌜ Exact (now vertices) (now indices) «unit_scale» (now work) (now raster) (now surfaces) ⌝ }
-    ensures { λ r. ⌜ RecordedIn (now (vertices .entry)) (now (indices .entry)) «unit_scale» (now (surfaces .entry))
-        r (now (work .exit)) (now (raster .exit)) (now (surfaces .exit)) ⌝ }
-{
-    let b = sums::box_of(vertices);
-    let n = 5 * (indices.len() / 3);
-    let m = measure(vertices, indices, b, unit_scale, &mut work[0..n], surfaces);
-    record_by(vertices, indices, b, unit_scale, m, work, raster)
-}
-
-// The full record: parts of the lent areas from their front.
+// The full record: parts of the lent areas from their front. The rows' index stands where the edge part will stand.
 fn full(
     vertices: &[f32],
     indices: &[u32],
@@ -159,15 +140,19 @@ fn full(
         (now (work .entry)) (now (raster .entry)) (now (surfaces .entry))
         r (now (work .exit)) (now (raster .exit)) (now (surfaces .exit)) ⌝ }
 {
+    let b = sums::box_of(vertices);
+    let n = 5 * (indices.len() / 3);
+    let m = measure(vertices, indices, b, unit_scale, &mut work[0..n], surfaces);
     let words = refusals::work_words(vertices.len(), indices.len());
     let bytes = refusals::raster_bytes();
-    record_in(
+    record_by(
         vertices,
         indices,
+        b,
         unit_scale,
+        m,
         &mut work[0..words],
         &mut raster[0..bytes],
-        surfaces,
     )
 }
 

@@ -68,29 +68,14 @@ fn prism(vertices: &[f32], indices: &[u32], b: Bounds, cube: f32, raster: &mut [
         × (now (raster .exit) ≡ replicate rasterBytes 0) ⌝ }
 {
     let across_z = raster::window_on(Axis::X, Axis::Y, b.xmin, b.xmax, b.ymin, b.ymax);
-    let z = prism_on(
-        vertices,
-        indices,
-        across_z,
-        sums::extent(b.zmin, b.zmax),
-        raster,
-    );
+    let tall = sums::extent(b.zmin, b.zmax);
+    let z = prism_on(vertices, indices, across_z, tall, raster);
     let across_y = raster::window_on(Axis::X, Axis::Z, b.xmin, b.xmax, b.zmin, b.zmax);
-    let y = prism_on(
-        vertices,
-        indices,
-        across_y,
-        sums::extent(b.ymin, b.ymax),
-        raster,
-    );
+    let deep = sums::extent(b.ymin, b.ymax);
+    let y = prism_on(vertices, indices, across_y, deep, raster);
     let across_x = raster::window_on(Axis::Y, Axis::Z, b.ymin, b.ymax, b.zmin, b.zmax);
-    let x = prism_on(
-        vertices,
-        indices,
-        across_x,
-        sums::extent(b.xmin, b.xmax),
-        raster,
-    );
+    let wide = sums::extent(b.xmin, b.xmax);
+    let x = prism_on(vertices, indices, across_x, wide, raster);
     let none = f32::from_bits(0x7f80_0000);
     let least = or_less(or_less(or_less(none, x), y), z);
     or_none(least, cube)

@@ -58,20 +58,7 @@ pub record RecordedBy (vs : List Float) (ids : List ℕ) (u : Float) (m : Measur
   pub work : w′ ≡ replicate (workWords (length vs) (length ids)) 0
   pub raster : r′ ≡ replicate rasterBytes 0
 
--- ---- `record_in`: the same for the mesh's own measures; `full`: in areas that may be longer, as the table admits them
-
-pub record Exact (vs : List Float) (ids : List ℕ) (u : Float) (w r : List ℕ) (s : List Float) : Type 0 where
-  pub mesh : Passes vs ids u
-  pub words : length w ≡ workWords (length vs) (length ids)
-  pub bytes : length r ≡ rasterBytes
-  pub room : surfaceFloats (length ids) ≤ length s
-
-pub record RecordedIn (vs : List Float) (ids : List ℕ) (u : Float) (s : List Float) (q : MeshQto) (w′ r′ : List ℕ)
-    (s′ : List Float) : Type 0 where
-  pub is : q ≡ recordOf vs ids u
-  pub work : w′ ≡ replicate (workWords (length vs) (length ids)) 0
-  pub raster : r′ ≡ replicate rasterBytes 0
-  pub surfaces : s′ ≡ surfacesAfter vs ids u s
+-- ---- `full`: in areas that may be longer, as the table admits them
 
 pub record Recorded (vs : List Float) (ids : List ℕ) (u : Float) (w r : List ℕ) (s : List Float) (q : MeshQto) (w′ r′ : List ℕ)
     (s′ : List Float) : Type 0 where

@@ -28,8 +28,7 @@ glyph-apart c d hc hd e =
       | yes p ↦ elim (decLt d 10) [ yes q ↦ omega (arith, low c p, low d q) | no q ↦ absurd (omega (arith, low c p, high d (omega arith))) ]
       | no p ↦ elim (decLt d 10) [
         | yes q ↦ absurd (omega (arith, high c (omega arith), low d q))
-        | no q
-            ↦ omega (arith, high c (omega arith), high d (omega arith))
+        | no q ↦ omega (arith, high c (omega arith), high d (omega arith))
       ]
     ]
 
@@ -83,12 +82,8 @@ some-digit (suc k) n =
 -- a number of one digit and one of more
 short-long : (k m n : ℕ) → m < 10 → 10 ≤ n → decimalIn (suc k) m ≡ decimalIn (suc k) n → ⊥
 short-long k m n hm hn e =
-    omega (
-      arith,
-      ap length (sym (decimal-short (suc k) m hm) ∙ e ∙ longer k n hn),
-      one-digit (decimalIn k (n / 10)) (glyph (n % 10)),
-      some-digit k (n / 10),
-    )
+    let same = ap length (sym (decimal-short (suc k) m hm) ∙ e ∙ longer k n hn) in
+    omega (arith, same, one-digit (decimalIn k (n / 10)) (glyph (n % 10)), some-digit k (n / 10))
 
 first-same : (m n : ℕ) → m < 10 → n < 10 → glyph m ∷ [] ≡ glyph n ∷ [] → m ≡ n
 first-same m n hm hn e = glyph-apart m n (omega arith) (omega arith) (ap (λ (l : List ℕ). getD l 0 0) e)

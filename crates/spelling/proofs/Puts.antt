@@ -29,12 +29,9 @@ written-both at a b t h =
 written-length : (at : ℕ) (a t : List ℕ) → at + length a ≤ length t → length (written at a t) ≡ length t
 unfolding written
 written-length at a t h =
-    rw (
-      length-append (take at t) (a ++ drop (at + length a) t),
-      length-take-le at t (omega arith),
-      length-append a (drop (at + length a) t),
-      length-drop (at + length a) t,
-    ) (omega arith)
+    let d = drop (at + length a) t in
+    rw (length-append (take at t) (a ++ d), length-take-le at t (omega arith), length-append a d, length-drop (at + length a) t)
+    (omega arith)
 
 module _ {at r : ℕ} {a t t′ : List ℕ} (p : PutsText at a t r t′) where
   pub puts-both : {r′ : ℕ} {b t″ : List ℕ} → PutsText r b t′ r′ t″ → at ≤ length t → PutsText at (a ++ b) t r′ t″

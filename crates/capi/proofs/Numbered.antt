@@ -36,7 +36,8 @@ number-of-answer (Check.Refuse n) q = refl
 number-of-answer Check.Zero q = refl
 number-of-answer Check.Full q = refl
 
-words-of-answer : (c : Check) (clip defect : ℕ) (q : MeshQto) (words : List ℕ) → answerWords clip defect words (answerAt c q) ≡ wordsAt c clip defect q words
+words-of-answer : (c : Check) (clip defect : ℕ) (q : MeshQto) (words : List ℕ)
+    → answerWords clip defect words (answerAt c q) ≡ wordsAt c clip defect q words
 unfolding answerAt wordsAt answerWords
 words-of-answer (Check.Refuse n) clip defect q words = refl
 words-of-answer Check.Zero clip defect q words = refl
@@ -54,8 +55,10 @@ module _ (vs : List Float) (ids : List ℕ) (u : Float) (clip defect : ℕ) (w r
   fit b t e h = ap (λ (f : Bool). cond f (Check.Refuse 5) said) (sym h ∙ ap not e)
 
   -- by what the flags and the table of refusals say
-  by-check : (c : Check) (n : ℕ) (w′ r′ : List ℕ) (s′ : List Float) (words′ : List ℕ) → c ≡ checkFlags clip defect said → n ≡ numberAt c → words′ ≡ wordsAt c clip defect (recordOf vs ids u) words
-      → w′ ≡ areaAt c (cleared (workWords (length vs) (length ids)) w) w → r′ ≡ areaAt c (cleared rasterBytes r) r → s′ ≡ areaAt c (surfacesAfter vs ids u s) s
+  by-check : (c : Check) (n : ℕ) (w′ r′ : List ℕ) (s′ : List Float) (words′ : List ℕ) → c ≡ checkFlags clip defect said
+      → n ≡ numberAt c → words′ ≡ wordsAt c clip defect (recordOf vs ids u) words
+      → w′ ≡ areaAt c (cleared (workWords (length vs) (length ids)) w) w → r′ ≡ areaAt c (cleared rasterBytes r) r
+      → s′ ≡ areaAt c (surfacesAfter vs ids u s) s
       → ComputesNumbered vs ids u clip defect w r s words n w′ r′ s′ words′
   by-check c n w′ r′ s′ words′ e hn hwords hw hr hs =
       record {
@@ -67,13 +70,16 @@ module _ (vs : List Float) (ids : List ℕ) (u : Float) (clip defect : ℕ) (w r
       }
 
   -- where a flag value is none, nothing is done
-  pub flags-refused : (t : Bool) → t ≡ flagsFit clip defect → not t ≡ true → ComputesNumbered vs ids u clip defect w r s words 0x8000_0005 w r s words
+  pub flags-refused : (t : Bool) → t ≡ flagsFit clip defect → not t ≡ true
+      → ComputesNumbered vs ids u clip defect w r s words 0x8000_0005 w r s words
   unfolding numberAt wordsAt areaAt
   flags-refused t e h = by-check (Check.Refuse 5) 0x8000_0005 w r s words (fit true t e h) refl refl refl refl refl
 
-  module _ (a : Answer) (w′ r′ : List ℕ) (s′ : List Float) (t : Bool) (e : t ≡ flagsFit clip defect) (h : not t ≡ false) (made : Computes vs ids u w r s a w′ r′ s′) where
+  module _ (a : Answer) (w′ r′ : List ℕ) (s′ : List Float) (t : Bool) (e : t ≡ flagsFit clip defect) (h : not t ≡ false)
+      (made : Computes vs ids u w r s a w′ r′ s′) where
     -- else the answer is taken over
-    numbered : (n : ℕ) (words′ : List ℕ) → n ≡ answerNumber a → words′ ≡ answerWords clip defect words a → ComputesNumbered vs ids u clip defect w r s words n w′ r′ s′ words′
+    numbered : (n : ℕ) (words′ : List ℕ) → n ≡ answerNumber a → words′ ≡ answerWords clip defect words a
+        → ComputesNumbered vs ids u clip defect w r s words n w′ r′ s′ words′
     numbered n words′ hn hwords =
         by-check said n w′ r′ s′ words′ (fit false t e h)
         (hn ∙ ap answerNumber (made .answers) ∙ number-of-answer said (recordOf vs ids u))
@@ -81,8 +87,8 @@ module _ (vs : List Float) (ids : List ℕ) (u : Float) (clip defect : ℕ) (w r
         (made .work) (made .raster) (made .surfaces)
 
     -- a record fills the words
-    pub filled : (q f : MeshQto) (p : Profile) (words′ : List ℕ) → a ≡ Answer.Record q → p ≡ profileAt defect → f ≡ flagged (eqb clip 1) p q → words′ ≡ wordsOf f
-        → ComputesNumbered vs ids u clip defect w r s words 0 w′ r′ s′ words′
+    pub filled : (q f : MeshQto) (p : Profile) (words′ : List ℕ) → a ≡ Answer.Record q → p ≡ profileAt defect
+        → f ≡ flagged (eqb clip 1) p q → words′ ≡ wordsOf f → ComputesNumbered vs ids u clip defect w r s words 0 w′ r′ s′ words′
     unfolding answerNumber answerWords
     filled q f p words′ ha hp hf hwords =
         numbered 0 words′ (sym (ap answerNumber ha))
@@ -95,5 +101,10 @@ module _ (vs : List Float) (ids : List ℕ) (u : Float) (clip defect : ℕ) (w r
 
 -- any two numbers that the contract allows are equal, and so is what is left in the record's words and in the areas
 pub compute-numbered-one : ComputeNumberedOne
-compute-numbered-one vs ids u clip defect w r s words n m w₁ w₂ r₁ r₂ s₁ s₂ words₁ words₂ x y =
-    (x .number ∙ sym (y .number), x .record-words ∙ sym (y .record-words), x .work ∙ sym (y .work), x .raster ∙ sym (y .raster), x .surfaces ∙ sym (y .surfaces))
+compute-numbered-one vs ids u clip defect w r s words n m w₁ w₂ r₁ r₂ s₁ s₂ words₁ words₂ x y = (
+  x .number ∙ sym (y .number),
+  x .record-words ∙ sym (y .record-words),
+  x .work ∙ sym (y .work),
+  x .raster ∙ sym (y .raster),
+  x .surfaces ∙ sym (y .surfaces),
+)

@@ -8,5 +8,6 @@ use Rattle.listing.specs.Listing.{trustLines, numberLines, prismText, co
 use Rattle.listing.specs.Cube.{cubeRecord, cubeRows, endedLines, cubeText, CubeLines}
 
 pub cube-lines : CubeLines
-unfolding CubeLines cubeRecord cubeRows endedLines cubeText qualityName methodName profileName bit glyph hex bits decimalIn line trustLines numberLines prismText countLines rowLine rowLines headLines listingOf toBits ofBits
+unfolding CubeLines cubeRecord cubeRows endedLines cubeText qualityName methodName profileName bit glyph hex bits decimalIn line
+    trustLines numberLines prismText countLines rowLine rowLines headLines listingOf toBits ofBits
 cube-lines = refl

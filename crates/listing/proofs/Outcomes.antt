@@ -11,7 +11,8 @@ use lib.Ieee.{Float}
 use Rattle.record.specs.declared.MeshQto.{MeshQto}
 use Rattle.listing.specs.declared.Listed.{Listed}
 use Rattle.listing.specs.Listing.{refusedLine}
-use Rattle.listing.specs.Lists.{textBytes, textAreasShort, listedAs, areaWith, listingFor, Lists, ListsRefusal, ListOne, ListRefusalOne}
+use Rattle.listing.specs.Lists.{textBytes, textAreasShort, listedAs, areaWith, listingFor, Lists, ListsRefusal, ListOne}
+use Rattle.listing.specs.Lists.{ListRefusalOne}
 use Rattle.spelling.specs.inner.Steps.{written, PutsText}
 
 -- ---- too short, or not
@@ -33,15 +34,19 @@ module _ (short : Bool) (text area : List ℕ) where
   unfolding listedAs areaWith
   when-short h = rw h (refl, refl)
 
-  when-put : short ≡ false → (r : ℕ) (area′ : List ℕ) → PutsText 0 text area r area′ → (Listed.Length r ≡ listedAs short text) × (area′ ≡ areaWith short text area)
+  when-put : short ≡ false → (r : ℕ) (area′ : List ℕ) → PutsText 0 text area r area′
+      → (Listed.Length r ≡ listedAs short text) × (area′ ≡ areaWith short text area)
   unfolding listedAs areaWith written
-  when-put h r area′ p = rw h (ap Listed.Length (p .place ∙ zero-add (length text)), p .later ∙ ap (λ (n : ℕ). text ++ drop n area) (zero-add (length text)))
+  when-put h r area′ p =
+      rw h (ap Listed.Length (p .place ∙ zero-add (length text)), p .later ∙ ap (λ (n : ℕ). text ++ drop n area) (zero-add (length text)))
 
-module _ (q : MeshQto) (s : List Float) (pieces : ℕ) (area : List ℕ) (short : Bool) (is : short ≡ textAreasShort (q .«surface_count») (length s) (length area)) where
+module _ (q : MeshQto) (s : List Float) (pieces : ℕ) (area : List ℕ) (short : Bool)
+    (is : short ≡ textAreasShort (q .«surface_count») (length s) (length area)) where
   pub list-short : short ≡ true → Lists q s pieces area (Listed.Refused 3) area
   list-short h = let w = when-short _ (listingFor q s pieces) area (sym is ∙ h) in record { answers = w .0; text = w .1 }
 
-  pub list-put : short ≡ false → (r : ℕ) (area′ : List ℕ) → PutsText 0 (listingFor q s pieces) area r area′ → Lists q s pieces area (Listed.Length r) area′
+  pub list-put : short ≡ false → (r : ℕ) (area′ : List ℕ) → PutsText 0 (listingFor q s pieces) area r area′
+      → Lists q s pieces area (Listed.Length r) area′
   list-put h r area′ p = let w = when-put _ (listingFor q s pieces) area (sym is ∙ h) r area′ p in record { answers = w .0; text = w .1 }
 
 module _ (n : ℕ) (area : List ℕ) where
@@ -49,9 +54,11 @@ module _ (n : ℕ) (area : List ℕ) where
   unfolding textBytes
   refusal-short h = let w = when-short _ (refusedLine n) area (lt-ltb (length area) 320 h) in record { answers = w .0; text = w .1 }
 
-  pub refusal-put : 320 ≤ length area → (r : ℕ) (area′ : List ℕ) → PutsText 0 (refusedLine n) area r area′ → ListsRefusal n area (Listed.Length r) area′
+  pub refusal-put : 320 ≤ length area → (r : ℕ) (area′ : List ℕ) → PutsText 0 (refusedLine n) area r area′
+      → ListsRefusal n area (Listed.Length r) area′
   unfolding textBytes
-  refusal-put h r area′ p = let w = when-put _ (refusedLine n) area (le-ltb (length area) 320 h) r area′ p in record { answers = w .0; text = w .1 }
+  refusal-put h r area′ p =
+      let w = when-put _ (refusedLine n) area (le-ltb (length area) 320 h) r area′ p in record { answers = w .0; text = w .1 }
 
 -- ---- any two answers that the contract allows are equal, and so is what is left in the area
 

@@ -1,4 +1,5 @@
--- Numbers that are spelt alike are equal: a digit is known by its glyph, and a number by its digits, from the first or from the last. Assumes nothing.
+-- Numbers that are spelt alike are equal: a digit is known by its glyph, and a number by its digits, from the first or from the last.
+-- Assumes nothing.
 use mathlib.Core.Path.{_≡_, refl, sym, ap, _∙_}
 use mathlib.Core.List.{List, [], _∷_, _++_}
 use Prim.Native.Nat.{ℕ, zero, suc, _+_, _*_, _/_, _%_, _^_, _≤_, _<_}
@@ -25,7 +26,10 @@ glyph-apart : (c d : ℕ) → c < 16 → d < 16 → glyph c ≡ glyph d → c �
 glyph-apart c d hc hd e =
     elim (decLt c 10) [
       | yes p ↦ elim (decLt d 10) [ yes q ↦ omega (arith, low c p, low d q) | no q ↦ absurd (omega (arith, low c p, high d (omega arith))) ]
-      | no p ↦ elim (decLt d 10) [ yes q ↦ absurd (omega (arith, high c (omega arith), low d q)) | no q ↦ omega (arith, high c (omega arith), high d (omega arith)) ]
+      | no p ↦ elim (decLt d 10) [
+        | yes q ↦ absurd (omega (arith, high c (omega arith), low d q))
+        | no q ↦ omega (arith, high c (omega arith), high d (omega arith))
+      ]
     ]
 
 -- numbers with the same last digit in base b, and the same before it
@@ -37,7 +41,8 @@ last-same b v w h l e g =
 -- ---- hex, from the first digit on
 
 next-same : (m v w : ℕ) → v / (m * 16) ≡ w / (m * 16) → glyph (v / m % 16) ≡ glyph (w / m % 16) → v / m ≡ w / m
-next-same m v w e g = last-same 16 (v / m) (w / m) (omega arith) (omega arith) (div-div-eq-div-mul v m 16 ∙ e ∙ sym (div-div-eq-div-mul w m 16)) g
+next-same m v w e g =
+    last-same 16 (v / m) (w / m) (omega arith) (omega arith) (div-div-eq-div-mul v m 16 ∙ e ∙ sym (div-div-eq-div-mul w m 16)) g
 
 pub hex-apart : (v w : ℕ) → v < 2 ^ 32 → w < 2 ^ 32 → hex v ≡ hex w → v ≡ w
 unfolding hex
@@ -77,7 +82,8 @@ some-digit (suc k) n =
 -- a number of one digit and one of more
 short-long : (k m n : ℕ) → m < 10 → 10 ≤ n → decimalIn (suc k) m ≡ decimalIn (suc k) n → ⊥
 short-long k m n hm hn e =
-    omega (arith, ap length (sym (decimal-short (suc k) m hm) ∙ e ∙ longer k n hn), one-digit (decimalIn k (n / 10)) (glyph (n % 10)), some-digit k (n / 10))
+    let same = ap length (sym (decimal-short (suc k) m hm) ∙ e ∙ longer k n hn) in
+    omega (arith, same, one-digit (decimalIn k (n / 10)) (glyph (n % 10)), some-digit k (n / 10))
 
 first-same : (m n : ℕ) → m < 10 → n < 10 → glyph m ∷ [] ≡ glyph n ∷ [] → m ≡ n
 first-same m n hm hn e = glyph-apart m n (omega arith) (omega arith) (ap (λ (l : List ℕ). getD l 0 0) e)
@@ -93,7 +99,8 @@ decimal-apart (suc k) m n hm hn e =
       ]
       | no p ↦ elim (decLt n 10) [
         | yes q ↦ absurd (short-long k n m q (omega arith) (sym e))
-        | no q ↦ (let d = but-last (decimalIn k (m / 10)) (decimalIn k (n / 10)) (glyph (m % 10)) (glyph (n % 10)) (sym (longer k m (omega arith)) ∙ e ∙ longer k n (omega arith)) in
+        | no q ↦ (let d = but-last (decimalIn k (m / 10)) (decimalIn k (n / 10)) (glyph (m % 10)) (glyph (n % 10))
+            (sym (longer k m (omega arith)) ∙ e ∙ longer k n (omega arith)) in
             last-same 10 m n (omega arith) (omega arith) (decimal-apart k (m / 10) (n / 10) (fewer k m hm) (fewer k n hn) (d .0)) (d .1))
       ]
     ]
@@ -109,5 +116,6 @@ no-leading-zero (suc k) n l h e =
     elim (decLt n 10) [
       | yes p ↦ omega (arith, low n p, sym (ap (λ (t : List ℕ). getD t 0 0) (decimal-short (suc k) n p)) ∙ e)
       | no p ↦ no-leading-zero k (n / 10) (omega arith) (fewer k n h)
-          (sym (first-of (decimalIn k (n / 10)) (glyph (n % 10)) (some-digit k (n / 10))) ∙ sym (ap (λ (t : List ℕ). getD t 0 0) (longer k n (omega arith))) ∙ e)
+          (sym (first-of (decimalIn k (n / 10)) (glyph (n % 10)) (some-digit k (n / 10)))
+          ∙ sym (ap (λ (t : List ℕ). getD t 0 0) (longer k n (omega arith))) ∙ e)
     ]

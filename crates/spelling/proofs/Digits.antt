@@ -1,4 +1,5 @@
--- The digits that the code puts are those of the definitions: of hex from the last one on, of decimal the last one behind those before it. Assumes nothing.
+-- The digits that the code puts are those of the definitions: of hex from the last one on, of decimal the last one behind those before it.
+-- Assumes nothing.
 use mathlib.Core.Path.{_≡_, refl, _∙_}
 use mathlib.Core.List.{List, [], _∷_, _++_, append-assoc}
 use Prim.Native.Nat.{ℕ, zero, suc, _+_, _-_, _*_, _/_, _%_, _^_, _≤_, _<_}
@@ -32,7 +33,14 @@ unfolding written
 written-before p b a t h =
     let e : p + 1 + length a ≡ p + suc (length a) = omega arith in
     let i : p < length (take (p + 1) t) = rw (length-take-le (p + 1) t (omega arith)) (omega arith) in
-    rw (e, set-append-left (take (p + 1) t) (a ++ drop (p + suc (length a)) t) p b i, ← take-set-lt (p + 1) t p b (omega arith), add-one p, take-suc-set t p b (omega arith), append-assoc)
+    rw (
+      e,
+      set-append-left (take (p + 1) t) (a ++ drop (p + suc (length a)) t) p b i,
+      ← take-set-lt (p + 1) t p b (omega arith),
+      add-one p,
+      take-suc-set t p b (omega arith),
+      append-assoc,
+    )
 
 digits-next : (i rest : ℕ) (t : List ℕ) → 0 < i → digits (i - 1) (rest / 16) (glyph (rest % 16) ∷ t) ≡ digits i rest t
 unfolding digits
@@ -51,7 +59,8 @@ module _ (at w : ℕ) where
   spelt-none area = record { done = []; eight = refl; spells = eight-digits w; later = puts-none (at + 8) area .later }
 
   module _ {area₀ : List ℕ} {i rest : ℕ} {area : List ℕ} (s : Spelt at w area₀ i rest area) where
-    pub spelt-more : (g : ℕ) → g ≡ glyph (rest % 16) → 0 < i → at + 8 ≤ length area₀ → Spelt at w area₀ (i - 1) (rest / 16) (set area (at + (i - 1)) g)
+    pub spelt-more : (g : ℕ) → g ≡ glyph (rest % 16) → 0 < i → at + 8 ≤ length area₀
+        → Spelt at w area₀ (i - 1) (rest / 16) (set area (at + (i - 1)) g)
     spelt-more g e l h =
         let p : at + i ≡ at + (i - 1) + 1 = omega arith in
         let n = s .eight in
@@ -100,5 +109,6 @@ module _ {at r : ℕ} {t t′ : List ℕ} (k n g : ℕ) where
   pub puts-short : n < 10 → g ≡ glyph n → PutsText at (g ∷ []) t r t′ → PutsText at (decimalIn k n) t r t′
   puts-short h e p = rw (decimal-short k n h, ← e) p
 
-  pub puts-long : {r′ : ℕ} {t″ : List ℕ} → 0 < k → 10 ≤ n → g ≡ glyph (n % 10) → at ≤ length t → PutsText at (decimalIn (k - 1) (n / 10)) t r t′ → PutsText r (g ∷ []) t′ r′ t″ → PutsText at (decimalIn k n) t r′ t″
+  pub puts-long : {r′ : ℕ} {t″ : List ℕ} → 0 < k → 10 ≤ n → g ≡ glyph (n % 10) → at ≤ length t
+      → PutsText at (decimalIn (k - 1) (n / 10)) t r t′ → PutsText r (g ∷ []) t′ r′ t″ → PutsText at (decimalIn k n) t r′ t″
   puts-long l h e room p q = rw (long k n l h, ← e) (puts-both p q room)

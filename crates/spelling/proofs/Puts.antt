@@ -28,7 +28,10 @@ written-both at a b t h =
 
 written-length : (at : ℕ) (a t : List ℕ) → at + length a ≤ length t → length (written at a t) ≡ length t
 unfolding written
-written-length at a t h = rw (length-append (take at t) (a ++ drop (at + length a) t), length-take-le at t (omega arith), length-append a (drop (at + length a) t), length-drop (at + length a) t) (omega arith)
+written-length at a t h =
+    let d = drop (at + length a) t in
+    rw (length-append (take at t) (a ++ d), length-take-le at t (omega arith), length-append a d, length-drop (at + length a) t)
+    (omega arith)
 
 module _ {at r : ℕ} {a t t′ : List ℕ} (p : PutsText at a t r t′) where
   pub puts-both : {r′ : ℕ} {b t″ : List ℕ} → PutsText r b t′ r′ t″ → at ≤ length t → PutsText at (a ++ b) t r′ t″
@@ -51,11 +54,13 @@ pub puts-byte : (at byte : ℕ) (area : List ℕ) → at < length area → PutsT
 unfolding written
 puts-byte at byte area h = record { place = omega arith; later = rw (set-split area at byte h, add-one at) }
 
-pub paste-more : (at : ℕ) (text area area′ : List ℕ) (i : ℕ) → i < length text → at + length text ≤ length area → area′ ≡ paste area at text i
+pub paste-more : (at : ℕ) (text area area′ : List ℕ) (i : ℕ) → i < length text → at + length text ≤ length area
+    → area′ ≡ paste area at text i
     → set area′ (at + i) (getD text i 0) ≡ paste area at text (i + 1)
 paste-more at text area area′ i l h e = rw (e, add-one i) (paste-suc area at text i 0 (omega arith) l)
 
-pub puts-all : (at : ℕ) (text area area′ : List ℕ) (i : ℕ) → i ≡ length text → area′ ≡ paste area at text i → PutsText at text area (at + i) area′
+pub puts-all : (at : ℕ) (text area area′ : List ℕ) (i : ℕ) → i ≡ length text → area′ ≡ paste area at text i
+    → PutsText at text area (at + i) area′
 unfolding written
 puts-all at text area area′ i e h =
     record {

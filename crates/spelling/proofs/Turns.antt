@@ -17,7 +17,8 @@ use Rattle.spelling.specs.inner.Steps.{lineOf, filledAt, filled}
 use Rattle.spelling.proofs.Left.{Left, left-room}
 
 -- a byte that is no mark stays, and so does a mark when no number is left
-byte-stays : (mark : Bool) (b : ℕ) (xs : List Float) (j : ℕ) (rest : List Float → List ℕ) → mark && ltb j (length xs) ≡ false → filledAt mark b (drop j xs) rest ≡ b ∷ rest (drop j xs)
+byte-stays : (mark : Bool) (b : ℕ) (xs : List Float) (j : ℕ) (rest : List Float → List ℕ) → mark && ltb j (length xs) ≡ false
+    → filledAt mark b (drop j xs) rest ≡ b ∷ rest (drop j xs)
 unfolding filledAt
 byte-stays false b xs j rest e = refl
 byte-stays true b xs j rest e = rw (drop-of-length-le xs {i = j} (ltb-false j (length xs) e))
@@ -39,14 +40,18 @@ module _ (t : List ℕ) (i : ℕ) where
   -- ---- line k of several
 
   module _ (n k : ℕ) where
-    line-next : i < length t → lineOf n k (drop i t) ≡ cond (eqb n k) (getD t i 0 ∷ []) [] ++ lineOf (n + boolByte (eqb (getD t i 0) 10)) k (drop (i + 1) t)
+    -- what follows the next byte, which may end the line
+    abbrev behind : List ℕ
+    behind = lineOf (n + boolByte (eqb (getD t i 0) 10)) k (drop (i + 1) t)
+
+    line-next : i < length t → lineOf n k (drop i t) ≡ cond (eqb n k) (getD t i 0 ∷ []) [] ++ behind
     unfolding lineOf
     line-next h = rw (text-next h)
 
-    pub line-put : i < length t → eqb n k ≡ true → lineOf n k (drop i t) ≡ getD t i 0 ∷ lineOf (n + boolByte (eqb (getD t i 0) 10)) k (drop (i + 1) t)
+    pub line-put : i < length t → eqb n k ≡ true → lineOf n k (drop i t) ≡ getD t i 0 ∷ behind
     line-put h e = rw (line-next h, e)
 
-    pub line-passed : i < length t → eqb n k ≡ false → lineOf n k (drop i t) ≡ lineOf (n + boolByte (eqb (getD t i 0) 10)) k (drop (i + 1) t)
+    pub line-passed : i < length t → eqb n k ≡ false → lineOf n k (drop i t) ≡ behind
     line-passed h e = rw (line-next h, e)
 
     pub line-end : length t ≤ i → lineOf n k (drop i t) ≡ []
@@ -59,14 +64,19 @@ module _ (t : List ℕ) (i : ℕ) where
     number-next : j < length xs → drop j xs ≡ getD xs j nan ∷ drop (j + 1) xs
     number-next h = rw (add-one j) (drop-cons xs j nan h)
 
-    pub number-left : eqb (getD t i 0) 35 && ltb j (length xs) ≡ true → j < length xs
+    -- whether the next byte is a mark that has a number
+    abbrev pub marked : Bool
+    marked = eqb (getD t i 0) 35 && ltb j (length xs)
+
+    pub number-left : marked ≡ true → j < length xs
     number-left e = ltb-true j (length xs) (both (eqb (getD t i 0) 35) (ltb j (length xs)) e .1)
 
-    pub form-number : i < length t → eqb (getD t i 0) 35 && ltb j (length xs) ≡ true → filled (drop i t) (drop j xs) ≡ bits (getD xs j nan) ++ filled (drop (i + 1) t) (drop (j + 1) xs)
+    pub form-number : i < length t → marked ≡ true
+        → filled (drop i t) (drop j xs) ≡ bits (getD xs j nan) ++ filled (drop (i + 1) t) (drop (j + 1) xs)
     unfolding filled filledAt
     form-number h e = rw (text-next h, number-next (number-left e), both (eqb (getD t i 0) 35) (ltb j (length xs)) e .0)
 
-    pub form-byte : i < length t → eqb (getD t i 0) 35 && ltb j (length xs) ≡ false → filled (drop i t) (drop j xs) ≡ getD t i 0 ∷ filled (drop (i + 1) t) (drop j xs)
+    pub form-byte : i < length t → marked ≡ false → filled (drop i t) (drop j xs) ≡ getD t i 0 ∷ filled (drop (i + 1) t) (drop j xs)
     unfolding filled
     form-byte h e = rw (text-next h) (byte-stays (eqb (getD t i 0) 35) (getD t i 0) xs j (filled (drop (i + 1) t)) e)
 
@@ -75,6 +85,7 @@ module _ (t : List ℕ) (i : ℕ) where
     form-end h = rw (drop-of-length-le t h)
 
 -- a number has eight digits
-pub number-room : {at end : ℕ} {whole area₀ rest area : List ℕ} → Left at whole area₀ end rest area → (x : Float) (b : List ℕ) → rest ≡ bits x ++ b → end + 8 ≤ length area
+pub number-room : {at end : ℕ} {whole area₀ rest area : List ℕ} → Left at whole area₀ end rest area → (x : Float) (b : List ℕ)
+    → rest ≡ bits x ++ b → end + 8 ≤ length area
 unfolding bits hex
 number-room l x b e = left-room l (bits x) b e

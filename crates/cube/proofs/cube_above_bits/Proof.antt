@@ -7,9 +7,13 @@ use Rattle.ieee.proofs.Patterns.Fields.{exp-is}
 use Rattle.cube.proofs.cube_above_bits.Statement.{statement}
 use Rattle.cube.proofs.cube_above_bits.Tie as tie
 
+-- where all four numbers are there
+abbrev from : tie.After-place2 → tie.Start
+from c = let finite = c .before .before .before .before in finite .before .before .before
+
 sizes-above-requires : tie.Need-sizes-above-requires
 sizes-above-requires c κs =
-    let start = c .before .before .before .before .before .before .before in
+    let start = from c in
     let x = exp-is (start .args .a % 2 ^ 31 / 2 ^ 23) in
     let y = exp-is (start .args .b % 2 ^ 31 / 2 ^ 23) in
     (omega arith, omega arith, omega arith, omega arith)
@@ -25,7 +29,7 @@ returns-3 c = let start = c .before .before .before in infinite-cube (start .arg
 
 returns-4 : tie.Need-returns-4
 returns-4 c =
-    let start = c .before .before .before .before .before .before .before .before in
+    let start = from (c .before) in
     cc (both-finite (start .args .a) (start .args .b) (omega arith) (omega arith))
 
 pub cube-above-bits-spec : {M : Type 1} → statement M

@@ -11,8 +11,11 @@ returns c =
     let u = c .before .before in
     let z = u .before .before .before .before in
     let y = z .before .before .before .before in
-    let x = y .before .before .before .before in
-    (puts-both (x .trust-lines .ensures .0) (puts-both (y .number-lines .ensures .0) (puts-both (z .prism-line .ensures .0) (u .count-lines .ensures .0) (search needs)) (search needs)) (search needs), search needs)
+    let x = y .before .before .before .before in (
+      puts-both (x .trust-lines .ensures .0) (puts-both (y .number-lines .ensures .0)
+          (puts-both (z .prism-line .ensures .0) (u .count-lines .ensures .0) (search needs)) (search needs)) (search needs),
+      search needs,
+    )
 
 pub head-lines-spec : {M : Type 1} → statement M
 head-lines-spec =

@@ -14,7 +14,7 @@ returns : tie.Need-returns
 returns c =
     let k = c .before in
     let a = k .before .before .before .before .args in
-    list-short (a .q) (a .surfaces .now) (a .pieces) (a .text .now) (k .areas-short .result) (k .areas-short .ensures .is) (c .if1 .taken)
+    list-short (a .q) (a .surfaces .now) (a .pieces) (a .text .now) _ (k .areas-short .ensures .is) (c .if1 .taken)
 
 head-lines-requires : tie.Need-head-lines-requires
 head-lines-requires c κs = omega (arith, c .before .before .areas-short .ensures .room (c .before .if1 .left) .1)
@@ -22,23 +22,24 @@ head-lines-requires c κs = omega (arith, c .before .before .areas-short .ensure
 slice-aggregate-row-lines : tie.Need-slice-aggregate-row-lines
 slice-aggregate-row-lines c =
     let h = c .before .before .before .before .before .before in
-    sym (length-take-le _ (h .before .before .before .before .before .args .surfaces .now) (h .before .areas-short .ensures .room (h .if1 .left) .0))
+    sym (length-take-le _ _ (h .before .areas-short .ensures .room (h .if1 .left) .0))
 
 row-lines-requires : tie.Need-row-lines-requires
 row-lines-requires c κs =
     let k = c .before .before .before .before in
     let h = k .before .before in
     let room = h .before .areas-short .ensures .room (h .if1 .left) in
-    (length-take-le _ (h .before .before .before .before .before .args .surfaces .now) (room .0), omega (arith, room .1, k .head-lines .ensures .1, k .head-lines .kept .0))
+    (length-take-le _ _ (room .0), omega (arith, room .1, k .head-lines .ensures .1, k .head-lines .kept .0))
 
 returns-2 : tie.Need-returns-2
 unfolding listingFor listingOf
 returns-2 c =
-    let k = c .before .before .before .before .before .before .before in
+    let rows = c .before .before in
+    let k = rows .before .before .before .before .before in
     let h = k .before .before in
     let a = h .before .before .before .before .before .args in
-    list-put (a .q) (a .surfaces .now) (a .pieces) (a .text .now) (h .before .areas-short .result) (h .before .areas-short .ensures .is) (h .if1 .left) _ _
-    (puts-both (k .head-lines .ensures .0) (c .before .before .row-lines .ensures) (search needs))
+    list-put (a .q) (a .surfaces .now) (a .pieces) (a .text .now) _ (h .before .areas-short .ensures .is) (h .if1 .left) _ _
+    (puts-both (k .head-lines .ensures .0) (rows .row-lines .ensures) (search needs))
 
 pub list-spec : {M : Type 1} → statement M
 list-spec =

@@ -7,7 +7,7 @@ use Rattle.listing.proofs.list_refusal.Statement.{statement}
 use Rattle.listing.proofs.list_refusal.Tie as tie
 
 returns : tie.Need-returns
-returns c = refusal-short (c .before .before .args .n) (c .before .before .args .text .now) (search needs)
+returns c = refusal-short _ _ (search needs)
 
 returns-2 : tie.Need-returns-2
 unfolding refusedLine line

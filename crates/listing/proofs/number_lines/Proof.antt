@@ -11,7 +11,7 @@ unfolding filledAt filled bits hex
 fill-requires c κs = search needs
 
 returns : tie.Need-returns
-returns c = spells-puts (number-lines (c .before .before .before .before .before .before .before .args .q)) (c .before .before .fill .ensures)
+returns c = spells-puts (number-lines _) (c .before .before .fill .ensures)
 
 pub number-lines-spec : {M : Type 1} → statement M
 number-lines-spec =

@@ -29,10 +29,10 @@ loop-again : tie.Need-loop-again Inv-loop μ-loop
 loop-again c =
     let k = c .before .before in
     let l = k .before .before .before .before .before in
-    (search needs, left-less (l .loop .inv .1) _ _ (lines-next (l .before .before .before .args .surfaces .now) (l .loop .i) (search needs)) (k .fill .ensures))
+    (search needs, left-less (l .loop .inv .1) _ _ (lines-next _ (l .loop .i) (search needs)) (k .fill .ensures))
 
 returns : tie.Need-returns Inv-loop μ-loop
-returns c = left-none (c .before .loop .inv .1) (lines-end (c .before .before .before .before .args .surfaces .now) (c .before .loop .i) (search needs))
+returns c = left-none (c .before .loop .inv .1) (lines-end _ (c .before .loop .i) (search needs))
 
 pub row-lines-spec : {M : Type 1} → statement M
 row-lines-spec =

@@ -14,10 +14,10 @@ returns c =
     let y = z .before .before .before .before .before .before in
     let x = y .before .before .before .before .before .before in
     let s = x .before .before .before .before .before in
-    let a = spells-puts (at-number _ (x .before .quality-number .ensures) (quality-line (s .args .q .«mesh_quality»))) (x .put-line .ensures .0) in
-    let b = spells-puts (reliable-line (s .args .q .«volume_reliable»)) (y .put-line2 .ensures .0) in
-    let d = spells-puts (at-number _ (z .before .method-number .ensures) (method-line (s .args .q .«volume_method»))) (z .put-line3 .ensures .0) in
-    let e = spells-puts (at-number _ (w .before .profile-number .ensures) (profile-line (s .args .q .«profile_invalid»))) (w .put-line4 .ensures .0) in
+    let a = spells-puts (at-number _ (x .before .quality-number .ensures) (quality-line _)) (x .put-line .ensures .0) in
+    let b = spells-puts (reliable-line _) (y .put-line2 .ensures .0) in
+    let d = spells-puts (at-number _ (z .before .method-number .ensures) (method-line _)) (z .put-line3 .ensures .0) in
+    let e = spells-puts (at-number _ (w .before .profile-number .ensures) (profile-line _)) (w .put-line4 .ensures .0) in
     (puts-both (a .0) (puts-both (b .0) (puts-both (d .0) (e .0) (search needs)) (search needs)) (search needs), search needs)
 
 pub trust-lines-spec : {M : Type 1} → statement M

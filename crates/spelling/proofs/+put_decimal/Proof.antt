@@ -29,20 +29,13 @@ abbrev Calls : ℕ → lts.Claims
 Calls t = (glyph-reads.Asked, glyph-reads.Learnt, put-byte-reads.Asked, put-byte-reads.Learnt, Below t, self.Post)
 
 module _ (t : ℕ) where
-  glyph-requires : lts.Need-glyph-requires (Calls t) (Given t) self.Post
-  glyph-requires c κs = search needs
-
-  put-byte-requires : lts.Need-put-byte-requires (Calls t) (Given t) self.Post
-  put-byte-requires c κs = search needs
-
-  same-length : lts.Need-same-length (Calls t) (Given t) self.Post
-  same-length c = search needs
-
   returns : lts.Need-returns (Calls t) (Given t) self.Post
   returns c =
       let w = c .before .before in
-      let a = w .before .before .before .before .before .args in
-      (puts-short (a .more) (a .n) _ (search needs) (w .before .glyph .ensures) (w .put-byte .ensures), omega (arith, w .put-byte .ensures .place))
+      let a = w .before .before .before .before .before .args in (
+        puts-short (a .more) (a .n) _ (search needs) (w .before .glyph .ensures) (w .put-byte .ensures),
+        omega (arith, w .put-byte .ensures .place),
+      )
 
   sub-put-decimal : lts.Need-sub-put-decimal (Calls t) (Given t) self.Post
   sub-put-decimal c =
@@ -55,16 +48,11 @@ module _ (t : ℕ) where
       let f = digits-fall (s .args .more) (s .args .n) (search needs) (s .pre .1 .1) in
       (omega (arith, s .pre .0, f .0), (omega (arith, s .pre .1 .0, f .0), f .1))
 
-  glyph-requires-2 : lts.Need-glyph-requires-2 (Calls t) (Given t) self.Post
-  glyph-requires-2 c κs = search needs
-
   put-byte-requires-2 : lts.Need-put-byte-requires-2 (Calls t) (Given t) self.Post
   put-byte-requires-2 c κs =
-      let s = c .before .before .before .before .before .before .before .before in
+      let put = c .before .before .before .before in
+      let s = put .before .before .before .before in
       omega (arith, digits-fall (s .args .more) (s .args .n) (search needs) (s .pre .1 .1) .0)
-
-  same-length-2 : lts.Need-same-length-2 (Calls t) (Given t) self.Post
-  same-length-2 c = search needs
 
   returns-2 : lts.Need-returns-2 (Calls t) (Given t) self.Post
   returns-2 c =
@@ -72,21 +60,12 @@ module _ (t : ℕ) where
       let k = w .before .before .before .before .before in
       let s = k .before .before .before .before in
       let f = digits-fall (s .args .more) (s .args .n) (search needs) (s .pre .1 .1) in (
-        puts-long (s .args .more) (s .args .n) _ (f .0) (search needs) (w .before .glyph2 .ensures) (search needs) (k .put-decimal .ensures .0) (w .put-byte2 .ensures),
+        puts-long (s .args .more) (s .args .n) _ (f .0) (search needs) (w .before .glyph2 .ensures) (search needs)
+            (k .put-decimal .ensures .0) (w .put-byte2 .ensures),
         omega (arith, w .put-byte2 .ensures .place, k .put-decimal .ensures .1, f .0),
       )
 
 pub +put-decimal-spec : {M : Type 1} → statement M
-+put-decimal-spec = close μ λ t. lts.spec (Calls t)
-    (Given t)
-    self.Post
-    (glyph-requires t)
-    (put-byte-requires t)
-    (same-length t)
-    (returns t)
-    (sub-put-decimal t)
-    (put-decimal-requires t)
-    (glyph-requires-2 t)
-    (put-byte-requires-2 t)
-    (same-length-2 t)
-    (returns-2 t)
++put-decimal-spec = close μ λ t. lts.spec (Calls t) (Given t) self.Post
+    (λ c κs. search needs) (λ c κs. search needs) (λ c. search needs) (returns t) (sub-put-decimal t)
+    (put-decimal-requires t) (λ c κs. search needs) (put-byte-requires-2 t) (λ c. search needs) (returns-2 t)

@@ -21,12 +21,15 @@ loop-holds c = (search needs, search needs, paste-zero (c .args .out .now) (c .a
 loop-again : tie.Need-loop-again Inv-loop μ-loop
 loop-again c =
     let s = c .before .before .before in
-    (search needs, search needs, paste-more (s .args .at) (s .args .text .now) (s .args .out .now) (c .before .before .loop .out) (c .before .before .loop .i) (search needs) (s .pre) (c .before .before .loop .inv .2))
+    let l = c .before .before .loop in
+    let more = paste-more (s .args .at) (s .args .text .now) (s .args .out .now) (l .out) (l .i) (search needs) (s .pre) (l .inv .2) in
+    (search needs, search needs, more)
 
 returns : tie.Need-returns Inv-loop μ-loop
 returns c =
     let s = c .before .before in
-    puts-all (s .args .at) (s .args .text .now) (s .args .out .now) (c .before .loop .out) (c .before .loop .i) (omega arith) (c .before .loop .inv .2)
+    let l = c .before .loop in
+    puts-all (s .args .at) (s .args .text .now) (s .args .out .now) (l .out) (l .i) (omega arith) (l .inv .2)
 
 pub put-spec : {M : Type 1} → statement M
 put-spec =

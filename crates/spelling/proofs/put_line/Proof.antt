@@ -14,24 +14,31 @@ use Rattle.spelling.proofs.put_line.Statement.{statement}
 use Rattle.spelling.proofs.put_line.Tie as tie
 
 abbrev Inv-loop : tie.InvT-loop
-Inv-loop out₀ at lines k wanted end₀ line₀ i₀ out end line i = (i ≤ length lines) × (line ≤ i) × Left at (lineOf 0 k lines) out₀ end (lineOf line k (drop i lines)) out
+Inv-loop out₀ at lines k wanted end₀ line₀ i₀ out end line i =
+    (i ≤ length lines) × (line ≤ i) × Left at (lineOf 0 k lines) out₀ end (lineOf line k (drop i lines)) out
 
 abbrev μ-loop : tie.MeasureT-loop
 μ-loop out₀ at lines k wanted end₀ line₀ i₀ out end line i = length lines - i
 
 loop-holds : tie.Need-loop-holds Inv-loop μ-loop
 loop-holds c =
-    let l = line-within 0 (c .args .k) (c .args .lines .now) in
-    (search needs, search needs, left-all (c .args .at) (lineOf 0 (c .args .k) (c .args .lines .now)) (c .args .out .now) (omega (arith, c .pre)))
+    let l = line-within 0 (c .args .k) (c .args .lines .now) in (
+      search needs,
+      search needs,
+      left-all (c .args .at) (lineOf 0 (c .args .k) (c .args .lines .now)) (c .args .out .now)
+          (omega (arith, c .pre)),
+    )
 
 slice-write-out : tie.Need-slice-write-out Inv-loop μ-loop
 slice-write-out c =
     let l = c .before .before .before in
     let a = l .before .args in
-    byte-room (l .loop .inv .2) _ _ (line-put (a .lines .now) (l .loop .i) (l .loop .line) (a .k) (search needs) (eq-eqb _ _ (c .before .if1 .taken)))
+    byte-room (l .loop .inv .2) _ _ (line-put (a .lines .now) (l .loop .i) (l .loop .line) (a .k) (search needs)
+    (eq-eqb _ _ (c .before .if1 .taken)))
 
 add-line : tie.Need-add-line Inv-loop μ-loop
-add-line c = omega (arith, byte-small (eqb (getD (c .before .before .before .before .args .lines .now) (c .before .before .before .loop .i) 0) 10))
+add-line c =
+    omega (arith, byte-small (eqb (getD (c .before .before .before .before .args .lines .now) (c .before .before .before .loop .i) 0) 10))
 
 loop-again : tie.Need-loop-again Inv-loop μ-loop
 loop-again c =
@@ -40,8 +47,10 @@ loop-again c =
       search needs,
       omega (arith, byte-small (eqb (getD (a .lines .now) (l .loop .i) 0) 10)),
       ⊎-elim
-          (λ w. rw (w .2, w .3) (left-byte (l .loop .inv .2) _ _ (line-put (a .lines .now) (l .loop .i) (l .loop .line) (a .k) (search needs) (eq-eqb _ _ (w .0 .taken)))))
-          (λ w. rw (w .1, w .2) (rw (line-passed (a .lines .now) (l .loop .i) (l .loop .line) (a .k) (search needs) (ne-eqb _ _ (w .0 .left))) at (l .loop .inv .2)))
+          (λ w. rw (w .2, w .3) (left-byte (l .loop .inv .2) _ _
+          (line-put (a .lines .now) (l .loop .i) (l .loop .line) (a .k) (search needs) (eq-eqb _ _ (w .0 .taken)))))
+          (λ w. rw (w .1, w .2) (rw (line-passed (a .lines .now) (l .loop .i) (l .loop .line) (a .k) (search needs)
+          (ne-eqb _ _ (w .0 .left))) at (l .loop .inv .2)))
           (c .before .if1 .came),
     )
 

@@ -15,7 +15,7 @@ abbrev μ-loop : tie.MeasureT-loop
 μ-loop out₀ at x rest₀ i₀ out rest i = i
 
 loop-holds : tie.Need-loop-holds Inv-loop μ-loop
-loop-holds c = (search needs, search needs, spelt-none (c .before .before .args .at) (c .bits32 .result) (c .before .before .args .out .now))
+loop-holds c = (search needs, search needs, spelt-none _ (c .bits32 .result) _)
 
 loop-again : tie.Need-loop-again Inv-loop μ-loop
 loop-again c =

@@ -1,5 +1,6 @@
 -- The number of a face net is the definition's, case by case; a magnitude within the ids leaves room for it. Assumes nothing.
 use native.Mathlib.Omega.{arith}
+use Rattle.ids.specs.Lent.{mostEntries}
 use Rattle.ids.proofs.Bits.{byte-bit, byte-small}
 use Prim.Native.Nat.{_≤_}
 use Rattle.chain.specs.Numbers.{faceNetNumber}
@@ -10,7 +11,7 @@ use Rattle.capi.proofs.ids_c.face_net_number.Tie as tie
 use Rattle.capi.proofs.ids_c.face_net_number.Reads as reads
 use Rattle.capi.proofs.ids_c.face_net_number.Lts as lts
 
-small : (c : lts.After-known-told reads.Pre reads.Post) → c .before .answer .given .0 .0 .«max_abs» ≤ 98304
+small : (c : lts.After-known-told reads.Pre reads.Post) → c .before .answer .given .0 .0 .«max_abs» ≤ mostEntries
 unfolding NetSmall
 small c = rw (c .before .answer .given .1) at (c .before .before .before .pre)
 

@@ -6,7 +6,9 @@ use Rattle.capi.proofs.ids_c.mf_is_closed_manifold.Statement.{statement
 use Rattle.capi.proofs.ids_c.mf_is_closed_manifold.Tie as tie
 
 returns : tie.Need-returns
-returns c = rw (c .verdict-number .ensures) (gives-turned verdictNumber _ _ _ _ _ _ _ (c .before .before .before .is-closed-manifold .ensures))
+returns c =
+    rw (c .verdict-number .ensures)
+    (gives-turned verdictNumber _ _ _ _ _ _ _ (c .before .before .before .is-closed-manifold .ensures))
 
 pub mf-is-closed-manifold-spec : {M : Type 1} → statement M
 mf-is-closed-manifold-spec =

@@ -6,7 +6,9 @@ use Rattle.capi.proofs.ids_c.mf_winding_coherent.Statement.{statement}
 use Rattle.capi.proofs.ids_c.mf_winding_coherent.Tie as tie
 
 returns : tie.Need-returns
-returns c = rw (c .verdict-number .ensures) (gives-turned verdictNumber _ _ _ _ _ _ _ (c .before .before .before .winding-coherent .ensures))
+returns c =
+    rw (c .verdict-number .ensures)
+    (gives-turned verdictNumber _ _ _ _ _ _ _ (c .before .before .before .winding-coherent .ensures))
 
 pub mf-winding-coherent-spec : {M : Type 1} → statement M
 mf-winding-coherent-spec =

@@ -8,7 +8,13 @@ returns : tie.Need-returns
 returns c = search flags-refused
 
 returns-2 : tie.Need-returns-2
-returns-2 c = search filled
+returns-2 c =
+    let answer = c .before .before .before .before in
+    let back = answer .before .before in
+    let computed = back .before .before .before .before .before .before in
+    let fit = computed .before .before .before .before in
+    filled _ _ _ _ _ _ _ _ _ _ _ _ _ _ (fit .before .flags-fit .ensures) (fit .if1 .left) (computed .compute .ensures) _ _ _ _
+    (answer .answer .given .1) (c .before .before .profile-of .ensures) (c .before .apply-product-flags .ensures) (c .record-words .ensures)
 
 returns-3 : tie.Need-returns-3
 returns-3 c = search refused

@@ -8,9 +8,10 @@ use native.Mathlib.Omega.{arith}
 use lib.Ieee.{Float, nan, inf, lt}
 use lib.ListN.{length, getD, drop, set}
 use lib.Seq.{drop-cons}
+use Rattle.ieee.specs.Order.{least}
 use Rattle.ieee.specs.Single.{nought}
 use Rattle.rows.specs.declared.PlanarSurface.{PlanarSurface}
-use Rattle.rows.specs.Rows.{rowsOf, scaled, scaledRow, largest, lessAbove, leastAbove, smallest}
+use Rattle.rows.specs.Rows.{rowsOf, scaled, scaledRow, largest, noise, lessAbove, leastAbove, smallest}
 use Rattle.rows.specs.Sorting.{noRow, rowAt}
 
 pub length-scaled : (by : Float) (l : List PlanarSurface) → length (scaled by l) ≡ length l
@@ -64,6 +65,12 @@ largest-first (a ∷ x ∷ y ∷ []) h = absurd (omega arith)
 largest-first (a ∷ x ∷ y ∷ z ∷ t) h = refl
 
 -- ---- the smallest
+
+pub less-taken : (m a : Float) → lt noise a ≡ true → least m a ≡ lessAbove m a
+less-taken m a h = rw h
+
+pub less-kept : (m a : Float) → lt noise a ≡ false → m ≡ lessAbove m a
+less-kept m a h = rw h
 
 pub least-next : (m a : Float) (i : ℕ) (l : List PlanarSurface) → i < length l → rowAt l i .area ≡ a
     → leastAbove (lessAbove m a) (drop (i + 1) l) ≡ leastAbove m (drop i l)

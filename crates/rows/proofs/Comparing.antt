@@ -1,17 +1,16 @@
 -- `precedes` puts plain rows in a strict order: one way only, and what is behind is behind all further ones; two rows of binary32 of which
 -- neither precedes the other are one. Assumes nothing.
 use mathlib.Core.Path.{_≡_, refl, sym, ap, _∙_, subst}
-use mathlib.Core.Bool.{Bool, true, false, not, _&&_, _||_, false≢true}
-use Prim.Native.Nat.{ℕ, zero, suc, _+_, _*_}
+use mathlib.Core.Bool.{Bool, true, false, not, _&&_, _||_, Bool·beq, false≢true}
+use Prim.Native.Nat.{ℕ, zero, suc, _*_}
 use native.Mathlib.Nat.{mul-pos}
 use native.Mathlib.Omega.{arith}
-use borrow.Author.Tests.{ltb-false}
-use lib.Dec.{T}
+use lib.Dec.{T, eqb, eqb→eq}
 use lib.IntN.{ℤ}
-use lib.Ieee.{Float, nan, inf, fin, up, down, below, binary32, lt, le, isNan, fits}
+use lib.Ieee.{Float, nan, inf, fin, up, down, binary32, lt, eq, le, isNan, fits}
 use lib.Ieee.Bits.{is-true}
 use lib.Ieee.Fits.{and-l, and-r, up-pos, down-pos}
-use Rattle.ieee.proofs.Order.Comparison.{le-lt-trans, le-of-not-lt, le-trans, lt-asym, lt-le-trans, lt-not-le}
+use Rattle.ieee.proofs.Order.Comparison.{eq-not-lt, le-lt-trans, le-of-not-lt, le-trans, lt-asym, lt-le-trans, lt-not-le}
 use Rattle.ieee.proofs.Values.OneFloat.{value-unique}
 use Rattle.rows.specs.declared.PlanarSurface.{PlanarSurface}
 use Rattle.rows.specs.Rows.{thenBy, precedes, plainFloat, plainRow}
@@ -138,47 +137,36 @@ no-factor : (m : ℕ) (e d : ℤ) → m * up e * down d ≡ 0 → m ≡ 0
 no-factor zero e d h = refl
 no-factor (suc m) e d h = let p = mul-pos (mul-pos {m = suc m} (omega arith) (up-pos e)) (down-pos d) in absurd (omega arith)
 
-same-sign : (s : Bool) (m : ℕ) (e : ℤ) (n : ℕ) (d : ℤ) → m * up e * down d ≡ n * up d * down e → T (fits binary32 (fin s m e))
-    → T (fits binary32 (fin s n d)) → fin s m e ≡ fin s n d
-same-sign s m e n d h p q =
-    value-unique binary32 (fin s m e) (fin s n d) s (m * up e * down d) (down e * down d) (mul-pos (down-pos e) (down-pos d)) p q
-    (refl, omega arith) (refl, rw h (omega arith))
+-- a zero is no minus
+one-sign : (s : Bool) (m : ℕ) (e : ℤ) (t : Bool) (n : ℕ) (d : ℤ) → T (plainFloat (fin s m e)) → T (plainFloat (fin t n d))
+    → m * up e * down d ≡ n * up d * down e → T (Bool·beq s t || eqb (m * up e * down d) 0) → t ≡ s
+one-sign true m e true n d a b same h = refl
+one-sign false m e false n d a b same h = refl
+one-sign true m e false n d a b same h = sym (plain-signed true m e a (no-factor m e d (eqb→eq _ _ h)))
+one-sign false m e true n d a b same h = plain-signed true n d b (no-factor n d e (sym same ∙ eqb→eq _ _ h))
 
-two-fins : (s : Bool) (m : ℕ) (e : ℤ) (t : Bool) (n : ℕ) (d : ℤ) → T (plainFloat (fin s m e)) → T (plainFloat (fin t n d))
-    → T (fits binary32 (fin s m e)) → T (fits binary32 (fin t n d))
-    → below s (m * up e * down d) t (n * up d * down e) ≡ false → below t (n * up d * down e) s (m * up e * down d) ≡ false
-    → fin s m e ≡ fin t n d
-two-fins false m e false n d a b p q h k =
-    let u = ltb-false (m * up e * down d) (n * up d * down e) h in
-    let v = ltb-false (n * up d * down e) (m * up e * down d) k in
-    same-sign false m e n d (omega arith) p q
-two-fins true m e true n d a b p q h k =
-    let u = ltb-false (n * up d * down e) (m * up e * down d) h in
-    let v = ltb-false (m * up e * down d) (n * up d * down e) k in
-    same-sign true m e n d (omega arith) p q
-two-fins false m e true n d a b p q h k =
-    let u = ltb-false 0 (n * up d * down e + m * up e * down d) k in
-    absurd (false≢true (sym (plain-signed true n d b (no-factor n d e (omega arith)))))
-two-fins true m e false n d a b p q h k =
-    let u = ltb-false 0 (m * up e * down d + n * up d * down e) h in
-    absurd (false≢true (sym (plain-signed true m e a (no-factor m e d (omega arith)))))
+equal : (x y : Float) → T (plainFloat x) → T (plainFloat y) → T (fits binary32 x) → T (fits binary32 y) → T (eq x y) → x ≡ y
+unfolding eq plainFloat
+equal nan y a b p q h = absurd a
+equal (inf s) nan a b p q h = absurd b
+equal (inf s) (fin t n d) a b p q h = absurd h
+equal (inf true) (inf true) a b p q h = refl
+equal (inf true) (inf false) a b p q h = absurd h
+equal (inf false) (inf true) a b p q h = absurd h
+equal (inf false) (inf false) a b p q h = refl
+equal (fin s m e) nan a b p q h = absurd b
+equal (fin s m e) (inf t) a b p q h = absurd h
+equal (fin s m e) (fin t n d) a b p q h =
+    let size = m * up e * down d in
+    let same : size ≡ n * up d * down e = eqb→eq _ _ (and-l (eqb size (n * up d * down e)) _ h) in
+    let sign = one-sign s m e t n d a b same (and-r (eqb size (n * up d * down e)) _ h) in
+    value-unique binary32 (fin s m e) (fin t n d) s size (down e * down d) (mul-pos (down-pos e) (down-pos d)) p q
+    (refl, omega arith) (sign, rw same (omega arith))
 
 one-float : (x y : Float) → T (plainFloat x) → T (plainFloat y) → T (fits binary32 x) → T (fits binary32 y) → lt x y ≡ false
     → lt y x ≡ false → x ≡ y
-unfolding lt plainFloat
-one-float nan y a b p q h k = absurd a
-one-float (inf s) nan a b p q h k = absurd b
-one-float (inf s) (inf t) a b p q h k = ap inf (signs s t h k)
-  where
-    signs : (s t : Bool) → s && not t ≡ false → t && not s ≡ false → s ≡ t
-    signs true true h k = refl
-    signs false false h k = refl
-    signs true false h k = h
-    signs false true h k = sym k
-one-float (inf s) (fin t n d) a b p q h k = absurd (false≢true (sym k ∙ ap not h))
-one-float (fin s m e) nan a b p q h k = absurd b
-one-float (fin s m e) (inf t) a b p q h k = absurd (false≢true (sym h ∙ ap not k))
-one-float (fin s m e) (fin t n d) a b p q h k = two-fins s m e t n d a b p q h k
+one-float x y a b p q h k =
+    equal x y a b p q (rw (eq-not-lt x y (plain-number x a) (plain-number y b), h, k) tt)
 
 record Even (less more rest rest′ : Bool) : Type 0 where
   up : less ≡ false

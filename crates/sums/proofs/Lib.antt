@@ -2,6 +2,7 @@
 -- box is finite, its areas are numbers from zero up, what a triangle adds is bounded, and the unit's powers are above zero and bounded.
 mod Boxes
 pub mod Parts
+mod Slopes
 pub mod Plus
 pub mod Within
 pub mod Roots

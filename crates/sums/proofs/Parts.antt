@@ -83,11 +83,12 @@ unfolding part
 part-in vs o t p q r e at-a at-b at-c = rw (e, at-a, at-b, at-c)
 
 -- the corners of a triangle in range are vertices
-pub corners-are : (vs : List Float) (t : Triangle) → cornersInRange vs t ≡ true
-    → (t .a < vertexCount vs) × (t .b < vertexCount vs) × (t .c < vertexCount vs)
+pub record Corners (vs : List Float) (t : Triangle) : Type 0 where
+  pub a : t .a < vertexCount vs
+  pub b : t .b < vertexCount vs
+  pub c : t .c < vertexCount vs
+
+pub corners-are : (vs : List Float) (t : Triangle) → cornersInRange vs t ≡ true → Corners vs t
 corners-are vs t e =
     let below = corners-below vs t e in
-    let a = below .0 in
-    let b = below .1 in
-    let c = below .2 in
-    (omega (arith, a), omega (arith, b), omega (arith, c))
+    record { a = omega (arith, below .0); b = omega (arith, below .1); c = omega (arith, below .2) }

@@ -128,8 +128,8 @@ module _ (P : Facet → Type 0) (has : (t : List (List Float)) → Small t → P
           let in-range = corners-are vs t r in
           used-has (rebasedCorners vs (origin (box vs)) t) f
           (record {
-            a = rebased-octant vs (t .a) h (in-range .0);
-            b = rebased-octant vs (t .b) h (in-range .1);
-            c = rebased-octant vs (t .c) h (in-range .2);
+            a = rebased-octant vs (t .a) h (in-range .a);
+            b = rebased-octant vs (t .b) h (in-range .b);
+            c = rebased-octant vs (t .c) h (in-range .c);
           })
           e

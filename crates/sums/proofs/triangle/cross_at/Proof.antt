@@ -2,12 +2,12 @@
 use mathlib.Core.Path.{_≡_, sym, _∙_}
 use mathlib.Core.Bool.{true}
 use mathlib.Core.List.{List}
-use Prim.Native.Nat.{_*_, _+_, _<_}
+use Prim.Native.Nat.{_*_, _+_}
 use borrow.Author.Tests.{not-true, not-false}
 use lib.Ieee.{Float}
 use Rattle.ids.specs.Triangles.{Triangle, triangle}
-use Rattle.vertices.specs.Vertices.{vertexCount, cornersInRange}
-use Rattle.sums.proofs.Parts.{part-in, part-out, corners-are, no-part-yet}
+use Rattle.vertices.specs.Vertices.{cornersInRange}
+use Rattle.sums.proofs.Parts.{Corners, part-in, part-out, corners-are, no-part-yet}
 use native.Mathlib.Omega.{arith}
 use borrow.Author.Needs.{needs}
 use Rattle.sums.proofs.triangle.cross_at.Statement.{statement}
@@ -36,8 +36,7 @@ module _ (c : tie.Else2) where
   unfolding triangle
   fits-in = sym (c .before .corners-in-range .ensures) ∙ not-false (c .before .corners-in-range .result) (c .if2 .left)
 
-  vertices-are : (tri (c .before) .a < vertexCount (vs (c .before))) × (tri (c .before) .b < vertexCount (vs (c .before)))
-      × (tri (c .before) .c < vertexCount (vs (c .before)))
+  vertices-are : Corners (vs (c .before)) (tri (c .before))
   vertices-are = corners-are (vs (c .before)) (tri (c .before)) fits-in
 
 returns-2 : tie.Need-returns-2
@@ -52,14 +51,14 @@ cast-corner c = omega (arith, c .before .before .shared-slice-known5 .given (3 *
 
 corner-requires : tie.Need-corner-requires
 unfolding triangle
-corner-requires c κs = (vertices-are c .0, st (c .before) .pre .1)
+corner-requires c κs = (vertices-are c .a, st (c .before) .pre .1)
 
 cast-corner-2 : tie.Need-cast-corner-2
 cast-corner-2 c = omega (arith, c .before .before .before .shared-slice-known5 .given (3 * st (c .before .before) .args .t + 1))
 
 corner-requires-2 : tie.Need-corner-requires-2
 unfolding triangle
-corner-requires-2 c κs = (vertices-are (c .before) .1, st (c .before .before) .pre .1)
+corner-requires-2 c κs = (vertices-are (c .before) .b, st (c .before .before) .pre .1)
 
 cast-corner-3 : tie.Need-cast-corner-3
 cast-corner-3 c =
@@ -67,7 +66,7 @@ cast-corner-3 c =
 
 corner-requires-3 : tie.Need-corner-requires-3
 unfolding triangle
-corner-requires-3 c κs = (vertices-are (c .before .before) .2, st (c .before .before .before) .pre .1)
+corner-requires-3 c κs = (vertices-are (c .before .before) .c, st (c .before .before .before) .pre .1)
 
 returns-3 : tie.Need-returns-3
 unfolding triangle

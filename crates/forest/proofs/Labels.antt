@@ -83,8 +83,7 @@ module _ (f : ℕ → ℕ) (a b : ℕ) where
   at-a =
       elim (ℕ-discrete (f a) (max (f a) (f b))) [
         | yes e ↦ rw (eq-eqb (f a) (max (f a) (f b)) e)
-        | no ne
-            ↦ rw (ne-eqb (f a) (max (f a) (f b)) ne) (omega arith)
+        | no ne ↦ rw (ne-eqb (f a) (max (f a) (f b)) ne) (omega arith)
       ]
 
   at-b : merged f a b b ≡ min (f a) (f b)
@@ -92,8 +91,7 @@ module _ (f : ℕ → ℕ) (a b : ℕ) where
   at-b =
       elim (ℕ-discrete (f b) (max (f a) (f b))) [
         | yes e ↦ rw (eq-eqb (f b) (max (f a) (f b)) e)
-        | no ne
-            ↦ rw (ne-eqb (f b) (max (f a) (f b)) ne) (omega arith)
+        | no ne ↦ rw (ne-eqb (f b) (max (f a) (f b)) ne) (omega arith)
       ]
 
   pub merged-joins : merged f a b a ≡ merged f a b b
@@ -109,8 +107,7 @@ module _ (f : ℕ → ℕ) (a b : ℕ) where
   merged-inner h ea eb e x ex =
       elim (ℕ-discrete (f x) (max (f a) (f b))) [
         | yes k ↦ rw (eq-eqb (f x) (max (f a) (f b)) k) (both ∙ ap h (sym k) ∙ ex)
-        | no ne
-            ↦ rw (ne-eqb (f x) (max (f a) (f b)) ne) ex
+        | no ne ↦ rw (ne-eqb (f x) (max (f a) (f b)) ne) ex
       ]
     where
       both : h (min (f a) (f b)) ≡ h (max (f a) (f b))

@@ -80,8 +80,7 @@ good-planted h =
             down = λ i l. omega (arith, h .parents i l);
             same = λ i l. h .parents i l;
             least = λ i l. omega arith;
-            top =
-                λ i l. h .parents i l;
+            top = λ i l. h .parents i l;
             own = λ i l e. refl;
           };
       inner = λ g c x l. refl;

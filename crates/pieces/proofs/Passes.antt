@@ -159,8 +159,7 @@ joining-next {ids} {t} {u} {n} {c} {d} z w = record { label = p .label; good = p
     done i j la lb le lj si sj e =
         elim (decLt i c) [
           | yes l ↦ p .keeps (i / 3) (j / 3) (z .done i j la l le lj si sj e)
-          | no l
-              ↦ p .holds i j (omega arith) lb le lj si sj e
+          | no l ↦ p .holds i j (omega arith) lb le lj si sj e
         ]
 
 pub joined-all : {ids t : List ℕ} {n c : ℕ} → length t ≡ n → Joining ids t n c → 3 * n ≤ c → Whole ids t

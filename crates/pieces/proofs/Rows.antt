@@ -33,8 +33,7 @@ slots-free free =
       spread =
           record {
             one = λ i j li ui lj uj e. absurd (omega (arith, free i li));
-            reach =
-                λ i j li ui lj d. absurd (omega (arith, free i li));
+            reach = λ i j li ui lj d. absurd (omega (arith, free i li));
           };
       near = λ r l u. absurd (omega (arith, free r l));
       solids = λ r l u. absurd (omega (arith, free r l));
@@ -61,8 +60,7 @@ module _ {ids : List ℕ} {odd limit n : ℕ} {s : ℕ → ℕ} (z : Slots ids o
       record {
         within = (omega (arith, z .corners r lr), omega arith);
         solids = (z .solids r lr used, sc);
-        share =
-            share-key ids (s r - 1) c (q .found lr .holds used);
+        share = share-key ids (s r - 1) c (q .found lr .holds used);
       }
 
   -- where no row was found, or a free one, no row has the key
@@ -84,8 +82,7 @@ entered-same z no-corner fol fresh =
       slots = z;
       rows = λ r l u. refl;
       same = λ e i. refl;
-      more =
-          λ f g. more-none g (λ e sc. absurd (no-corner e sc), fol f);
+      more = λ f g. more-none g (λ e sc. absurd (no-corner e sc), fol f);
       fresh = fresh;
     }
 
@@ -156,8 +153,7 @@ module _ {ids t : List ℕ} {odd limit c r s : ℕ} (w : AtRow ids t odd limit c
         record {
           key-at = key-here;
           mark-at = omega (arith, here);
-          key-off =
-              λ i l ne u. ap (λ (x : ℕ). cornerKey ids (x - 1)) (else i ne);
+          key-off = λ i l ne u. ap (λ (x : ℕ). cornerKey ids (x - 1)) (else i ne);
           mark-off = λ i l ne. else i ne;
         }
 

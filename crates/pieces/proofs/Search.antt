@@ -6,7 +6,7 @@ use native.Mathlib.Omega.{arith}
 use Rattle.table.specs.inner.Rows.{nextRow, dist}
 use Rattle.table.proofs.Search.{dist-here, home-below}
 use Rattle.table.proofs.Turn.{Looking, look-first, turn-ends, turn-through, turn-next}
-use Rattle.pieces.specs.inner.Slots.{cornerHome, Limited, Sought}
+use Rattle.pieces.specs.inner.Slots.{cornerHome, Sought}
 
 pub home-in : (odd n k : ℕ) → 0 < n → cornerHome odd n k < n
 unfolding cornerHome

@@ -31,8 +31,7 @@ module _ (t : List ℕ) (r a b w : ℕ) where
 
   -- a word of another row
   put-off : (x : ℕ) → x ≢ 3 * r → x ≢ 3 * r + 1 → x ≢ 3 * r + 2 → getD (putEdge t r a b w) x 0 ≡ getD t x 0
-  put-off x n₀ n₁ n₂ =
-      getD-set-other l₂ (3 * r + 2) x w 0 n₂ ∙ getD-set-other l₁ (3 * r + 1) x b 0 n₁ ∙ getD-set-other t (3 * r) x a 0 n₀
+  put-off x n₀ n₁ n₂ = getD-set-other l₂ (3 * r + 2) x w 0 n₂ ∙ getD-set-other l₁ (3 * r + 1) x b 0 n₁ ∙ getD-set-other t (3 * r) x a 0 n₀
 
   module _ (fits : 3 * r + 2 < length t) where
     put-0 : getD (putEdge t r a b w) (3 * r) 0 ≡ a
@@ -41,8 +40,7 @@ module _ (t : List ℕ) (r a b w : ℕ) where
         ∙ getD-set-same t (3 * r) a 0 (omega arith)
 
     put-1 : getD (putEdge t r a b w) (3 * r + 1) 0 ≡ b
-    put-1 =
-        getD-set-other l₂ (3 * r + 2) (3 * r + 1) w 0 (omega arith) ∙ getD-set-same l₁ (3 * r + 1) b 0 (simp length-set (omega arith))
+    put-1 = getD-set-other l₂ (3 * r + 2) (3 * r + 1) w 0 (omega arith) ∙ getD-set-same l₁ (3 * r + 1) b 0 (simp length-set (omega arith))
 
     put-2 : getD (putEdge t r a b w) (3 * r + 2) 0 ≡ w
     put-2 = getD-set-same l₂ (3 * r + 2) w 0 (simp length-set (omega arith))

@@ -134,8 +134,7 @@ module _ {K : Type 0} (same : K → K → Bool) (same-eq : (a b : K) → same a 
             key-at = b .key-at;
             mark-at = omega (arith, b .cnt-at);
             key-off = λ i l ne u. b .key-off i ne;
-            mark-off =
-                λ i l. b .cnt-off i;
+            mark-off = λ i l. b .cnt-off i;
           }
 
       pub step : MeansUses same n home key′ cnt′ up′ (es ++ x ∷ [])

@@ -1,7 +1,7 @@
 -- `chain::most_cohere` meets its contract, by what it means: whether there are edges, and whether fifty times the incoherent are more.
 -- Assumes nothing.
 use mathlib.Core.Path.{_≡_, _∙_}
-use Prim.Native.Nat.{_*_, _≤_, _<_}
+use Prim.Native.Nat.{_*_, _<_}
 use native.Mathlib.Decide.{decLt, decLe}
 use native.Mathlib.Omega.{arith}
 use borrow.Author.Needs.{needs}

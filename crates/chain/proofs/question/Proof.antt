@@ -1,11 +1,9 @@
 -- `chain::question` meets its contract: it gives the one refusal, or the answer over the words lent. Assumes nothing.
-use mathlib.Core.Path.{sym}
-use Prim.Native.Nat.{_*_, _≤_}
+use Prim.Native.Nat.{_*_}
 use borrow.Author.Needs.{needs}
-use lib.ListN.{length, take}
+use lib.ListN.{length}
 use Rattle.ids.proofs.Lent.{gives-refusal}
-use Rattle.table.specs.inner.Words.{Lends}
-use Rattle.table.proofs.Words.{fits, lends, answered}
+use Rattle.table.proofs.Words.{Admits, admits, answered}
 use Rattle.chain.specs.declared.Verdict.the-variants.{Answer}
 use Rattle.chain.proofs.question.Statement.{statement}
 use Rattle.chain.proofs.question.Tie as tie
@@ -13,31 +11,18 @@ use Rattle.chain.proofs.question.Tie as tie
 returns : tie.Need-returns
 returns c = gives-refusal _ _ _ _ _ (c .before .refusal .result) (c .before .refusal .ensures) (c .if1 .taken)
 
--- nothing is refused
 module _ (c : tie.Else1) where
   abbrev st : tie.Start
   st = c .before .before .before .before
 
-  fit : 4 * length (st .args .ids .now) ≤ length (st .args .work .now)
-  fit = fits _ (st .args .ids .now) (st .args .work .now) (c .before .refusal .ensures) (c .if1 .left)
-
-  lent : Lends (4 * length (st .args .ids .now)) (st .args .ids .now) (take (4 * length (st .args .ids .now)) (st .args .work .now))
-  lent = lends _ _ _ (c .before .refusal .ensures) (c .if1 .left)
-
-slice-aggregate-question-in : tie.Need-slice-aggregate-question-in
-slice-aggregate-question-in c = sym (lent (c .before) .long)
-
-question-in-requires : tie.Need-question-in-requires
-question-in-requires c κs = lent (c .before)
+  fine : Admits (4 * length (st .args .ids .now)) (st .args .ids .now) (st .args .work .now)
+  fine = admits _ (st .args .ids .now) (st .args .work .now) (c .before .refusal .ensures) (c .if1 .left)
 
 returns-2 : tie.Need-returns-2
-returns-2 c =
-    let k = c .before .before in
-    let test = k .before .before in
-    answered _ _ _ (test .before .refusal .ensures) (test .if1 .left) Answer (k .question-in .ensures)
+returns-2 c = let k = c .before .before in answered Answer (fine (k .before .before)) (k .question-in .ensures)
 
 pub question-spec : {M : Type 1} → statement M
 question-spec =
     tie.close
-    (tie.spec (λ c. search needs) (λ c κs. search needs) returns fit slice-aggregate-question-in question-in-requires
-    (λ c. search needs) returns-2)
+    (tie.spec (λ c. search needs) (λ c κs. search needs) returns (λ c. fine c .fits) (λ c. fine (c .before) .whole)
+    (λ c κs. fine (c .before) .lends) (λ c. search needs) returns-2)

@@ -1,7 +1,7 @@
 -- `faces::gather_behind` meets its contract: turn by turn the front means the uses of the first t triangles, by the laws of `Summing`,
 -- and the ids stay.
 -- Assumes nothing.
-use mathlib.Core.Path.{_≡_, sym, _∙_}
+use mathlib.Core.Path.{sym, _∙_}
 use Prim.Native.Nat.{_-_, _≤_}
 use native.Mathlib.Omega.{arith}
 use borrow.Author.Needs.{needs}

@@ -3,7 +3,7 @@ use mathlib.Core.Path.{_≡_, _∙_}
 use native.Mathlib.Omega.{arith}
 use borrow.Author.Needs.{needs}
 use lib.ListN.{length}
-use Rattle.pieces.specs.inner.Slots.{Emptied, SlotsReady}
+use Rattle.pieces.specs.inner.Slots.{Emptied}
 use Rattle.pieces.proofs.Joins.{good-kept, labelled-then}
 use Rattle.pieces.proofs.Passes.{swept}
 use Rattle.pieces.proofs.pass.Statement.{statement}

@@ -1,9 +1,8 @@
 -- `pieces::pieces_in` meets its contract. Assumes nothing.
-use mathlib.Core.Path.{_≡_, ap, _∙_}
+use mathlib.Core.Path.{ap, _∙_}
 use mathlib.Core.List.{List}
 use Prim.Native.Nat.{ℕ}
 use borrow.Author.Needs.{needs}
-use lib.ListN.{length}
 use Rattle.ids.specs.Lent.{cleared}
 use Rattle.table.proofs.Words.{leaves}
 use Rattle.pieces.proofs.Roots.{answers}

@@ -11,8 +11,7 @@ find-requires c κs =
     record {
       space = st .pre .space;
       starts = c .before .home .ensures .1;
-      free =
-          room-free (st .args .n) (st .args .work .now) (st .pre .room);
+      free = room-free (st .args .n) (st .args .work .now) (st .pre .room);
     }
 
 module _ (c : tie.After-weight) where

@@ -79,6 +79,7 @@ sign-bit t b l =
 pub by-pattern : (f : Format) (w : ℕ) → prec f < w → (y : Float) (b n : ℕ) → ofBits f b ≡ y → b < 2 * top f → field f b < low f + 1
     → n ≡ toWhole half (size-of f b) (2 ^ low f) → (2 * n - min (b / top f) n ≡ coded (toSigned w (halfAway f y))) × (n < 2 ^ w)
 by-pattern f w wide y b n is l h r =
-    let s = leb (top f) b in
-    (ap (λ (z : ℕ). 2 * n - min z n) (sign-bit (top f) b l) ∙ coded-signed s n ∙ ap coded (nearest-signed f w wide y b is n h r s refl),
-    few f w wide y b is n h r)
+    let s = leb (top f) b in (
+      ap (λ (z : ℕ). 2 * n - min z n) (sign-bit (top f) b l) ∙ coded-signed s n ∙ ap coded (nearest-signed f w wide y b is n h r s refl),
+      few f w wide y b is n h r,
+    )

@@ -4,14 +4,14 @@ use mathlib.Core.Path.{_≡_, refl, sym, ap, _∙_}
 use mathlib.Core.Logic.{_≢_}
 use mathlib.Core.Bool.{true}
 use mathlib.Core.List.{List}
-use Prim.Native.Nat.{ℕ, _+_, _-_, _*_, _/_, _≤_, _<_}
+use Prim.Native.Nat.{ℕ, _+_, _-_, _*_, _<_}
 use native.Mathlib.Omega.{arith}
 use native.Mathlib.Decide.{ℕ-discrete}
 use lib.Ieee.{Float}
-use lib.ListN.{length, getD}
+use lib.ListN.{length}
 use Rattle.table.specs.Rows.{Found}
 use Rattle.slots.specs.declared.Code.{Code}
-use Rattle.slots.specs.inner.Slots.{markIn, entryKey, held, heldKey, codeHome, Searchable, Claimed}
+use Rattle.slots.specs.inner.Slots.{markIn, entryKey, heldKey, codeHome, Searchable, Claimed}
 use Rattle.slots.proofs.Entries.{entries-none, entries-past, entries-searchable, entries-claimed, others, held-now, held-kept}
 use Rattle.vertices.specs.Vertices.{vertexCount}
 use Rattle.cells.specs.Cells.{named}
@@ -85,9 +85,9 @@ module _ (n : ℕ) (vs : List Float) (inv : Float) (t : List ℕ) (v r : ℕ) (l
       holds = λ i l p. elim (ℕ-discrete i r) [
         | yes q ↦ rw q (here ∙ ap (vertexCode vs inv) (sym own))
         | no q ↦ (
-          let u : 0 < markIn true t i = before i l q p in
-          there i l q u ∙ was .holds i l u ∙ ap (λ (x : ℕ). vertexCode vs inv (x - 1)) (sym (c .mark-off i l q))
-        )
+            let u : 0 < markIn true t i = before i l q p in
+            there i l q u ∙ was .holds i l u ∙ ap (λ (x : ℕ). vertexCode vs inv (x - 1)) (sym (c .mark-off i l q))
+            )
       ];
       names = λ i l p. elim (ℕ-discrete i r) [
         | yes q ↦ rw (q, own) is-own
@@ -96,10 +96,10 @@ module _ (n : ℕ) (vs : List Float) (inv : Float) (t : List ℕ) (v r : ℕ) (l
       has = λ j l. elim (ℕ-discrete j v) [
         | yes q ↦ (r, f .within, omega (arith, c .mark-at), rw q here)
         | no q ↦ (
-          let b = was .has j (omega arith) in
-          let ne : b .0 ≢ r = (λ z. omega (arith, b .2, free, ap (markIn true t) z)) in
-          (b .0, b .1, omega (arith, c .mark-off (b .0) (b .1) ne, b .2), there (b .0) (b .1) ne (b .2) ∙ b .3)
-        )
+            let b = was .has j (omega arith) in
+            let ne : b .0 ≢ r = (λ z. omega (arith, b .2, free, ap (markIn true t) z)) in
+            (b .0, b .1, omega (arith, c .mark-off (b .0) (b .1) ne, b .2), there (b .0) (b .1) ne (b .2) ∙ b .3)
+            )
       ];
     }
 

@@ -78,7 +78,7 @@ map-last m n ids t u i fits l c =
         let long = c .long in
         let e : m + (j - m) ≡ j = omega arith in
         let w : getD (take m t ++ mapped n t ids) (m + (j - m)) 0 ≡ getD (mapped n t ids) (j - m) 0 =
-            rw front at (getD-append-add (take m t) (mapped n t ids) (j - m) 0) in
+        rw front at (getD-append-add (take m t) (mapped n t ids) (j - m) 0) in
         rw e at (c .done (j - m) (omega (arith, c .within)) ∙ sym (mapped-at n t ids (j - m) (omega arith)) ∙ sym w)
 
 -- ---- what they are
@@ -128,8 +128,8 @@ weld-last vs inv ids g b u w x s =
     let long : length u ≡ 8 * n + length ids = ap length (s .laid) ∙ length-append g b ∙ omega (arith, s .table-long, s .behind-long) in
     let front : length (take (8 * n) u) ≡ 8 * n = length-take-le (8 * n) u (omega arith) in
     let names : (j : ℕ) → j < n → nameIn u j ≡ named vs inv j = λ j l.
-        ap (λ (y : List ℕ). getD y j 0 / 65536) (s .laid)
-        ∙ ap (λ (y : ℕ). y / 65536) (List·getD-append g b 0 j (omega (arith, s .table-long))) ∙ s .welds .sent j l in
+    ap (λ (y : List ℕ). getD y j 0 / 65536) (s .laid)
+    ∙ ap (λ (y : ℕ). y / 65536) (List·getD-append g b 0 j (omega (arith, s .table-long))) ∙ s .welds .sent j l in
     s .wiped ∙ ap (cleared (8 * n)) (s .by-table) ∙ cleared-front (8 * n) (take (8 * n) u) (mapped n u ids) front
     ∙ ap (λ (l : List ℕ). replicate (8 * n) 0 ++ l) (mapped-weld vs inv u ids names)
 

@@ -18,9 +18,11 @@ abbrev μ-loop : tie.MeasureT-loop
 loop-again : tie.Need-loop-again Inv-loop μ-loop
 loop-again c =
     let e = c .before .before in
-    let w = e .before .before .before .loop .inv in
-    (omega arith, omega (arith, e .enter .kept),
-    record { few = w .2 .few; words = omega (arith, e .enter .kept, w .2 .words); welds = e .enter .ensures })
+    let w = e .before .before .before .loop .inv in (
+      omega arith,
+      omega (arith, e .enter .kept),
+      record { few = w .2 .few; words = omega (arith, e .enter .kept, w .2 .words); welds = e .enter .ensures },
+    )
 
 returns : tie.Need-returns Inv-loop μ-loop
 returns c =

@@ -22,8 +22,11 @@ returns-4 c =
     let y = z .before in
     let x = y .before in
     let a = x .before .args in
-    rw (c .before .before .pattern-code .ensures (a .nx) (x .tenfold .ensures .0), c .before .pattern-code2 .ensures (a .ny) (y .tenfold2 .ensures .0),
-    c .pattern-code3 .ensures (a .nz) (z .tenfold3 .ensures .0))
+    rw (
+      c .before .before .pattern-code .ensures (a .nx) (x .tenfold .ensures .0),
+      c .before .pattern-code2 .ensures (a .ny) (y .tenfold2 .ensures .0),
+      c .pattern-code3 .ensures (a .nz) (z .tenfold3 .ensures .0),
+    )
 
 pub code-of-normal-spec : {M : Type 1} → statement M
 code-of-normal-spec =

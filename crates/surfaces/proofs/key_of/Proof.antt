@@ -23,9 +23,14 @@ decoded-requires-3 c κs = c .before .before .pre .2
 returns : tie.Need-returns
 unfolding keyCode normalKey
 returns c = λ x y z e.
-    rw (c .before .before .decoded .ensures (tenths x) (ap (λ (l : Code). l .x) e),
-    c .before .decoded2 .ensures (tenths y) (ap (λ (l : Code). l .y) e),
-    c .decoded3 .ensures (tenths z) (ap (λ (l : Code). l .z) e), tenths-kept x, tenths-kept y, tenths-kept z)
+    rw (
+      c .before .before .decoded .ensures (tenths x) (ap (λ (l : Code). l .x) e),
+      c .before .decoded2 .ensures (tenths y) (ap (λ (l : Code). l .y) e),
+      c .decoded3 .ensures (tenths z) (ap (λ (l : Code). l .z) e),
+      tenths-kept x,
+      tenths-kept y,
+      tenths-kept z,
+    )
 
 pub key-of-spec : {M : Type 1} → statement M
 key-of-spec =

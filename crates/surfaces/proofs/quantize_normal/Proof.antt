@@ -9,8 +9,14 @@ returns : tie.Need-returns
 unfolding normalKey
 returns c =
     let a = c .before .before .before .args in
-    rw (c .before .before .tenths .ensures, c .before .tenths2 .ensures, c .tenths3 .ensures,
-    tenths-kept (a .nx), tenths-kept (a .ny), tenths-kept (a .nz))
+    rw (
+      c .before .before .tenths .ensures,
+      c .before .tenths2 .ensures,
+      c .tenths3 .ensures,
+      tenths-kept (a .nx),
+      tenths-kept (a .ny),
+      tenths-kept (a .nz),
+    )
 
 pub quantize-normal-spec : {M : Type 1} → statement M
 quantize-normal-spec =

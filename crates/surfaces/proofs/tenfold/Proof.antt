@@ -12,9 +12,10 @@ use Rattle.surfaces.proofs.tenfold.Tie as tie
 returns : tie.Need-returns
 returns c =
     let x = c .before .args .c in
-    let fit = mul-fits binary32 x ten in
-    (ap (ofBits binary32) (c .bits32 .ensures) ∙ ofBits-toBits binary32 (x ⊗ ten) fit,
-    rw (c .bits32 .ensures) (toBits-lt binary32 (x ⊗ ten) fit))
+    let fit = mul-fits binary32 x ten in (
+      ap (ofBits binary32) (c .bits32 .ensures) ∙ ofBits-toBits binary32 (x ⊗ ten) fit,
+      rw (c .bits32 .ensures) (toBits-lt binary32 (x ⊗ ten) fit),
+    )
 
 pub tenfold-spec : {M : Type 1} → statement M
 tenfold-spec =

@@ -4,14 +4,14 @@ use mathlib.Core.Path.{_≡_, refl, sym, ap, _∙_}
 use mathlib.Core.Logic.{_≢_}
 use mathlib.Core.Bool.{true}
 use mathlib.Core.List.{List}
-use Prim.Native.Nat.{ℕ, _+_, _-_, _*_, _/_, _≤_, _<_}
+use Prim.Native.Nat.{ℕ, _+_, _-_, _*_, _<_}
 use native.Mathlib.Omega.{arith}
 use native.Mathlib.Decide.{ℕ-discrete}
 use lib.Ieee.{Float}
-use lib.ListN.{length, getD}
+use lib.ListN.{length}
 use Rattle.table.specs.inner.Rows.{Found}
 use Rattle.slots.specs.declared.Code.{Code}
-use Rattle.slots.specs.inner.Slots.{markIn, entryKey, held, heldKey, codeHome, Searchable, Claimed}
+use Rattle.slots.specs.inner.Slots.{markIn, entryKey, heldKey, codeHome, Searchable, Claimed}
 use Rattle.slots.proofs.Entries.{entries-none, entries-past, entries-searchable, entries-claimed, others, held-now, held-kept}
 use Rattle.vertices.specs.Vertices.{vertexCount}
 use Rattle.cells.specs.Cells.{named}

@@ -1,7 +1,7 @@
 // The cells of a weld: which cell a vertex is in, and a table in lent words of the first vertex in each. Internal: `weld` asks it, and
 // `surfaces` has an integer as an unsigned number from here.
 ghost use mathlib.Core.Path.{_≡_};
-ghost use Prim.Native.Nat.{_+_, _-_, _*_, _/_, _%_, _^_, _≤_, _<_, min};
+ghost use Prim.Native.Nat.{_+_, _-_, _*_, _/_, _%_, _^_, _<_, min};
 ghost use lib.ListN.{length, getD, set};
 ghost use Rattle.vertices.specs.Vertices.{vertexCount};
 ghost use Rattle.cells.specs.Cells.{cellOf};

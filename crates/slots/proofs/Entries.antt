@@ -58,7 +58,8 @@ module _ (wide : Bool) (n : ℕ) (t : List ℕ) (e : ℕ) (m : Entries n (markIn
       spread =
           spread-step (2 * n) (codeHome n) (heldKey wide n t) (markIn wide t) k r (home-in n k (omega (arith, f .within)))
           (m .spread) f (heldKey wide n w) (markIn wide w) written;
-      few = omega (arith, m .few, used-more (markIn wide t) (markIn wide w) (2 * n) r (f .within) (c .mark-off) (omega (arith, c .mark-at)));
+      few =
+          omega (arith, m .few, used-more (markIn wide t) (markIn wide w) (2 * n) r (f .within) (c .mark-off) (omega (arith, c .mark-at)));
       within = λ i l. elim (ℕ-discrete i r) [
         | yes q ↦ rw q (omega (arith, c .mark-at))
         | no q ↦ omega (arith, c .mark-off i l q, m .within i l)

@@ -36,7 +36,8 @@ three-set t at a b c =
     rw (one, two)
 
 pub six-set : (t : List ℕ) (at a b c d e f : ℕ)
-    → set (set (set (set (set (set t at a) (at + 1) b) (at + 2) c) (at + 3) d) (at + 4) e) (at + 5) f ≡ sets t at (a ∷ b ∷ c ∷ d ∷ e ∷ f ∷ [])
+    → set (set (set (set (set (set t at a) (at + 1) b) (at + 2) c) (at + 3) d) (at + 4) e) (at + 5) f
+    ≡ sets t at (a ∷ b ∷ c ∷ d ∷ e ∷ f ∷ [])
 six-set t at a b c d e f =
     let three : at + 3 ≡ suc (suc (suc at)) = omega arith in
     let four : at + 4 ≡ suc (suc (suc (suc at))) = omega arith in

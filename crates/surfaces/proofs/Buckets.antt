@@ -51,7 +51,8 @@ module _ (k : Key) (a : Float) where
       let three : 4 * n + 3 ≡ suc (suc (suc (4 * n))) = omega arith in
       rw (one, two, three)
 
-  pub row-more : (bs : List Bucket) (s : List Float) → let u = flatten (rows bs) ++ drop (4 * length bs) s in let more = bs ++ fresh k a ∷ [] in
+  pub row-more : (bs : List Bucket) (s : List Float)
+      → let u = flatten (rows bs) ++ drop (4 * length bs) s in let more = bs ++ fresh k a ∷ [] in
       4 * length bs + 4 ≤ length u → withRow u (length bs) k a ≡ flatten (rows more) ++ drop (4 * length more) s
   row-more bs s room =
       let b : Bucket = fresh k a in

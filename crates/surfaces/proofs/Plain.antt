@@ -31,7 +31,8 @@ sixteenth = tt
 
 round-above : (a c : ℕ) → 0 < c → c ≤ 16 * a → T (above (round binary32 false a c))
 round-above a c some l =
-    above-of-le (round binary32 false 1 16) (round binary32 false a c) sixteenth (round-mono binary32 1 16 a c (omega arith) some (omega arith))
+    above-of-le (round binary32 false 1 16) (round binary32 false a c) sixteenth
+    (round-mono binary32 1 16 a c (omega arith) some (omega arith))
 
 -- ---- a float of 1 at least, over 10
 

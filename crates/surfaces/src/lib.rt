@@ -1,7 +1,7 @@
 // The surface rows while they are summed: the key of a normal, and its row, found by an index in lent words. Internal: `walk` asks it.
 ghost use mathlib.Core.Path.{_≡_};
 ghost use mathlib.Core.Bool.{false};
-ghost use Prim.Native.Nat.{_+_, _*_, _/_, _%_, _^_, _≤_, _<_};
+ghost use Prim.Native.Nat.{_+_, _*_, _/_, _%_, _^_, _<_};
 ghost use lib.Ieee.{Float, nan, binary32, ofBits};
 ghost use lib.IntN.{ℤ};
 ghost use lib.ListN.{length, getD, set};

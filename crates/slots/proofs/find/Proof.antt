@@ -11,8 +11,11 @@ returns : tie.Need-returns
 unfolding codeHome
 returns c =
     let a = c .before .before .before .before .args in
-    let starts : c .before .home .result ≡ codeHome (a .n) (a .k) = c .before .home .ensures .0 ∙ ap (homeRow (2 * a .n)) (c .before .before .hash .ensures) in
-    subst (λ (s : ℕ). Found (2 * a .n) s (heldKey (a .wide) (a .n) (a .part .now)) (markIn (a .wide) (a .part .now)) (a .k) (c .find-from .result)) starts (c .find-from .ensures)
+    let t = a .part .now in
+    let starts : c .before .home .result ≡ codeHome (a .n) (a .k) =
+    c .before .home .ensures .0 ∙ ap (homeRow (2 * a .n)) (c .before .before .hash .ensures) in
+    subst (λ (s : ℕ). Found (2 * a .n) s (heldKey (a .wide) (a .n) t) (markIn (a .wide) t) (a .k) (c .find-from .result)) starts
+    (c .find-from .ensures)
 
 pub find-spec : {M : Type 1} → statement M
 find-spec =

@@ -1,6 +1,7 @@
--- `slots::find_from` meets its contract. The invariant: every slot that was passed holds another key. It ends, since some slot is free. Assumes nothing.
+-- `slots::find_from` meets its contract. The invariant: every slot that was passed holds another key. It ends, since some slot is free.
+-- Assumes nothing.
 use mathlib.Core.Path.{_≡_, sym, ap, _∙_}
-use mathlib.Core.Bool.{false}
+use mathlib.Core.Bool.{Bool, false}
 use Prim.Native.Nat.{ℕ, _+_, _-_, _*_, _<_}
 use native.Mathlib.Omega.{arith}
 use borrow.Author.Needs.{needs}
@@ -61,7 +62,8 @@ module _ (c : tie.After-same Inv-loop μ-loop) where
   told : sameCode (key at (r at)) (st at .args .k) ≡ c .same .result
   told =
       let a = st at .args in
-      sym (c .same .ensures ∙ ap (λ (s : ℕ). sameCode (entryKey (a .wide) (a .n) (a .part .now) (s - 1)) (a .k)) (c .before .before .mark .ensures))
+      let test : ℕ → Bool = (λ s. sameCode (entryKey (a .wide) (a .n) (a .part .now) (s - 1)) (a .k)) in
+      sym (c .same .ensures ∙ ap test (c .before .before .mark .ensures))
 
   on : c .same .result ≡ false
       → (dist (m at) (st at .args .start) (nextRow (m at) (r at)) ≡ dist (m at) (st at .args .start) (r at) + 1)

@@ -28,7 +28,8 @@ returns c =
     let a = c .before .before .before .before .before .before .args in
     let at = a .at in
     let first : at + 0 ≡ at = omega arith in
-    rw first (by-tests (eqb (getD (a .part .now) at 0) (a .k .x)) (eqb (getD (a .part .now) (at + 1) 0) (a .k .y)) (eqb (getD (a .part .now) (at + 2) 0) (a .k .z))
+    let t = a .part .now in
+    rw first (by-tests (eqb (getD t at 0) (a .k .x)) (eqb (getD t (at + 1) 0) (a .k .y)) (eqb (getD t (at + 2) 0) (a .k .z))
     (λ p q s. simp (p, q, s)) (λ p q s. simp (p, q, s)) (λ p q s. simp (p, q, s)) (λ p q s. simp (p, q, s))
     (λ p q s. simp (p, q, s)) (λ p q s. simp (p, q, s)) (λ p q s. simp (p, q, s)) (λ p q s. simp (p, q, s)))
 

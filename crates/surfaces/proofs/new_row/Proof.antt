@@ -41,8 +41,7 @@ returns c =
     let b = began first in
     let a = b .before .before .before .args in
     let told = c .before .struct-told3 .given in
-    written (a .rows .now) (b .first-area .last .0) (a .n) (a .k) (a .area) (first .tenth .result) (second .tenth2 .result) (c .tenth3 .result)
-    (b .first-area .ensures)
+    written (a .rows .now) (b .first-area .last .0) (a .n) (a .k) (a .area) _ _ _ (b .first-area .ensures)
     (first .tenth .ensures ∙ ap tenth (toZ-ofZ w32 (a .k .x) (record { sfits = told .0 .1 })))
     (second .tenth2 .ensures ∙ ap tenth (toZ-ofZ w32 (a .k .y) (record { sfits = told .1 .0 .1 })))
     (c .tenth3 .ensures ∙ ap tenth (toZ-ofZ w32 (a .k .z) (record { sfits = told .1 .1 .0 .1 })))

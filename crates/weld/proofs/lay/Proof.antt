@@ -1,5 +1,4 @@
 -- `weld::lay` meets its contract: by no table the ids stay. Assumes nothing.
-use native.Mathlib.Omega.{arith}
 use Rattle.weld.proofs.Mapping.{lay-last}
 use borrow.Author.Needs.{needs}
 use Rattle.weld.proofs.lay.Statement.{statement}

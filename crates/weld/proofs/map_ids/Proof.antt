@@ -1,4 +1,5 @@
--- `weld::map_ids` meets its contract. The invariant: the first i ids stand behind the table, mapped, and the table is as it was. Assumes nothing.
+-- `weld::map_ids` meets its contract. The invariant: the first i ids stand behind the table, mapped, and the table is as it was.
+-- Assumes nothing.
 use Prim.Native.Nat.{_-_}
 use native.Mathlib.Omega.{arith}
 use borrow.Author.Needs.{needs}

@@ -1,11 +1,12 @@
--- `weld::weld` meets its contract: with no slot used nothing is entered, and with all vertices entered the ids are mapped as the weld says. Assumes nothing.
+-- `weld::weld` meets its contract: with no slot used nothing is entered, and with all vertices entered the ids are mapped as the weld
+-- says. Assumes nothing.
 use mathlib.Core.Path.{_≡_, refl, ap, _∙_}
 use mathlib.Core.List.{List, _++_}
 use Prim.Native.Nat.{ℕ, _-_, _*_}
 use native.Mathlib.Omega.{arith}
 use borrow.Rule.Slice.PartMut.{post-is, postOf}
 use borrow.Author.Needs.{needs}
-use lib.ListN.{length, drop, length-drop}
+use lib.ListN.{length, length-drop}
 use lib.Seq.{length-take-le}
 use Rattle.vertices.specs.Vertices.{vertexCount}
 use Rattle.cells.proofs.Welding.{welds-none}

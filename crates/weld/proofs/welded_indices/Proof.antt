@@ -13,7 +13,8 @@ use Rattle.weld.proofs.welded_indices.Statement.{statement}
 use Rattle.weld.proofs.welded_indices.Tie as tie
 
 -- the ids behind the words of a table that is cleared
-behind : (vs : List Float) (ids ids′ : List ℕ) → ids ≡ ids′ → replicate (8 * vertexCount vs) 0 ++ ids ≡ replicate (8 * vertexCount vs) 0 ++ ids′
+behind : (vs : List Float) (ids ids′ : List ℕ) → ids ≡ ids′
+    → replicate (8 * vertexCount vs) 0 ++ ids ≡ replicate (8 * vertexCount vs) 0 ++ ids′
 behind vs ids ids′ = ap (λ (l : List ℕ). replicate (8 * vertexCount vs) 0 ++ l)
 
 returns : tie.Need-returns
@@ -31,9 +32,10 @@ returns-2 c =
     let w = c .before .before in
     let f = w .before .before in
     let a = f .before .before .before .before .before .args in
+    let vs = a .vertices .now in
     w .weld .ensures
-    ∙ behind (a .vertices .now) _ _ (ap (λ (ε : Float). weldAll (a .vertices .now) (inverse ε) (a .indices .now)) (f .f32-to-f64-with-nan .ensures)
-    ∙ welded-so (a .vertices .now) (a .indices .now) (a .eps) (rw (← ne-self (a .eps)) (f .before .if1 .left)))
+    ∙ behind vs _ _ (ap (λ (ε : Float). weldAll vs (inverse ε) (a .indices .now)) (f .f32-to-f64-with-nan .ensures)
+    ∙ welded-so vs (a .indices .now) (a .eps) (rw (← ne-self (a .eps)) (f .before .if1 .left)))
 
 pub welded-indices-spec : {M : Type 1} → statement M
 welded-indices-spec =

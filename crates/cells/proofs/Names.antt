@@ -9,7 +9,8 @@ use native.Mathlib.Decide.{ℕ-discrete, decLt}
 use lib.Ieee.{Float}
 use Rattle.ids.proofs.Same.{same-ne}
 use Rattle.slots.proofs.Codes.{by}
-use Rattle.cells.specs.Cells.{cellAt, sameCell, firstThat, named, NamesCell}
+use Rattle.cells.specs.Cells.{cellAt, sameCell, firstThat, named}
+use Rattle.cells.specs.Named.{NamesCell}
 use Rattle.cells.specs.inner.Table.{cellCode, vertexCode}
 use Rattle.cells.proofs.Codes.{code-one, cell-eq, cell-refl}
 

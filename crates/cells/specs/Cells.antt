@@ -1,7 +1,5 @@
 -- Weld (01; 000, `welded_indices`): the cell of a vertex, and the first vertex in it.
-use mathlib.Core.Path.{_≡_}
-use mathlib.Core.Logic.{_≢_}
-use Prim.Native.Nat.{ℕ, zero, suc, _≤_, _<_}
+use Prim.Native.Nat.{ℕ, zero, suc}
 use mathlib.Core.Bool.{Bool, _&&_, cond}
 use mathlib.Core.List.{List}
 use lib.IntN.{ℤ}
@@ -34,10 +32,3 @@ firstThat test (suc n) j = cond (test j) j (firstThat test n (suc j))
 -- the vertex that names v's cell: the first that has the same
 unfoldable pub named : List Float → Float → ℕ → ℕ
 named vs inv v = firstThat (λ j. sameCell (cellAt vs inv j) (cellAt vs inv v)) v 0
-
--- that is to say: f has v's cell, is not behind v, and no vertex before f has it (`named-names`). No other vertex is that
--- (`named-is`), so two vertices have one name just where they have one cell (`named-one`, `named-tells`)
-pub record NamesCell (vs : List Float) (inv : Float) (v f : ℕ) : Type 0 where
-  pub not-behind : f ≤ v
-  pub alike : cellAt vs inv f ≡ cellAt vs inv v
-  pub first-of : (j : ℕ) → j < f → cellAt vs inv j ≢ cellAt vs inv v

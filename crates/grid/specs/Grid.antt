@@ -4,7 +4,7 @@ use lib.IntN.{ℤ, pos, negsuc}
 use lib.Ieee.{Float, binary32, ofBits, toSigned, toUnsigned}
 use Rattle.ieee.specs.Order.{least, greatest}
 use Rattle.ieee.specs.Integral.{floor, ceiling}
-use Rattle.ieee.specs.Single.{_⊕_, _⊖_, _⊗_, _⊘_, nought, number}
+use Rattle.ieee.specs.Single.{_⊕_, _⊖_, _⊗_, _⊘_, number}
 use Rattle.grid.specs.declared.Grid.{Grid}
 
 -- 1/2

@@ -4,6 +4,7 @@
 pub mod Magnitude
 pub mod Order
 pub mod Integral
+pub mod Whole
 pub mod Rounded
 pub mod Root
 pub mod Integer

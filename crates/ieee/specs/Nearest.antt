@@ -20,3 +20,9 @@ pub record NearerRoot (x r v : Float) : Type 0 where
       → (num r * den v + num v * den r) * (num r * den v + num v * den r) * den x < 4 * num x * (den r * den v * (den r * den v))
   pub above : num r * den v < num v * den r
       → 4 * num x * (den r * den v * (den r * den v)) < (num r * den v + num v * den r) * (num r * den v + num v * den r) * den x
+
+-- What `closestRoot` is worth: no whole number is nearer to √(a / b) than r, since √(a / b) is at most r + 1/2, and at least r - 1/2.
+-- (`closestRoot-nearest`)
+pub record NearestRoot (a b r : ℕ) : Type 0 where
+  pub at-most : 4 * a ≤ (2 * r + 1) * (2 * r + 1) * b
+  pub at-least : (q : ℕ) → r ≡ q + 1 → (2 * q + 1) * (2 * q + 1) * b ≤ 4 * a

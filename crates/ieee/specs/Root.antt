@@ -19,12 +19,6 @@ floorRoot n = digits (size n) n
 unfoldable pub closestRoot : ℕ → ℕ → ℕ
 closestRoot a b = let q = floorRoot (a / b) in nearest q (compare (4 * a) ((2 * q + 1) * (2 * q + 1) * b))
 
--- What it is worth: no whole number is nearer to √(a / b) than r, since √(a / b) is at most r + 1/2, and at least r - 1/2.
--- (`closestRoot-nearest`)
-pub record NearestRoot (a b r : ℕ) : Type 0 where
-  pub at-most : 4 * a ≤ (2 * r + 1) * (2 * r + 1) * b
-  pub at-least : (q : ℕ) → r ≡ q + 1 → (2 * q + 1) * (2 * q + 1) * b ≤ 4 * a
-
 -- The value of the format f that is nearest to √(num / den), for a den above 0: the model's `round` with a root in
 -- the fraction's place. In units of f's smallest value the root is √(n / den). Of its whole part the format keeps the
 -- `prec` leading digits and drops k, so the result is a multiple of 2 ^ k units.

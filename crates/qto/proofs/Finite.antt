@@ -27,7 +27,8 @@ use Rattle.sums.proofs.Units.{leastUnit, mostUnit, cube-within, square-within}
 use Rattle.sums.proofs.Within.{Within, multiple-value, power-value, within-div, within-most, within-mul, within-product, within-rounded}
 use Rattle.rows.specs.declared.PlanarSurface.{PlanarSurface}
 use Rattle.rows.specs.Rows.{precedes, inserted, sorted, scaled, largest, smallest, noise, lessAbove, leastAbove}
-use Rattle.surfaces.specs.Surfaces.{Bucket, AllAreas, rows}
+use Rattle.surfaces.specs.Surfaces.{Bucket, rows}
+use Rattle.surfaces.specs.Keys.{AllAreas}
 use Rattle.walk.proofs.Finite.{TotalsWithin, Times, totals-within, buckets-within}
 use Rattle.verdict.specs.declared.Quality.{Quality}
 use Rattle.volume.specs.declared.Best.{Best}

@@ -9,8 +9,9 @@ use Rattle.sums.specs.Box.{box, origin}
 use Rattle.rows.specs.Rows.{scaled}
 use Rattle.rows.specs.Sorting.{InOrder, SameRows}
 use Rattle.surfaces.specs.declared.Key.{Key}
-use Rattle.surfaces.specs.Surfaces.{areaFor, hasKey, Apart, rows}
-use Rattle.walk.specs.Walk.{sumFor, keyAmong}
+use Rattle.surfaces.specs.Surfaces.{rows}
+use Rattle.surfaces.specs.Keys.{areaFor, hasKey, Apart}
+use Rattle.walk.specs.Worth.{sumFor, keyAmong}
 use Rattle.refusals.specs.Refusals.{Passes}
 use Rattle.qto.specs.Full.{square, buckets, surfaceRows}
 

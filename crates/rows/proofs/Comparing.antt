@@ -13,7 +13,8 @@ use lib.Ieee.Fits.{and-l, and-r, up-pos, down-pos}
 use Rattle.ieee.proofs.Order.Comparison.{eq-not-lt, le-lt-trans, le-of-not-lt, le-trans, lt-asym, lt-le-trans, lt-not-le}
 use Rattle.ieee.proofs.Values.OneFloat.{value-unique}
 use Rattle.rows.specs.declared.PlanarSurface.{PlanarSurface}
-use Rattle.rows.specs.Rows.{thenBy, precedes, plainFloat, plainRow}
+use Rattle.rows.specs.Rows.{thenBy, precedes}
+use Rattle.rows.specs.inner.Plain.{plainFloat, plainRow}
 use Rattle.rows.specs.Sorting.{singleRow}
 
 -- ---- by the first alone, or by the rest

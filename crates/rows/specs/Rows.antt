@@ -1,8 +1,7 @@
 -- Surfaces (01): rows of area, nx, ny and nz, in order; the largest and the smallest.
-use Prim.Native.Nat.{zero, suc}
-use mathlib.Core.Bool.{Bool, true, false, not, _&&_, _||_, cond}
+use mathlib.Core.Bool.{Bool, false, not, _&&_, _||_, cond}
 use mathlib.Core.List.{List, [], _∷_}
-use lib.Ieee.{Float, nan, inf, fin, binary32, lt, ofBits}
+use lib.Ieee.{Float, inf, binary32, lt, ofBits}
 use Rattle.ieee.specs.Order.{least}
 use Rattle.ieee.specs.Single.{_⊗_, nought}
 use Rattle.rows.specs.declared.PlanarSurface.{PlanarSurface}
@@ -73,18 +72,3 @@ leastAbove m (r ∷ rs) = leastAbove (lessAbove m (r .area)) rs
 -- the least above 1e-6, else 0
 unfoldable pub smallest : List PlanarSurface → Float
 smallest rs = cond (lt (leastAbove (inf false) rs) (inf false)) (leastAbove (inf false) rs) nought
-
--- ---- what can be put in order: numbers, and not -0, so that two of which neither is less are the same
-
-unfoldable pub plainFloat : Float → Bool
-plainFloat nan = false
-plainFloat (inf s) = true
-plainFloat (fin s zero e) = not s
-plainFloat (fin s (suc m) e) = true
-
-unfoldable pub plainRow : PlanarSurface → Bool
-plainRow r = plainFloat (r .area) && (plainFloat (r .nx) && (plainFloat (r .ny) && plainFloat (r .nz)))
-
-unfoldable pub allPlain : List PlanarSurface → Bool
-allPlain [] = true
-allPlain (r ∷ rs) = plainRow r && allPlain rs

@@ -8,7 +8,8 @@ use lib.Dec.{T}
 use lib.Ieee.{nan, binary32, fits}
 use lib.ListN.{length, getD}
 use Rattle.rows.specs.declared.PlanarSurface.{PlanarSurface}
-use Rattle.rows.specs.Rows.{precedes, sorted, allPlain}
+use Rattle.rows.specs.Rows.{precedes, sorted}
+use Rattle.rows.specs.inner.Plain.{allPlain}
 
 -- what stands past the end
 abbrev pub noRow : PlanarSurface

@@ -11,7 +11,8 @@ use Rattle.ieee.specs.Double.{_⊞_, _⊠_}
 use Rattle.ids.specs.Triangles.{Triangle}
 use Rattle.sums.specs.declared.triangle.Facet.{Facet}
 use Rattle.sums.specs.Box.{box, origin}
-use Rattle.sums.specs.Facet.{used, at, dot, corner, normal, size, tetra, half64, facetOf, part, plus}
+use Rattle.sums.specs.Facet.{used, at, dot, corner, normal, size, tetra, half64, facetOf, part}
+use Rattle.sums.specs.inner.Plus.{plus}
 use Rattle.sums.specs.Fine.{allFine}
 use Rattle.sums.proofs.Plus.{plus-add, plus-mul-left, plus-root, plus-rounded, plus-square}
 use Rattle.sums.proofs.Roots.{within-root}

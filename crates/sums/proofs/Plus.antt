@@ -8,7 +8,7 @@ use lib.Ieee.Positive.{positive}
 use Rattle.ieee.specs.Root.{root, rootRound}
 use Rattle.ieee.specs.Rounded.{rounded}
 use Rattle.ieee.proofs.Order.Differences.{zero-bits}
-use Rattle.sums.specs.Facet.{plus}
+use Rattle.sums.specs.inner.Plus.{plus}
 
 -- it is a number
 pub plus-number : (x : Float) → T (plus x) → T (not (isNan x))

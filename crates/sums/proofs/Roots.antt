@@ -14,7 +14,7 @@ use lib.Ieee.Positive.{num, den, positive, positive-finite, positive-of-value, d
 use lib.Ieee.Scale.{finite}
 use Rattle.ieee.specs.Root.{root}
 use Rattle.ieee.proofs.Nearest.Root.{root-nearest, root-positive}
-use Rattle.sums.specs.Facet.{plus}
+use Rattle.sums.specs.inner.Plus.{plus}
 use Rattle.sums.proofs.Within.{Within, power-value}
 
 -- with r / d past v / w, the middle of the two is past v / w, so its square is past x / c if that is at most b * b

@@ -15,7 +15,7 @@ use Rattle.ieee.proofs.Order.Ranks.{rank}
 use Rattle.ieee.proofs.Order.Signed.{AtMost, at-most}
 use Rattle.ieee.proofs.Patterns.Signs.{round-neg}
 use Rattle.ieee.proofs.Values.Totals.{total-of}
-use Rattle.sums.specs.Facet.{plus}
+use Rattle.sums.specs.inner.Plus.{plus}
 use Rattle.sums.proofs.Plus.{plus-round}
 use Rattle.sums.proofs.Within.{Within, Value, within-value, zero-value}
 

@@ -7,7 +7,7 @@ use lib.Dec.{T, lit≤}
 use lib.Ieee.{Float, nan, inf, fin, binary32, le, mul, ofBits}
 use lib.Ieee.Positive.{positive, between, mul-mono}
 use Rattle.ieee.specs.Single.{_⊗_}
-use Rattle.sums.specs.Facet.{plus}
+use Rattle.sums.specs.inner.Plus.{plus}
 use Rattle.sums.proofs.Within.{Within, within-le, within-mul}
 
 -- the ends of refusal 2

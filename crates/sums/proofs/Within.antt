@@ -19,7 +19,7 @@ use Rattle.ieee.proofs.Order.Signed.{AtMost, at-most-of-le}
 use Rattle.ieee.proofs.Patterns.Signs.{round-neg}
 use Rattle.ieee.proofs.Values.ByValue.{div-values}
 use Rattle.ieee.proofs.Values.Totals.{total-of}
-use Rattle.sums.specs.Facet.{plus}
+use Rattle.sums.specs.inner.Plus.{plus}
 use Rattle.sums.proofs.Plus.{plus-round}
 
 -- finite, and at most b in size

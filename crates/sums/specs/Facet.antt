@@ -1,9 +1,9 @@
 -- Triangles (01): what one triangle adds. Its corners are rebased in f64; each step is rounded once, as 000 writes it.
 use Prim.Native.Nat.{ℕ}
-use mathlib.Core.Bool.{Bool, false, not, cond}
+use mathlib.Core.Bool.{cond}
 use mathlib.Core.List.{List, [], _∷_}
 use lib.ListN.{getD}
-use lib.Ieee.{Float, nan, inf, fin, binary32, binary64, lt, ofBits}
+use lib.Ieee.{Float, nan, binary32, binary64, lt, ofBits}
 use Rattle.ieee.specs.Root.{root}
 use Rattle.ieee.specs.Rounded.{rounded}
 use Rattle.ieee.specs.Double.{_⊞_, _⊟_, _⊠_, _⧄_, one64}
@@ -84,9 +84,3 @@ rebasedCorners vs o t = rebased vs o (t .a) ∷ rebased vs o (t .b) ∷ rebased 
 -- its part: out of range, a sliver, or used
 unfoldable pub part : List Float → List Float → Triangle → Part
 part vs o t = cond (cornersInRange vs t) (partOf (rebasedCorners vs o t)) outOfRange
-
--- ---- what every area is: a number that is not below zero, nor -0
-abbrev pub plus : Float → Bool
-plus nan = false
-plus (inf s) = not s
-plus (fin s m e) = not s

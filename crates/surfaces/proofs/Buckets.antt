@@ -12,8 +12,8 @@ use Rattle.ieee.specs.Single.{_⊕_, nought}
 use Rattle.rows.specs.Rows.{flatten}
 use Rattle.slots.proofs.Codes.{by}
 use Rattle.surfaces.specs.declared.Key.{Key}
-use Rattle.surfaces.specs.Surfaces.{sameKey, Bucket, addArea, keyAt, rows, tenth}
-use Rattle.surfaces.specs.inner.Index.{withRow}
+use Rattle.surfaces.specs.Surfaces.{sameKey, Bucket, addArea, rows, tenth}
+use Rattle.surfaces.specs.inner.Index.{keyAt, withRow}
 use Rattle.surfaces.proofs.Keys.{key-same, key-ne}
 
 abbrev pub fresh : Key → Float → Bucket

@@ -13,8 +13,8 @@ use Rattle.slots.specs.inner.Slots.{markOf, markIn, entryKey, heldKey, codeHome
 use Rattle.slots.proofs.Entries.{entries-none, entries-searchable, entries-claimed, others}
 use Rattle.rows.specs.Rows.{flatten}
 use Rattle.surfaces.specs.declared.Key.{Key}
-use Rattle.surfaces.specs.Surfaces.{Bucket, addArea, keyAt, rows}
-use Rattle.surfaces.specs.inner.Index.{keyCode, Gathered, withRow, Ready, AddsArea}
+use Rattle.surfaces.specs.Surfaces.{Bucket, addArea, rows}
+use Rattle.surfaces.specs.inner.Index.{keyAt, keyCode, Gathered, withRow, Ready, AddsArea}
 use Rattle.surfaces.proofs.Codes.{code-one}
 use Rattle.surfaces.proofs.Buckets.{fresh, put-new, row-more, withArea, key-front, key-last, known-length, known-keys, known-floats}
 

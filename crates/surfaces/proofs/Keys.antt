@@ -13,7 +13,8 @@ use Rattle.ieee.specs.Integer.{sameInteger}
 use Rattle.slots.proofs.Codes.{by}
 use Rattle.cells.proofs.Codes.{integer-eq, integer-refl}
 use Rattle.surfaces.specs.declared.Key.{Key}
-use Rattle.surfaces.specs.Surfaces.{sameKey, Bucket, addArea, areaFor, hasKey, Apart, AllAreas, rows}
+use Rattle.surfaces.specs.Surfaces.{sameKey, Bucket, addArea, rows}
+use Rattle.surfaces.specs.Keys.{areaFor, hasKey, Apart, AllAreas}
 
 -- ---- `sameKey` is equality
 

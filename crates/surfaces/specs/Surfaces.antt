@@ -1,9 +1,7 @@
 -- Surfaces (01; 000, `quantize_normal` and the buckets): the area of each key of a normal, in the order in which the keys come.
-use mathlib.Core.Path.{_≡_}
-use Prim.Native.Nat.{ℕ, zero, suc}
-use mathlib.Core.Bool.{Bool, false, _&&_, _||_, cond}
+use mathlib.Core.Bool.{Bool, _&&_, cond}
 use mathlib.Core.List.{List, [], _∷_}
-use lib.IntN.{ℤ, pos}
+use lib.IntN.{ℤ}
 use lib.Ieee.{Float, binary32, ofBits, ofInt, toSigned}
 use Rattle.ieee.specs.Integral.{halfAway}
 use Rattle.ieee.specs.Single.{_⊕_, _⊗_, _⊘_, nought}
@@ -36,34 +34,6 @@ pub record Bucket : Type 0 where
 unfoldable pub addArea : Key → Float → List Bucket → List Bucket
 addArea k a [] = record { key = k; area = nought ⊕ a } ∷ []
 addArea k a (b ∷ bs) = cond (sameKey k (b .key)) (record { key = b .key; area = b .area ⊕ a } ∷ bs) (b ∷ addArea k a bs)
-
--- the area of a key: 0 where it has none
-unfoldable pub areaFor : Key → List Bucket → Float
-areaFor k [] = nought
-areaFor k (b ∷ bs) = cond (sameKey k (b .key)) (b .area) (areaFor k bs)
-
--- ---- which keys there are
-
--- is k one of them?
-unfoldable pub hasKey : Key → List Bucket → Bool
-hasKey k [] = false
-hasKey k (b ∷ bs) = sameKey k (b .key) || hasKey k bs
-
--- no two buckets have one key
-unfoldable pub Apart : List Bucket → Type 0
-Apart [] = Unit {0}
-Apart (b ∷ bs) = (hasKey (b .key) bs ≡ false) × Apart bs
-
--- the key of bucket j; past the last it means nothing
-unfoldable pub keyAt : List Bucket → ℕ → Key
-keyAt [] j = record { x = pos 0; y = pos 0; z = pos 0 }
-keyAt (b ∷ bs) zero = b .key
-keyAt (b ∷ bs) (suc j) = keyAt bs j
-
--- every area has the property P
-unfoldable pub AllAreas : (Float → Type 0) → List Bucket → Type 0
-AllAreas P [] = Unit {0}
-AllAreas P (b ∷ bs) = P (b .area) × AllAreas P bs
 
 -- ---- as rows: the area, and the key over 10
 

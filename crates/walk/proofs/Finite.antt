@@ -22,7 +22,8 @@ use Rattle.sums.specs.Fine.{allFine}
 use Rattle.sums.specs.Totals.{bySlope, noTotals, onSlope, slopeOf, withFacet, withPart, totalsTo}
 use Rattle.sums.proofs.Areas.{Adds, part-within}
 use Rattle.sums.proofs.Within.{Within, within-add, within-most}
-use Rattle.surfaces.specs.Surfaces.{Bucket, normalKey, AllAreas}
+use Rattle.surfaces.specs.Surfaces.{Bucket, normalKey}
+use Rattle.surfaces.specs.Keys.{AllAreas}
 use Rattle.surfaces.proofs.Keys.{areas-still, put-all}
 use Rattle.walk.specs.Domain.{FiniteTotals, FiniteAreas}
 use Rattle.walk.specs.Walk.{withSurface, bucketsTo}

@@ -11,16 +11,20 @@ use Rattle.ieee.specs.Single.{_⊗_, nought}
 use Rattle.ids.specs.Triangles.{triangle}
 use Rattle.sums.specs.declared.triangle.Facet.{Facet}
 use Rattle.sums.specs.Box.{box, origin}
-use Rattle.sums.specs.Facet.{Part, outOfRange, sliver, used, part, plus}
+use Rattle.sums.specs.Facet.{Part, outOfRange, sliver, used, part}
+use Rattle.sums.specs.inner.Plus.{plus}
 use Rattle.sums.specs.Fine.{allFine}
 use Rattle.sums.proofs.Areas.{part-plus}
 use Rattle.sums.proofs.Plus.{plus-add, plus-mul, plus-zero}
-use Rattle.rows.specs.Rows.{plainFloat, plainRow, allPlain, scaled}
+use Rattle.rows.specs.Rows.{scaled}
+use Rattle.rows.specs.inner.Plain.{plainFloat, plainRow, allPlain}
 use Rattle.surfaces.specs.declared.Key.{Key}
-use Rattle.surfaces.specs.Surfaces.{Bucket, normalKey, areaFor, hasKey, Apart, AllAreas, tenth, rows}
+use Rattle.surfaces.specs.Surfaces.{Bucket, normalKey, tenth, rows}
+use Rattle.surfaces.specs.Keys.{areaFor, hasKey, Apart, AllAreas}
 use Rattle.surfaces.proofs.Keys.{area-put, has-put, apart-put, put-all}
 use Rattle.surfaces.proofs.Plain.{tenth-plain}
-use Rattle.walk.specs.Walk.{withSurface, bucketsTo, sumWith, sumFor, hasPart, keyAmong}
+use Rattle.walk.specs.Walk.{withSurface, bucketsTo}
+use Rattle.walk.specs.Worth.{sumWith, sumFor, hasPart, keyAmong}
 
 -- ---- the keys and their areas
 

@@ -3,7 +3,8 @@ use mathlib.Core.List.{List}
 use lib.Dec.{T}
 use lib.Ieee.Scale.{finite}
 use Rattle.sums.specs.declared.totals.Totals.{Totals}
-use Rattle.surfaces.specs.Surfaces.{Bucket, AllAreas}
+use Rattle.surfaces.specs.Surfaces.{Bucket}
+use Rattle.surfaces.specs.Keys.{AllAreas}
 
 -- the six running sums are finite
 pub record FiniteTotals (t : Totals) : Type 0 where

@@ -1,4 +1,5 @@
 -- The sums over all triangles of a mesh.
 pub mod Walk
+pub mod Worth
 pub mod Domain
 pub mod inner

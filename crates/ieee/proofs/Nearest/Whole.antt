@@ -13,7 +13,8 @@ use lib.Ieee.Back.{round-whole}
 use lib.Ieee.Exact.{HasValue, round-exact}
 use lib.Ieee.Fits.{down-pos, two}
 use lib.Ieee.Scale.{finite}
-use Rattle.ieee.specs.Integral.{GreatestBelow, HalfAway, NoFraction, LeastAbove, Way, cut, away, half, toWhole, integral, floor}
+use Rattle.ieee.specs.Integral.{Way, cut, away, half, toWhole, integral, floor}
+use Rattle.ieee.specs.Whole.{GreatestBelow, HalfAway, NoFraction, LeastAbove}
 use Rattle.ieee.specs.Integral.{ceiling, halfAway}
 use Rattle.ieee.proofs.Numbers.Basic.{pow-half}
 use Rattle.ieee.proofs.Order.Signed.{AtMost, at-most-of-le, at-most-self, le-of-at-most}

@@ -14,7 +14,8 @@ use lib.Ieee.{nearest, size}
 use lib.Ieee.Digits.{size-lt}
 use lib.Ieee.Fits.{nearest-le}
 use lib.Ieee.Nearest.{div-same, nearest-ge}
-use Rattle.ieee.specs.Root.{NearestRoot, closestRoot, digits, floorRoot}
+use Rattle.ieee.specs.Root.{closestRoot, digits, floorRoot}
+use Rattle.ieee.specs.Nearest.{NearestRoot}
 use Rattle.ieee.proofs.Numbers.Basic.{cmp-eq, cmp-gt, cmp-lt}
 
 -- ---- the whole part q of the root of n

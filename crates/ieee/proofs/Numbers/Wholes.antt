@@ -4,7 +4,8 @@ use Prim.Native.Nat.{ℕ, zero, suc, _+_, _-_, _*_, _/_, _<_, _≤_, min}
 use native.Mathlib.Nat.{div-eq-of-lt, div-eq-of-lt-le, div-lt-iff-lt-mul, div-mul-le-self, le-div-iff-mul-le, mul-comm, mul-div-mul-right}
 use native.Mathlib.Nat.{mul-le-mul-left, mul-le-mul-right, zero-mul}
 use native.Mathlib.Omega.{arith}
-use Rattle.ieee.specs.Integral.{HalfAway, Way, cut, away, half, toWhole}
+use Rattle.ieee.specs.Integral.{Way, cut, away, half, toWhole}
+use Rattle.ieee.specs.Whole.{HalfAway}
 use Rattle.ieee.proofs.Numbers.Basic.{lt-next}
 
 -- ---- the value alone counts

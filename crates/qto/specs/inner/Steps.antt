@@ -10,10 +10,10 @@ use Rattle.ids.specs.Triangles.{triangleCount}
 use Rattle.vertices.specs.Areas.{workWords, surfaceFloats, rasterBytes}
 use Rattle.sums.specs.declared.bounds.Bounds.{Bounds}
 use Rattle.sums.specs.Box.{box}
-use Rattle.sums.specs.Fine.{allFine}
-use Rattle.rows.specs.Rows.{flatten, rowsOf, scaled, sorted, largest, smallest, allPlain}
+use Rattle.rows.specs.Rows.{flatten, rowsOf, scaled, sorted, largest, smallest}
+use Rattle.rows.specs.inner.Plain.{allPlain}
 use Rattle.record.specs.declared.MeshQto.{MeshQto}
-use Rattle.refusals.specs.Refusals.{unitFits, Passes}
+use Rattle.refusals.specs.Refusals.{Passes}
 use Rattle.qto.specs.declared.Extremes.{Extremes}
 use Rattle.qto.specs.declared.Measures.{Measures}
 use Rattle.qto.specs.Full.{surfacesAfter, measures, verdict, recordBy, recordOf}

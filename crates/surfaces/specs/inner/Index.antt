@@ -1,10 +1,11 @@
 -- The index to the rows, in 5 words for each of m rows at most: a row is an entry (`slots`), and its key's three codes have a word each.
 -- So the key of a normal finds its row with no search through all rows.
 use mathlib.Core.Path.{_≡_}
-use Prim.Native.Nat.{ℕ, _+_, _*_, _≤_, _<_}
+use Prim.Native.Nat.{ℕ, zero, suc, _+_, _*_, _≤_, _<_}
 use mathlib.Core.Bool.{false}
-use mathlib.Core.List.{List, _++_}
+use mathlib.Core.List.{List, [], _∷_, _++_}
 use lib.ListN.{length, set, drop}
+use lib.IntN.{pos}
 use lib.Ieee.{Float}
 use Rattle.ieee.specs.Single.{_⊕_, nought}
 use Rattle.slots.specs.declared.Code.{Code}
@@ -12,7 +13,13 @@ use Rattle.slots.specs.inner.Slots.{markIn, entryKey, Entries}
 use Rattle.cells.specs.inner.Table.{coded}
 use Rattle.rows.specs.Rows.{flatten}
 use Rattle.surfaces.specs.declared.Key.{Key}
-use Rattle.surfaces.specs.Surfaces.{Bucket, keyAt, rows, tenth, addArea}
+use Rattle.surfaces.specs.Surfaces.{Bucket, rows, tenth, addArea}
+
+-- the key of bucket j; past the last it means nothing
+unfoldable pub keyAt : List Bucket → ℕ → Key
+keyAt [] j = record { x = pos 0; y = pos 0; z = pos 0 }
+keyAt (b ∷ bs) zero = b .key
+keyAt (b ∷ bs) (suc j) = keyAt bs j
 
 -- a key as numbers
 unfoldable pub keyCode : Key → Code

@@ -50,18 +50,24 @@ module _ (vs : List Float) (ids : List ℕ) (u : Float) (w r s : ℕ) where
   unfolding checkOf
   row-2 a b c = rw (a, b, c)
 
-  module _ (a : many ≡ false) (b : few ≡ false) (c : unitFits u ≡ true) where
+  -- no row above 3 applies
+  pub record Behind2 : Type 0 where
+    pub not-many : many ≡ false
+    pub not-few : few ≡ false
+    pub unit : unitFits u ≡ true
+
+  module _ (h : Behind2) where
     pub row-3 : short ≡ true → Check.Refuse 3 ≡ checkOf vs ids u w r s
     unfolding checkOf
-    row-3 d = rw (a, b, c, d)
+    row-3 d = rw (h .not-many, h .not-few, h .unit, d)
 
     pub row-4 : short ≡ false → allFine vs ≡ false → Check.Refuse 4 ≡ checkOf vs ids u w r s
     unfolding checkOf
-    row-4 d e = rw (a, b, c, d, e)
+    row-4 d e = rw (h .not-many, h .not-few, h .unit, d, e)
 
     pub no-row : short ≡ false → allFine vs ≡ true → Check.Full ≡ checkOf vs ids u w r s
     unfolding checkOf
-    no-row d e = rw (a, b, c, d, e)
+    no-row d e = rw (h .not-many, h .not-few, h .unit, d, e)
 
 -- ---- none applies
 

@@ -20,11 +20,8 @@ drop-four : (s : List Float) (i j : ℕ) → j ≡ i + 4 → i + 4 ≤ length s
     → drop i s ≡ getD s i nan ∷ getD s (i + 1) nan ∷ getD s (i + 2) nan ∷ getD s (i + 3) nan ∷ drop j s
 drop-four s i j e l =
     drop-more s i (i + 1) (omega arith) (omega arith)
-    ∙ rw (
-      drop-more s (i + 1) (i + 2) (omega arith) (omega arith),
-      drop-more s (i + 2) (i + 3) (omega arith) (omega arith),
-      drop-more s (i + 3) j (omega arith) (omega arith),
-    )
+    ∙ rw (drop-more s (i + 1) (i + 2) (omega arith) (omega arith), drop-more s (i + 2) (i + 3) (omega arith) (omega arith))
+    (rw (drop-more s (i + 3) j (omega arith) (omega arith)))
 
 -- the lines from row i on
 abbrev pub linesFrom : List Float → ℕ → List ℕ

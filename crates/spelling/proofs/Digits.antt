@@ -33,14 +33,8 @@ unfolding written
 written-before p b a t h =
     let e : p + 1 + length a ≡ p + suc (length a) = omega arith in
     let i : p < length (take (p + 1) t) = rw (length-take-le (p + 1) t (omega arith)) (omega arith) in
-    rw (
-      e,
-      set-append-left (take (p + 1) t) (a ++ drop (p + suc (length a)) t) p b i,
-      ← take-set-lt (p + 1) t p b (omega arith),
-      add-one p,
-      take-suc-set t p b (omega arith),
-      append-assoc,
-    )
+    let front = set-append-left (take (p + 1) t) (a ++ drop (p + suc (length a)) t) p b i in
+    rw (e, front, ← take-set-lt (p + 1) t p b (omega arith), add-one p, take-suc-set t p b (omega arith), append-assoc)
 
 digits-next : (i rest : ℕ) (t : List ℕ) → 0 < i → digits (i - 1) (rest / 16) (glyph (rest % 16) ∷ t) ≡ digits i rest t
 unfolding digits

@@ -96,13 +96,8 @@ module _ (f : Format) (a b : ℕ) (B : 0 < b) where
   even-bits s h e =
       let even : w ≡ q + q % 2 = closest-mid n b (2 ^ k) ∙ rw (cmp-eq (2 * n) mid e) in
       let few : q < 2 ^ prec f = subst (λ (z : ℕ). z < 2 ^ prec f) (div-div-eq-div-mul n b (2 ^ k)) (kept-lt (prec f) (n / b)) in
-      rw (
-        bits-signed f s a b,
-        round-is f false a b,
-        pack f w k (le-trans (closest-le n (b * 2 ^ k)) few) still-leading
-            (few-dropped h),
-        even,
-      )
+      let packed = pack f w k (le-trans (closest-le n (b * 2 ^ k)) few) still-leading (few-dropped h) in
+      rw (bits-signed f s a b, round-is f false a b, packed, even)
       (parity s (2 ^ (prec f - 1 - 1)) (hid f) (suc (ones f)) k q (pow-half (prec f - 1) (omega (arith, two f))))
 
 pub round-nearest : (f : Format) (s : Bool) (a b : ℕ) → 0 < b → T (finite (round f s a b)) → (v : Float) → T (fits f v) → T (finite v)

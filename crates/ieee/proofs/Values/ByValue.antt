@@ -35,16 +35,10 @@ round-scaled f s a c k C K = round-same f s (a * k) (c * k) a c (mul-pos C K) C 
 sum-scaled : (f : Format) (s t : Bool) (a b c k : ℕ) → 0 < c → 0 < k → sum f s (a * k) t (b * k) (c * k) ≡ sum f s a t b c
 unfolding sum
 sum-scaled f s t a b c k C K =
-    rw (
-      ltb-scaled a b k K,
-      ltb-scaled b a k K,
-      ← add-mul a b k,
-      sub-scaled b a k,
-      sub-scaled a b k,
-      round-scaled f s (a + b) c k C K,
-      round-scaled f t (b - a) c k C K,
-      round-scaled f (s && ltb b a) (a - b) c k C K,
-    )
+    let more = round-scaled f (s && ltb b a) (a - b) c k C K in
+    let less = round-scaled f t (b - a) c k C K in
+    let both = round-scaled f s (a + b) c k C K in
+    rw (ltb-scaled a b k K, ltb-scaled b a k K, ← add-mul a b k, sub-scaled b a k, sub-scaled a b k, both, less, more)
 
 below-scaled : (s t : Bool) (a b k : ℕ) → 0 < k → below s (a * k) t (b * k) ≡ below s a t b
 below-scaled false false a b k K = ltb-scaled a b k K

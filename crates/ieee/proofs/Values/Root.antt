@@ -43,12 +43,8 @@ rootRound-same f a b c d B D e =
     let K = 2 ^ k * 2 ^ k in
     let P : 0 < K = mul-pos (pow-pos k) (pow-pos k) in
     let finer : squared f a * (d * K) ≡ squared f c * (b * K) = sym (mul-assoc (squared f a) d K) ∙ rw even (mul-assoc (squared f c) b K) in
-    rootRound-is f a b
-    ∙ rw (
-      div-same (squared f a) b (squared f c) d B D even,
-      closestRoot-same (squared f a) (b * K) (squared f c) (d * K) (mul-pos B P)
-          (mul-pos D P) finer,
-    ) (sym (rootRound-is f c d))
+    let same = closestRoot-same (squared f a) (b * K) (squared f c) (d * K) (mul-pos B P) (mul-pos D P) finer in
+    rootRound-is f a b ∙ rw (div-same (squared f a) b (squared f c) d B D even, same) (sym (rootRound-is f c d))
 
 pub square : (d k : ℕ) → 2 ^ d * 2 ^ d * (2 ^ k * 2 ^ k) ≡ 2 ^ (d + k) * 2 ^ (d + k)
 square d k = mul-mul-mul-comm (2 ^ d) (2 ^ d) (2 ^ k) (2 ^ k) ∙ rw (pow-add 2 d k)
@@ -81,12 +77,8 @@ module _ (f : Format) (a N k : ℕ) (value : a * 2 ^ low f ≡ N * (2 ^ k * 2 ^ 
       let K = 2 ^ k * 2 ^ k in
       let even : squared f a * 1 ≡ N * (L * K) = mul-one (squared f a) ∙ sym (mul-assoc a L L)
       ∙ rw value (mul-assoc N K L ∙ rw (mul-comm K L)) in
-      rw (
-        rootRound-is f a L,
-        drop-is,
-        closestRoot-same (squared f a) (L * K) N 1 (mul-pos (pow-pos (low f)) (mul-pos (pow-pos k) (pow-pos k)))
-            (lit< tt) even,
-      )
+      let some : 0 < L * K = mul-pos (pow-pos (low f)) (mul-pos (pow-pos k) (pow-pos k)) in
+      rw (rootRound-is f a L, drop-is, closestRoot-same (squared f a) (L * K) N 1 some (lit< tt) even)
       (pack f (closestRoot N 1) k (closestRoot-le N 1 (2 ^ prec f) (lit< tt) (rw (div-one N) most))
       (inr (closestRoot-ge N (2 ^ (prec f - 1)) least)) h)
 

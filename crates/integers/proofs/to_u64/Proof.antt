@@ -13,11 +13,8 @@ use Rattle.integers.proofs.to_u64.Tie as tie
 truncating-f32-to-u64-requires : tie.Need-truncating-f32-to-u64-requires
 unfolding isNan neg ofBits
 truncating-f32-to-u64-requires c κs =
-    let x = c .before .before .args .x in (
-      passes _ (c .if2 .taken),
-      lt-of-not-le (fin false 1 (pos 64)) x tt (lt-right (fin true 1 (pos 0)) x (c .if2 .taken))
-          (c .before .if1 .left),
-    )
+    let number = lt-right (fin true 1 (pos 0)) (c .before .before .args .x) (c .if2 .taken) in
+    (passes _ (c .if2 .taken), lt-of-not-le (fin false 1 (pos 64)) _ tt number (c .before .if1 .left))
 
 returns : tie.Need-returns
 unfolding ofBits

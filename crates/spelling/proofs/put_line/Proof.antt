@@ -22,12 +22,9 @@ abbrev μ-loop : tie.MeasureT-loop
 
 loop-holds : tie.Need-loop-holds Inv-loop μ-loop
 loop-holds c =
-    let l = line-within 0 (c .args .k) (c .args .lines .now) in (
-      search needs,
-      search needs,
-      left-all (c .args .at) (lineOf 0 (c .args .k) (c .args .lines .now)) (c .args .out .now)
-          (omega (arith, c .pre)),
-    )
+    let l = line-within 0 (c .args .k) (c .args .lines .now) in
+    let all = left-all (c .args .at) (lineOf 0 (c .args .k) (c .args .lines .now)) (c .args .out .now) (omega (arith, c .pre)) in
+    (search needs, search needs, all)
 
 slice-write-out : tie.Need-slice-write-out Inv-loop μ-loop
 slice-write-out c =

@@ -29,10 +29,10 @@ module _ (c : tie.After-read-behind Inv-loop μ-loop) where
   counted = (at .loop .inv .1, omega (arith, at .loop .inv .2, c .read-behind .kept))
 
 returns : tie.Need-returns Inv-loop μ-loop
-returns c = let read = c .before .before .before in (stays read, counted read)
+returns c = let read = c .before .before .before in (stays read, counted read .0, counted read .1)
 
 returns-2 : tie.Need-returns-2 Inv-loop μ-loop
-returns-2 c = let read = c .before .before .before .before .before in (stays read, counted read)
+returns-2 c = let read = c .before .before .before .before .before in (stays read, counted read .0, counted read .1)
 
 loop-less : tie.Need-loop-less Inv-loop μ-loop
 loop-less c =

@@ -112,6 +112,7 @@ fn rows_say(part: &[u32], n: usize, winding: bool) -> bool
     }
 }
 
+// Makes the table, asks it, and clears it.
 fn question_in(ids: &[u32], part: &mut [u32], winding: bool) -> bool
     requires { ⌜ Lends (4 * length (now ids)) (now ids) (now part) ⌝ }
     ensures { λ r. ⌜ Leaves (4 * length (now (ids .entry))) (questionOf winding (now (ids .entry))) r (now (part .exit)) ⌝ }
@@ -125,6 +126,7 @@ fn question_in(ids: &[u32], part: &mut [u32], winding: bool) -> bool
     tally::enough(ids.len()) & said
 }
 
+// Refuses, or answers the question about the winding or the other.
 fn question(ids: &[u32], work: &mut [u32], winding: bool) -> Verdict
     ensures { λ r. ⌜ VerdictGiven (questionOf winding) (now (ids .entry)) (now (work .entry)) r (now (work .exit)) ⌝ }
 {

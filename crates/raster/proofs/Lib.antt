@@ -1,3 +1,3 @@
 -- How the bytes of a painted raster give the footprint, and how it is cleared.
 mod Counting
-mod Clearing
+pub mod Clearing

@@ -8,7 +8,7 @@ use native.Mathlib.Decide.{decLt}
 use borrow.Author.Tests.{lt-ltb, le-ltb, eq-eqb, eqb-true}
 use lib.Dec.{ltb, eqb}
 use lib.IntN.{ℤ, pos, negsuc, natAbs}
-use Rattle.ids.specs.Uses.{Use, bit, uses, signedSum, keys, keysThat, largestSum}
+use Rattle.ids.specs.Uses.{Use, bit, uses, signedSum, keysThat, largestSum}
 use Rattle.ids.specs.EdgeChain.{Edge, sameEdge, chain, present, unbalanced, crowded, unpaired, properEdges, boundaryFree}
 use Rattle.ids.specs.EdgeChain.{overIncident, closedManifold}
 use Rattle.ids.specs.FaceNet.{sameFace, faces, maxAbs, allCancel}

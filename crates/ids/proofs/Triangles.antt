@@ -8,7 +8,7 @@ use native.Mathlib.Omega.{arith}
 use borrow.Author.Tests.{eq-eqb, ne-eqb}
 use lib.ListN.{length, getD, drop, length-drop}
 use lib.Seq.{drop-cons}
-use Rattle.ids.specs.Triangles.{Triangle, distinct, overTriangles, triangle}
+use Rattle.ids.specs.Triangles.{Triangle, distinct, overTriangles}
 
 drop-more : (ids : List ℕ) (i j : ℕ) → j ≡ suc i → i < length ids → drop i ids ≡ getD ids i 0 ∷ drop j ids
 drop-more ids i j e l = rw e (drop-cons ids i 0 l)

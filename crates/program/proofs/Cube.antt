@@ -19,7 +19,7 @@ use Rattle.sums.specs.Fine.{allFine}
 use Rattle.sums.specs.Totals.{onSlope, slopeOf, totalsTo, withFacet, withPart}
 use Rattle.ieee.specs.Integer.{sameInteger}
 use Rattle.rows.specs.Rows.{inserted, largest, leastAbove, precedes, scaled, smallest, sorted}
-use Rattle.surfaces.specs.Surfaces.{normalKey, addArea, rows, sameKey, tenths}
+use Rattle.surfaces.specs.Surfaces.{rows, sameKey, tenths}
 use Rattle.walk.specs.Walk.{bucketsTo, withSurface}
 use Rattle.verdict.specs.Verdict.{byChain, byFaces, nearZero, quality, tooLarge}
 use Rattle.volume.specs.Best.{bestOf}
@@ -27,7 +27,6 @@ use Rattle.record.specs.Flags.{ifClip, ifInvalid}
 use Rattle.record.specs.Numbers.{profileAt}
 use Rattle.refusals.specs.declared.Check.{Check}
 use Rattle.refusals.specs.Refusals.{checkOf, unitFits}
-use Rattle.vertices.specs.Areas.{workWords}
 use Rattle.qto.specs.Full.{best, buckets, measures, measuresFrom, recordBy, recordFrom, recordOf, surfaceOf, surfaceRows, totals, verdict}
 use Rattle.qto.specs.Full.{volumeOf}
 use Rattle.meshfile.specs.Format.{File, ended, endingOf, fileOf, frontOf, u16At, idsIn, lengthFits, unitIn, verticesIn, u32At, wordsIn}

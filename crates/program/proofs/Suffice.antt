@@ -7,7 +7,6 @@ use borrow.Author.Tests.{le-ltb}
 use lib.Dec.{ltb}
 use lib.ListN.{length}
 use Rattle.refusals.specs.Refusals.{areasShort, checkOf}
-use Rattle.vertices.specs.Areas.{workWords}
 use Rattle.program.specs.Promises.{checkFile, AreasSuffice}
 use Rattle.ids.specs.Lent.{mostEntries}
 

@@ -35,13 +35,12 @@ use Rattle.volume.specs.declared.Best.{Best}
 use Rattle.volume.specs.declared.Method.{Method}
 use Rattle.volume.specs.declared.PrismBound.{PrismBound}
 use Rattle.volume.specs.Best.{prism, upper, trusted, openBest, bestOf}
-use Rattle.record.specs.declared.MeshQto.{MeshQto}
 use Rattle.record.specs.Record.{zeroRecord}
 use Rattle.refusals.specs.declared.Check.{Check}
 use Rattle.refusals.specs.Refusals.{Passes, checkOf}
 use Rattle.refusals.proofs.Checks.{admitted}
 use Rattle.qto.specs.declared.Answer.{Answer}
-use Rattle.qto.specs.Compute.{Computes, answerAt}
+use Rattle.qto.specs.Compute.{answerAt}
 use Rattle.qto.specs.Domain.{FiniteBound, FiniteRecord, FiniteRows, ComputesFinite, RowsFinite}
 use Rattle.qto.specs.Full.{square, cube, totals, volumeOf, surfaceOf, buckets, surfaceRows, measuresFrom, measures, verdict, best}
 use Rattle.qto.specs.Full.{recordFrom, recordBy, recordOf}

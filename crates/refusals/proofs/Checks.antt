@@ -10,7 +10,7 @@ use lib.Ieee.{Float}
 use borrow.Author.Tests.{ltb-false}
 use Rattle.sums.specs.Fine.{allFine}
 use Rattle.refusals.specs.declared.Check.{Check}
-use Rattle.refusals.specs.Refusals.{areasShort, unitFits, checkOf, Passes}
+use Rattle.refusals.specs.Refusals.{areasShort, unitFits, checkOf}
 use Rattle.refusals.specs.inner.Admitted.{Admitted}
 use Rattle.vertices.specs.Areas.{workWords, surfaceFloats, rasterBytes}
 use Rattle.ids.specs.Lent.{mostEntries}

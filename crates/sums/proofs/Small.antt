@@ -13,7 +13,7 @@ use Rattle.ids.specs.Triangles.{Triangle}
 use Rattle.vertices.specs.Vertices.{vertexCount, coordinate, cornersInRange}
 use Rattle.sums.specs.declared.triangle.Facet.{Facet}
 use Rattle.sums.specs.Box.{lowest, boxTo, box, origin}
-use Rattle.sums.specs.Facet.{at, minus, cross, dot, corner, rebasedCorners, normal, size, shortest, facetOf, Part, outOfRange, sliver}
+use Rattle.sums.specs.Facet.{at, minus, cross, dot, corner, rebasedCorners, normal, size, shortest, facetOf, outOfRange, sliver}
 use Rattle.sums.specs.Facet.{used}
 use Rattle.sums.specs.Facet.{partOf, rebased, part}
 use Rattle.sums.specs.Fine.{allFine, fine}

@@ -1,13 +1,12 @@
 -- Each verdict comes exactly where its meaning holds: by the tests in turn, whatever they are tests of. Assumes nothing.
 use mathlib.Core.Path.{_≡_, refl, sym, ap, _∙_}
-use mathlib.Core.Bool.{Bool, true, false, cond, _&&_, _||_, true≢false, false≢true}
+use mathlib.Core.Bool.{Bool, true, false, cond, _&&_, true≢false}
 use mathlib.Core.Logic.{_⊎_, inl, inr, ⊎-elim}
 use mathlib.Core.List.{List}
 use Prim.Native.Nat.{ℕ, _≤_, _<_}
 use native.Mathlib.Omega.{arith}
 use native.Mathlib.Decide.{decLe}
 use borrow.Author.Tests.{le-leb, lt-leb}
-use lib.Dec.{leb}
 use lib.IntN.{natAbs}
 use lib.Ieee.{Float, le}
 use Rattle.ieee.specs.Single.{nought}
@@ -18,7 +17,7 @@ use Rattle.ids.proofs.Groups.{or-right}
 use Rattle.ids.proofs.Meaning.{and-true, all-cancel-tells, max-abs-is-largest}
 use Rattle.weld.specs.Weld.{welded}
 use Rattle.verdict.specs.Verdict.{tooLarge, nearZero, byFaces, byChain, quality}
-use Rattle.verdict.specs.Meaning.{lastUsed, facesAsked, ClosedSays, OpenSays, CancelsOut, DegenerateSays, Exactly, VerdictMeans}
+use Rattle.verdict.specs.Meaning.{lastUsed, facesAsked, ClosedSays, OpenSays, CancelsOut, DegenerateSays, VerdictMeans}
 use Rattle.verdict.specs.declared.Quality.{Quality}
 use Rattle.verdict.specs.declared.Quality.the-variants.{Closed, OpenShell, Degenerate}
 use Rattle.verdict.proofs.Meaning.{no-box, too-large, within-box, unasked, one-sided, cancels, not-cancelled, as-given, as-welded}

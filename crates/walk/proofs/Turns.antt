@@ -5,7 +5,7 @@ use Prim.Native.Nat.{ℕ, zero, suc, _+_, _-_, _*_, _≤_, _<_}
 use mathlib.Core.Bool.{true, false}
 use native.Mathlib.Numerals.{add-one}
 use native.Mathlib.Omega.{arith}
-use mathlib.Core.List.{List, []}
+use mathlib.Core.List.{List}
 use lib.ListN.{length, replicate}
 use lib.Ieee.{Float, lt}
 use Rattle.sums.specs.declared.triangle.Facet.{Facet}
@@ -17,10 +17,9 @@ use Rattle.sums.specs.inner.Prepared.{noTriangle, facetBy, partBy, withRoot, pa
 use Rattle.sums.specs.Totals.{noTotals, withFacet, withPart, totalsTo}
 use Rattle.sums.proofs.Parts.{has-root, no-length, no-part, no-part-yet}
 use Rattle.surfaces.specs.Surfaces.{Bucket, normalKey}
-use Rattle.surfaces.specs.inner.Index.{Gathered, AddsArea, Ready}
+use Rattle.surfaces.specs.inner.Index.{AddsArea, Ready}
 use Rattle.surfaces.proofs.Gathering.{gathered-none}
 use Rattle.surfaces.proofs.Keys.{length-put-le}
-use Rattle.walk.specs.declared.Sums.{Sums}
 use Rattle.walk.specs.Walk.{withSurface, bucketsTo}
 use Rattle.walk.specs.inner.Steps.{Given, trianglesIn, partAt, bucketsOf, State, state, Takes, Taken, Awaits, Underway}
 use Rattle.walk.specs.inner.Walks.{Walks}

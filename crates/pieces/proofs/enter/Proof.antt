@@ -1,7 +1,7 @@
 -- `pieces::enter` meets its contract. A corner of a repeated-id triangle asks for nothing; a row found is joined, a free one filled.
 -- Assumes nothing.
 use mathlib.Core.Path.{_≡_, refl, sym, _∙_}
-use mathlib.Core.Bool.{true, false, true≢false}
+use mathlib.Core.Bool.{false, true≢false}
 use Prim.Native.Nat.{_/_}
 use native.Mathlib.Omega.{arith}
 use borrow.Author.Tests.{not-true, not-false}

@@ -1,5 +1,5 @@
 -- `probe::axis` meets its contract: 0, 1, and any other number for z. Assumes nothing.
-use mathlib.Core.Path.{_≡_, refl, sym}
+use mathlib.Core.Path.{_≡_, refl}
 use Prim.Native.Nat.{ℕ, zero, suc}
 use native.Mathlib.Omega.{arith}
 use Rattle.raster.specs.declared.Axis.{Axis}

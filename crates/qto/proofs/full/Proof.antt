@@ -4,11 +4,11 @@ use Rattle.vertices.specs.Areas.{workWords, rasterBytes}
 use Rattle.raster.proofs.Clearing.{cleared-back}
 use Rattle.qto.proofs.Assembled.{of-mesh}
 use Rattle.qto.proofs.Fronts.{index-fits, front-exact, front-kept, front-cleared}
-use mathlib.Core.Path.{_≡_, refl, sym, _∙_, subst}
+use mathlib.Core.Path.{refl, _∙_}
 use mathlib.Core.List.{List, _++_}
 use Prim.Native.Nat.{ℕ, _*_, _/_, _-_, _≤_}
 use native.Mathlib.Omega.{arith}
-use lib.ListN.{length, take}
+use lib.ListN.{length}
 use borrow.Rule.Slice.PartMut.{postOf}
 use borrow.Author.Needs.{needs}
 use Rattle.qto.proofs.full.Statement.{statement}

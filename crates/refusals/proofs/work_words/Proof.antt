@@ -1,6 +1,5 @@
 -- `refusals::work_words` meets its contract: the words needed are those of document 01. Assumes nothing.
 use mathlib.Core.Path.{refl}
-use Rattle.vertices.specs.Areas.{workWords}
 use borrow.Author.Needs.{needs}
 use Rattle.refusals.proofs.work_words.Statement.{statement}
 use Rattle.refusals.proofs.work_words.Tie as tie

@@ -1,5 +1,4 @@
 -- What the parts of the sort keep, and what a pass over rows a gap apart leaves.
-use mathlib.Core.Path.{_≡_}
 use mathlib.Core.List.{List}
 use Prim.Native.Nat.{ℕ, _+_, _*_, _≤_, _<_}
 use lib.ListN.{length, set}

@@ -1,6 +1,5 @@
 -- `rounding::whole::shifted` meets its contract. Assumes nothing.
 use borrow.Author.Needs.{needs}
-use Prim.Native.Nat.{_-_}
 use native.Mathlib.Omega.{arith}
 use lib.Pow.{pow-mono, pow-pos}
 use Rattle.ieee.proofs.Numbers.Basic.{one-shl}

@@ -122,7 +122,8 @@ module _ (joined : ℕ → ℕ → Bool) (both : (x y : ℕ) → joined x y ≡ 
   touched-covers t y [] h j = absurd (omega arith)
   touched-covers t y (g ∷ gs) h j = go (mem y g) refl (any (joined t) g) refl (λ l. touched-covers t y gs l j)
     where
-      go : (a : Bool) → mem y g ≡ a → (b : Bool) → any (joined t) g ≡ b → (0 < sumBy (times eqb y) gs → mem y (touched (joined t) gs) ≡ true)
+      go : (a : Bool) → mem y g ≡ a → (b : Bool) → any (joined t) g ≡ b
+          → (0 < sumBy (times eqb y) gs → mem y (touched (joined t) gs) ≡ true)
           → mem y (cond b (g ++ touched (joined t) gs) (touched (joined t) gs)) ≡ true
       go true m true n ih = mem-append y g _ ∙ or-left (mem y g) _ m
       go true m false n ih = absurd (true≢false (sym (any-of (joined t) g y m j) ∙ n))

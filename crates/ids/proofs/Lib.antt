@@ -15,4 +15,3 @@ pub mod Groups
 pub mod Shared
 pub mod Classes
 pub mod Solids
-pub mod Turned

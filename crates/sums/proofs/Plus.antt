@@ -10,13 +10,6 @@ use Rattle.ieee.specs.Rounded.{rounded}
 use Rattle.ieee.proofs.Order.Differences.{zero-bits}
 use Rattle.sums.specs.inner.Plus.{plus}
 
--- it is a number
-pub plus-number : (x : Float) → T (plus x) → T (not (isNan x))
-unfolding isNan
-plus-number nan p = p
-plus-number (inf s) p = tt
-plus-number (fin s m e) p = tt
-
 -- what a sum starts from
 pub plus-zero : (f : Format) → T (plus (ofBits f 0))
 plus-zero f = rw (zero-bits f) tt

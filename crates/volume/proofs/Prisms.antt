@@ -27,4 +27,18 @@ module _ (vs : List Float) (ids : List ℕ) (b : Bounds) (cube : Float) where
       → m ≡ orLess (ofBits binary32 0x7f80_0000) px → n ≡ orLess m py → o ≡ orLess n pz → r ≡ orNone o cube → r ≡ prism vs ids b cube
   unfolding prism ofBits
   prism-is m n o r z y x hm hn ho hr =
-      rw (hr, ho, hn, hm, x .is-prism, x .is-window, x .is-extent, y .is-prism, y .is-window, y .is-extent, z .is-prism, z .is-window, z .is-extent)
+      rw (
+        hr,
+        ho,
+        hn,
+        hm,
+        x .is-prism,
+        x .is-window,
+        x .is-extent,
+        y .is-prism,
+        y .is-window,
+        y .is-extent,
+        z .is-prism,
+        z .is-window,
+        z .is-extent,
+      )

@@ -75,5 +75,5 @@ returns-3 c =
 pub cell-spec : {M : Type 1} → statement M
 cell-spec =
     tie.close
-    (tie.spec returns float-to-float-y (λ c κs. search needs) (λ c κs. search needs) coded-size-requires
-    (λ c κs. search needs) (λ c κs. search needs) returns-2 returns-3)
+    (tie.spec returns float-to-float-y (λ c κs. search needs) (λ c κs. search needs) coded-size-requires (λ c κs. search needs)
+    (λ c κs. search needs) returns-2 returns-3)

@@ -95,5 +95,5 @@ returns-2 c =
 pub enter-spec : {M : Type 1} → statement M
 enter-spec =
     tie.close
-    (tie.spec (λ c κs. search needs) find-requires mark-requires claim-requires (λ c κs. search needs) (λ c. search needs)
-    note-requires-2 (λ c. search needs) returns (λ c. search needs) returns-2)
+    (tie.spec (λ c κs. search needs) find-requires mark-requires claim-requires (λ c κs. search needs) (λ c. search needs) note-requires-2
+    (λ c. search needs) returns (λ c. search needs) returns-2)

@@ -28,5 +28,5 @@ returns c =
 pub net-in-spec : {M : Type 1} → statement M
 net-in-spec =
     tie.close
-    (tie.spec (λ c. search needs) (λ c. search needs) (λ c κs. search needs) gather-requires (λ c κs. search needs)
-    (λ c κs. search needs) (λ c. search needs) returns)
+    (tie.spec (λ c. search needs) (λ c. search needs) (λ c κs. search needs) gather-requires (λ c κs. search needs) (λ c κs. search needs)
+    (λ c. search needs) returns)

@@ -100,6 +100,5 @@ returns-3 c =
 pub below-cube-spec : {M : Type 1} → statement M
 below-cube-spec =
     tie.close
-    (tie.spec Inv-loop μ-loop returns mul-square (λ c. omega arith) (λ c. omega arith) (λ c. omega arith) loop-holds
-    returns-2 mul-d mul-q (λ c. omega arith) add-q (λ c. omega arith) (λ c. omega arith) (λ c. omega arith) loop-again
-    returns-3)
+    (tie.spec Inv-loop μ-loop returns mul-square (λ c. omega arith) (λ c. omega arith) (λ c. omega arith) loop-holds returns-2 mul-d mul-q
+    (λ c. omega arith) add-q (λ c. omega arith) (λ c. omega arith) (λ c. omega arith) loop-again returns-3)

@@ -35,5 +35,5 @@ returns-4 c =
 pub cube-above-bits-spec : {M : Type 1} → statement M
 cube-above-bits-spec =
     tie.close
-    (tie.spec (λ c κs. search needs) (λ c κs. search needs) (λ c κs. search needs) (λ c κs. search needs)
-    sizes-above-requires returns returns-2 returns-3 returns-4)
+    (tie.spec (λ c κs. search needs) (λ c κs. search needs) (λ c κs. search needs) (λ c κs. search needs) sizes-above-requires returns
+    returns-2 returns-3 returns-4)

@@ -40,6 +40,5 @@ returns-2 c =
 pub sizes-above-spec : {M : Type 1} → statement M
 sizes-above-spec =
     tie.close
-    (tie.spec (λ c. search needs) (λ c. search needs) (λ c. search needs) (λ c. search needs) mul-below-cube
-    below-cube-requires mul-shifted-down (λ c. search needs) (λ c κs. search needs) below-cube-requires-2 returns
-    returns-2)
+    (tie.spec (λ c. search needs) (λ c. search needs) (λ c. search needs) (λ c. search needs) mul-below-cube below-cube-requires
+    mul-shifted-down (λ c. search needs) (λ c κs. search needs) below-cube-requires-2 returns returns-2)

@@ -65,6 +65,5 @@ pub gather-behind-spec : {M : Type 1} → statement M
 gather-behind-spec =
     tie.close
     (tie.spec Inv-loop μ-loop loop-holds (λ c. search needs) (λ c. search needs) (λ c. search needs) (λ c. search needs)
-    (λ c. search needs) (λ c. search needs) (λ c. search needs) (λ c. search needs) (λ c. search needs)
-    (λ c. search needs) slice-aggregate-triangle triangle-requires (λ c. search needs) (λ c. search needs) loop-again
-    same-length returns)
+    (λ c. search needs) (λ c. search needs) (λ c. search needs) (λ c. search needs) (λ c. search needs) (λ c. search needs)
+    slice-aggregate-triangle triangle-requires (λ c. search needs) (λ c. search needs) loop-again same-length returns)

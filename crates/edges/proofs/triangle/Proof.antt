@@ -46,6 +46,4 @@ returns-2 c =
 
 pub triangle-spec : {M : Type 1} → statement M
 triangle-spec =
-    tie.close
-    (tie.spec (λ c κs. search needs) returns walk-requires walk-requires-2 walk-requires-3 (λ c. search needs)
-    returns-2)
+    tie.close (tie.spec (λ c κs. search needs) returns walk-requires walk-requires-2 walk-requires-3 (λ c. search needs) returns-2)

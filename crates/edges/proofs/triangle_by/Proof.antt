@@ -14,5 +14,4 @@ returns-2 c = rw (c .before .before .before .before .if1 .left) (c .before .befo
 
 pub triangle-by-spec : {M : Type 1} → statement M
 triangle-by-spec =
-    tie.close
-    (tie.spec (λ c κs. search needs) (λ c κs. search needs) (λ c. search needs) returns (λ c. search needs) returns-2)
+    tie.close (tie.spec (λ c κs. search needs) (λ c κs. search needs) (λ c. search needs) returns (λ c. search needs) returns-2)

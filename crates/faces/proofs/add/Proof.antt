@@ -41,5 +41,5 @@ returns c = let bumped = c .before .before in rw (bumped .bump .ensures) (adding
 pub add-spec : {M : Type 1} → statement M
 add-spec =
     tie.close
-    (tie.spec (λ c κs. search needs) (λ c κs. search needs) (λ c κs. search needs) find-requires (λ c κs. search needs)
-    bump-requires (λ c. search needs) returns)
+    (tie.spec (λ c κs. search needs) (λ c κs. search needs) (λ c κs. search needs) find-requires (λ c κs. search needs) bump-requires
+    (λ c. search needs) returns)

@@ -72,7 +72,6 @@ returns c =
 pub add-behind-spec : {M : Type 1} → statement M
 add-behind-spec =
     tie.close
-    (tie.spec (λ c. search needs) (λ c. search needs) (λ c. search needs) (λ c. search needs) sort-requires
-    (λ c κs. search needs) (λ c κs. search needs) find-behind-requires (λ c. search needs) (λ c. search needs)
-    (λ c. search needs) (λ c. search needs) weight-requires (λ c. search needs) slice-aggregate-bump bump-requires
-    (λ c. search needs) returns)
+    (tie.spec (λ c. search needs) (λ c. search needs) (λ c. search needs) (λ c. search needs) sort-requires (λ c κs. search needs)
+    (λ c κs. search needs) find-behind-requires (λ c. search needs) (λ c. search needs) (λ c. search needs) (λ c. search needs)
+    weight-requires (λ c. search needs) slice-aggregate-bump bump-requires (λ c. search needs) returns)

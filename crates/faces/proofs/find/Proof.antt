@@ -71,5 +71,4 @@ pub find-spec : {M : Type 1} → statement M
 find-spec =
     tie.close
     (tie.spec Inv-loop μ-loop loop-holds (λ c. search needs) (λ c. search needs) (λ c. search needs) (λ c. search needs)
-    (λ c. search needs) (λ c. search needs) cast-same same-requires (λ c κs. search needs) loop-less loop-again returns
-    returns-2)
+    (λ c. search needs) (λ c. search needs) cast-same same-requires (λ c κs. search needs) loop-less loop-again returns returns-2)

@@ -18,5 +18,4 @@ returns c = let st = c .before .before .before .before in rw (part-to-end (st .a
 pub find-behind-spec : {M : Type 1} → statement M
 find-behind-spec =
     tie.close
-    (tie.spec (λ c. search needs) (λ c. search needs) (λ c. search needs) (λ c. search needs) slice-aggregate-find
-    find-requires returns)
+    (tie.spec (λ c. search needs) (λ c. search needs) (λ c. search needs) (λ c. search needs) slice-aggregate-find find-requires returns)

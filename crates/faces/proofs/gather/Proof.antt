@@ -35,5 +35,4 @@ returns c = summing-last (c .before .loop .inv .2) (omega arith)
 pub gather-spec : {M : Type 1} → statement M
 gather-spec =
     tie.close
-    (tie.spec Inv-loop μ-loop loop-holds triangle-requires (λ c. search needs) (λ c. search needs) loop-again
-    (λ c. search needs) returns)
+    (tie.spec Inv-loop μ-loop loop-holds triangle-requires (λ c. search needs) (λ c. search needs) loop-again (λ c. search needs) returns)

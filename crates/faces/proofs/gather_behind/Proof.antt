@@ -51,5 +51,5 @@ returns c =
 pub gather-behind-spec : {M : Type 1} → statement M
 gather-behind-spec =
     tie.close
-    (tie.spec Inv-loop μ-loop (λ c. search needs) loop-holds triangle-behind-requires (λ c. search needs)
-    (λ c. search needs) loop-again same-length returns)
+    (tie.spec Inv-loop μ-loop (λ c. search needs) loop-holds triangle-behind-requires (λ c. search needs) (λ c. search needs) loop-again
+    same-length returns)

@@ -51,5 +51,4 @@ pub net-spec : {M : Type 1} → statement M
 net-spec =
     tie.close
     (tie.spec Inv-loop μ-loop loop-holds (λ c. search needs) (λ c. search needs) (λ c. search needs) (λ c. search needs)
-    (λ c κs. search needs) (λ c κs. search needs) (λ c. search needs) add-off (λ c. search needs) (λ c. search needs)
-    loop-again returns)
+    (λ c κs. search needs) (λ c κs. search needs) (λ c. search needs) add-off (λ c. search needs) (λ c. search needs) loop-again returns)

@@ -32,5 +32,5 @@ returns-2 c =
 pub triangle-behind-spec : {M : Type 1} → statement M
 triangle-behind-spec =
     tie.close
-    (tie.spec (λ c. search needs) (λ c. search needs) (λ c. search needs) (λ c. search needs) distinct-at-requires
-    (λ c. search needs) returns (λ c κs. search needs) (λ c. search needs) returns-2)
+    (tie.spec (λ c. search needs) (λ c. search needs) (λ c. search needs) (λ c. search needs) distinct-at-requires (λ c. search needs)
+    returns (λ c κs. search needs) (λ c. search needs) returns-2)

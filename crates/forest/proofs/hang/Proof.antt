@@ -13,5 +13,5 @@ add-work c = omega (arith, c .slice-known .given (c .before .args .t))
 pub hang-spec : {M : Type 1} → statement M
 hang-spec =
     tie.close
-    (tie.spec (λ c. search needs) (λ c. search needs) mul-work-2 (λ c. search needs) add-work (λ c. search needs)
-    (λ c. search needs) (λ c. search needs) (λ c. search needs))
+    (tie.spec (λ c. search needs) (λ c. search needs) mul-work-2 (λ c. search needs) add-work (λ c. search needs) (λ c. search needs)
+    (λ c. search needs) (λ c. search needs))

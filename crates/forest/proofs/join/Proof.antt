@@ -62,5 +62,5 @@ returns-2 c =
 pub join-spec : {M : Type 1} → statement M
 join-spec =
     tie.close
-    (tie.spec (λ c κs. search needs) root-requires-2 hang-requires hang-requires-2 (λ c. search needs) returns
-    (λ c. search needs) returns-2)
+    (tie.spec (λ c κs. search needs) root-requires-2 hang-requires hang-requires-2 (λ c. search needs) returns (λ c. search needs)
+    returns-2)

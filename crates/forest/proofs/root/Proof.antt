@@ -66,5 +66,5 @@ loop-again c = higher (c .before .before) .1
 pub root-spec : {M : Type 1} → statement M
 root-spec =
     tie.close
-    (tie.spec Inv-loop μ-loop loop-holds parent-requires (λ c. search needs) returns parent-requires-2
-    (λ c κs. search needs) loop-less loop-again)
+    (tie.spec Inv-loop μ-loop loop-holds parent-requires (λ c. search needs) returns parent-requires-2 (λ c κs. search needs) loop-less
+    loop-again)

@@ -51,5 +51,5 @@ returns-4 c =
 pub cell-spec : {M : Type 1} → statement M
 cell-spec =
     tie.close
-    (tie.spec (λ c. search needs) (λ c. search needs) (λ c. search needs) whole-part32-requires (λ c. search needs)
-    (λ c. search needs) returns returns-2 returns-3 returns-4)
+    (tie.spec (λ c. search needs) (λ c. search needs) (λ c. search needs) whole-part32-requires (λ c. search needs) (λ c. search needs)
+    returns returns-2 returns-3 returns-4)

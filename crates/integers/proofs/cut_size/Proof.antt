@@ -13,5 +13,4 @@ returns-2 c = shift-size (c .before .args .e) (c .before .args .t) (c .if1 .left
 
 pub cut-size-spec : {M : Type 1} → statement M
 cut-size-spec =
-    tie.close
-    (tie.spec (λ c. search needs) (λ c. search needs) (λ c. search needs) (λ c. search needs) returns returns-2)
+    tie.close (tie.spec (λ c. search needs) (λ c. search needs) (λ c. search needs) (λ c. search needs) returns returns-2)

@@ -65,5 +65,5 @@ returns-5 c =
 pub to-i32-spec : {M : Type 1} → statement M
 to-i32-spec =
     tie.close
-    (tie.spec (λ c κs. search needs) (λ c κs. search needs) (λ c κs. search needs) cast-n sub-result returns returns-2
-    returns-3 returns-4 returns-5)
+    (tie.spec (λ c κs. search needs) (λ c κs. search needs) (λ c κs. search needs) cast-n sub-result returns returns-2 returns-3 returns-4
+    returns-5)

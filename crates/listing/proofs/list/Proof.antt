@@ -44,5 +44,5 @@ returns-2 c =
 pub list-spec : {M : Type 1} → statement M
 list-spec =
     tie.close
-    (tie.spec (λ c. search needs) (λ c κs. search needs) returns head-lines-requires (λ c. search needs)
-    slice-aggregate-row-lines row-lines-requires (λ c. search needs) returns-2)
+    (tie.spec (λ c. search needs) (λ c κs. search needs) returns head-lines-requires (λ c. search needs) slice-aggregate-row-lines
+    row-lines-requires (λ c. search needs) returns-2)

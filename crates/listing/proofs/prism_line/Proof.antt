@@ -21,5 +21,5 @@ returns-2 c =
 pub prism-line-spec : {M : Type 1} → statement M
 prism-line-spec =
     tie.close
-    (tie.spec (λ c. search needs) (λ c. search needs) (λ c κs. search needs) (λ c. search needs) (λ c. search needs)
-    (λ c. search needs) fill-requires (λ c. search needs) returns (λ c. search needs) returns-2)
+    (tie.spec (λ c. search needs) (λ c. search needs) (λ c κs. search needs) (λ c. search needs) (λ c. search needs) (λ c. search needs)
+    fill-requires (λ c. search needs) returns (λ c. search needs) returns-2)

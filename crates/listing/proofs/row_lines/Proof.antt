@@ -38,5 +38,5 @@ pub row-lines-spec : {M : Type 1} → statement M
 row-lines-spec =
     tie.close
     (tie.spec Inv-loop μ-loop loop-holds (λ c. search needs) (λ c. search needs) (λ c. search needs) (λ c. search needs)
-    (λ c. search needs) (λ c. search needs) (λ c. search needs) (λ c. search needs) fill-requires (λ c. search needs)
-    (λ c. search needs) loop-again (λ c. search needs) returns)
+    (λ c. search needs) (λ c. search needs) (λ c. search needs) (λ c. search needs) fill-requires (λ c. search needs) (λ c. search needs)
+    loop-again (λ c. search needs) returns)

@@ -26,6 +26,4 @@ returns-3 c =
 
 pub ending-of-spec : {M : Type 1} → statement M
 ending-of-spec =
-    tie.close
-    (tie.spec returns (λ c κs. search needs) (λ c. search needs) (λ c. search needs) flags-in-requires returns-2
-    returns-3)
+    tie.close (tie.spec returns (λ c κs. search needs) (λ c. search needs) (λ c. search needs) flags-in-requires returns-2 returns-3)

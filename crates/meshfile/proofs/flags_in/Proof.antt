@@ -34,5 +34,4 @@ returns-3 c =
 pub flags-in-spec : {M : Type 1} → statement M
 flags-in-spec =
     tie.close
-    (tie.spec (λ c κs. search needs) (λ c κs. search needs) (λ c κs. search needs) returns (λ c. search needs) returns-2
-    returns-3)
+    (tie.spec (λ c κs. search needs) (λ c κs. search needs) (λ c κs. search needs) returns (λ c. search needs) returns-2 returns-3)

@@ -51,5 +51,5 @@ returns-6 c =
 pub front-of-spec : {M : Type 1} → statement M
 front-of-spec =
     tie.close
-    (tie.spec returns (λ c κs. search needs) returns-2 (λ c κs. search needs) (λ c. search needs) (λ c κs. search needs)
-    returns-3 returns-4 (λ c. search needs) returns-5 returns-6)
+    (tie.spec returns (λ c κs. search needs) returns-2 (λ c κs. search needs) (λ c. search needs) (λ c κs. search needs) returns-3
+    returns-4 (λ c. search needs) returns-5 returns-6)

@@ -27,5 +27,5 @@ returns-2 c =
 pub ids-from-spec : {M : Type 1} → statement M
 ids-from-spec =
     tie.close
-    (tie.spec (λ c κs. search needs) (λ c. search needs) (λ c. search needs) (λ c. omega (arith, room c)) room
-    room (λ c. search needs) (λ c κs. search needs) (λ c κs. search needs) returns returns-2)
+    (tie.spec (λ c κs. search needs) (λ c. search needs) (λ c. search needs) (λ c. omega (arith, room c)) room room (λ c. search needs)
+    (λ c κs. search needs) (λ c κs. search needs) returns returns-2)

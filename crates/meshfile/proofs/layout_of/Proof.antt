@@ -27,5 +27,5 @@ returns-2 c =
 pub layout-of-spec : {M : Type 1} → statement M
 layout-of-spec =
     tie.close
-    (tie.spec (λ c κs. search needs) (λ c. search needs) (λ c. search needs) (λ c. omega (arith, room c)) room
-    room (λ c. search needs) (λ c κs. search needs) returns returns-2)
+    (tie.spec (λ c κs. search needs) (λ c. search needs) (λ c. search needs) (λ c. omega (arith, room c)) room room (λ c. search needs)
+    (λ c κs. search needs) returns returns-2)

@@ -70,5 +70,5 @@ returns c =
 pub paint-row-spec : {M : Type 1} → statement M
 paint-row-spec =
     tie.close
-    (tie.spec Inv-loop μ-loop mul-row (λ c κs. search needs) loop-holds add-mark (λ c κs. search needs) mark-requires
-    (λ c. search needs) (λ c. search needs) loop-again (λ c. search needs) returns)
+    (tie.spec Inv-loop μ-loop mul-row (λ c κs. search needs) loop-holds add-mark (λ c κs. search needs) mark-requires (λ c. search needs)
+    (λ c. search needs) loop-again (λ c. search needs) returns)

@@ -49,6 +49,6 @@ returns-2 c =
 pub paint-triangle-spec : {M : Type 1} → statement M
 paint-triangle-spec =
     tie.close
-    (tie.spec (λ c. search needs) (λ c. search needs) (λ c. search needs) (λ c. search needs) (λ c. search needs)
-    (λ c. search needs) (λ c. search needs) (λ c. search needs) (λ c. search needs) (λ c κs. search needs) flat-requires
-    (λ c κs. search needs) (λ c. search needs) returns returns-2)
+    (tie.spec (λ c. search needs) (λ c. search needs) (λ c. search needs) (λ c. search needs) (λ c. search needs) (λ c. search needs)
+    (λ c. search needs) (λ c. search needs) (λ c. search needs) (λ c κs. search needs) flat-requires (λ c κs. search needs)
+    (λ c. search needs) returns returns-2)

@@ -52,6 +52,4 @@ returns c =
 
 pub count-spec : {M : Type 1} → statement M
 count-spec =
-    tie.close
-    (tie.spec Inv-loop μ-loop loop-holds one-root-requires add-roots (λ c. search needs) (λ c. search needs) loop-again
-    returns)
+    tie.close (tie.spec Inv-loop μ-loop loop-holds one-root-requires add-roots (λ c. search needs) (λ c. search needs) loop-again returns)

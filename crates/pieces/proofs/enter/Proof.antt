@@ -96,6 +96,6 @@ returns-5 c =
 pub enter-spec : {M : Type 1} → statement M
 enter-spec =
     tie.close
-    (tie.spec distinct-at-requires returns (λ c κs. search needs) (λ c. search needs) returns-2 (λ c κs. search needs)
-    (λ c. search needs) join-requires (λ c. search needs) returns-3 (λ c. search needs) returns-4 (λ c. search needs)
-    (λ c κs. search needs) (λ c. search needs) (λ c. search needs) returns-5)
+    (tie.spec distinct-at-requires returns (λ c κs. search needs) (λ c. search needs) returns-2 (λ c κs. search needs) (λ c. search needs)
+    join-requires (λ c. search needs) returns-3 (λ c. search needs) returns-4 (λ c. search needs) (λ c κs. search needs)
+    (λ c. search needs) (λ c. search needs) returns-5)

@@ -59,5 +59,5 @@ returns-2 c = filled-all (c .before .loop .inv .1) (omega arith)
 pub fill-spec : {M : Type 1} → statement M
 fill-spec =
     tie.close
-    (tie.spec Inv-loop μ-loop (λ c. search needs) (λ c. search needs) loop-holds (λ c. search needs) enter-requires
-    (λ c. search needs) returns (λ c. search needs) (λ c. search needs) loop-again (λ c. search needs) returns-2)
+    (tie.spec Inv-loop μ-loop (λ c. search needs) (λ c. search needs) loop-holds (λ c. search needs) enter-requires (λ c. search needs)
+    returns (λ c. search needs) (λ c. search needs) loop-again (λ c. search needs) returns-2)

@@ -67,5 +67,5 @@ loop-again c =
 pub find-spec : {M : Type 1} → statement M
 find-spec =
     tie.close
-    (tie.spec Inv-loop μ-loop loop-holds (λ c κs. search needs) returns (λ c. search needs) key-requires returns-2
-    (λ c. search needs) returns-3 (λ c κs. search needs) (λ c. search needs) loop-again)
+    (tie.spec Inv-loop μ-loop loop-holds (λ c κs. search needs) returns (λ c. search needs) key-requires returns-2 (λ c. search needs)
+    returns-3 (λ c κs. search needs) (λ c. search needs) loop-again)

@@ -61,5 +61,5 @@ returns c = grown-map (c .before .loop .inv .1) (λ g p i la lb. p i la (omega a
 pub follow-spec : {M : Type 1} → statement M
 follow-spec =
     tie.close
-    (tie.spec Inv-loop μ-loop loop-holds (λ c. search needs) enter-requires (λ c. search needs) (λ c. search needs)
-    loop-again (λ c. search needs) returns)
+    (tie.spec Inv-loop μ-loop loop-holds (λ c. search needs) enter-requires (λ c. search needs) (λ c. search needs) loop-again
+    (λ c. search needs) returns)

@@ -47,5 +47,5 @@ returns c = let l = c .before .loop in joined-all (l .inv .0) (l .inv .1) (omega
 pub join-all-spec : {M : Type 1} → statement M
 join-all-spec =
     tie.close
-    (tie.spec Inv-loop μ-loop (λ c κs. search needs) (λ c. search needs) loop-holds pass-requires loop-less loop-again
-    (λ c. search needs) returns)
+    (tie.spec Inv-loop μ-loop (λ c κs. search needs) (λ c. search needs) loop-holds pass-requires loop-less loop-again (λ c. search needs)
+    returns)

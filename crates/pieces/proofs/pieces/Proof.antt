@@ -23,5 +23,5 @@ returns-2 c = let k = c .before .before in answered Answer (fine (k .before .bef
 pub pieces-spec : {M : Type 1} → statement M
 pieces-spec =
     tie.close
-    (tie.spec (λ c κs. search needs) returns (λ c. fine c .fits) (λ c. fine (c .before) .whole)
-    (λ c κs. fine (c .before) .lends) (λ c. search needs) returns-2)
+    (tie.spec (λ c κs. search needs) returns (λ c. fine c .fits) (λ c. fine (c .before) .whole) (λ c κs. fine (c .before) .lends)
+    (λ c. search needs) returns-2)

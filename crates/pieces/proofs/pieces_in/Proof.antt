@@ -21,5 +21,4 @@ returns c =
 
 pub pieces-in-spec : {M : Type 1} → statement M
 pieces-in-spec =
-    tie.close
-    (tie.spec (λ c κs. search needs) (λ c κs. search needs) (λ c κs. search needs) (λ c. search needs) returns)
+    tie.close (tie.spec (λ c κs. search needs) (λ c κs. search needs) (λ c κs. search needs) (λ c. search needs) returns)

@@ -22,7 +22,10 @@ unfolding axisAt
 returns-2 c = rw (c .if2 .taken)
 
 returns-3 : tie.Need-returns-3
-returns-3 c = neither (c .before .before .args .n) (λ e. absurd (omega (arith, e, c .before .if1 .left))) (λ e. absurd (omega (arith, e, c .if2 .left)))
+returns-3 c =
+    neither (c .before .before .args .n) (λ e. absurd (omega (arith, e, c .before .if1 .left)))
+    (λ e. absurd (omega (arith, e, c .if2 .left)))
 
 pub axis-spec : {M : Type 1} → statement M
-axis-spec = tie.close (tie.spec returns returns-2 returns-3)
+axis-spec =
+    tie.close (tie.spec returns returns-2 returns-3)

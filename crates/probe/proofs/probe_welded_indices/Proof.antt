@@ -18,6 +18,4 @@ returns-3 c = (rw (le-leb _ _ (c .before .if1 .left), ne-eqb _ _ (c .if2 .left))
 
 pub probe-welded-indices-spec : {M : Type 1} → statement M
 probe-welded-indices-spec =
-    tie.close
-    (tie.spec returns (λ c. search needs) (λ c. search needs) (λ c κs. search needs) (λ c. search needs) returns-2
-    returns-3)
+    tie.close (tie.spec returns (λ c. search needs) (λ c. search needs) (λ c κs. search needs) (λ c. search needs) returns-2 returns-3)

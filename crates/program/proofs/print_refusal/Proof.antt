@@ -32,6 +32,4 @@ returns-2 c =
 
 pub print-refusal-spec : {M : Type 1} → statement M
 print-refusal-spec =
-    tie.close
-    (tie.spec (λ c κs. search needs) (λ c. search needs) enum-told (λ c. search needs) returns (λ c. search needs)
-    returns-2)
+    tie.close (tie.spec (λ c κs. search needs) (λ c. search needs) enum-told (λ c. search needs) returns (λ c. search needs) returns-2)

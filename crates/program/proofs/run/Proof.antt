@@ -69,5 +69,5 @@ pub run-spec : {M : Type 1} → statement M
 run-spec =
     tie.close
     (tie.spec (λ c. search needs) (λ c. search needs) (λ c κs. search needs) (λ c. search needs) (λ c κs. search needs)
-    (λ c. search needs) array-share-prefix-vertices slice-aggregate-print-mesh array-share-prefix-ids
-    slice-aggregate-print-mesh-2 print-mesh-requires returns returns-2)
+    (λ c. search needs) array-share-prefix-vertices slice-aggregate-print-mesh array-share-prefix-ids slice-aggregate-print-mesh-2
+    print-mesh-requires returns returns-2)

@@ -31,6 +31,4 @@ returns c =
 
 pub arrange-spec : {M : Type 1} → statement M
 arrange-spec =
-    tie.close
-    (tie.spec (λ c κs. search needs) sort-requires (λ c κs. search needs) (λ c κs. search needs) (λ c. search needs)
-    returns)
+    tie.close (tie.spec (λ c κs. search needs) sort-requires (λ c κs. search needs) (λ c κs. search needs) (λ c. search needs) returns)

@@ -47,5 +47,5 @@ returns-3 c =
 pub compute-spec : {M : Type 1} → statement M
 compute-spec =
     tie.close
-    (tie.spec (λ c κs. search needs) (λ c. search needs) enum-told (λ c κs. search needs) (λ c. search needs)
-    full-requires returns returns-2 (λ c. search needs) (λ c. search needs) (λ c. search needs) returns-3)
+    (tie.spec (λ c κs. search needs) (λ c. search needs) enum-told (λ c κs. search needs) (λ c. search needs) full-requires returns
+    returns-2 (λ c. search needs) (λ c. search needs) (λ c. search needs) returns-3)

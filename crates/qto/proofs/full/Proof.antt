@@ -1,4 +1,5 @@
--- `qto::full` meets its contract: the record is that of the mesh's own measures, and the parts that are lent come back zero. Assumes nothing.
+-- `qto::full` meets its contract: the record is that of the mesh's own measures, and the parts that are lent come back zero. Assumes
+-- nothing.
 use Rattle.ids.specs.Triangles.{triangleCount}
 use Rattle.vertices.specs.Areas.{workWords, rasterBytes}
 use Rattle.raster.proofs.Clearing.{cleared-back}
@@ -58,7 +59,8 @@ measure-requires c κs =
     record {
       mesh = s .pre .mesh;
       is-box = k .box-of .ensures;
-      index-words = front-exact (5 * triangleCount (s .args .indices .now)) _ (s .args .work .now) refl (omega (arith, index-within k, s .pre .work));
+      index-words =
+          front-exact (5 * triangleCount (s .args .indices .now)) _ (s .args .work .now) refl (omega (arith, index-within k, s .pre .work));
       room = s .pre .surfaces;
     }
 
@@ -103,7 +105,8 @@ returns c =
       is = of-mesh (a .vertices .now) (a .indices .now) (a .unit-scale) (r .result) (q .result) (r .ensures .is) (q .ensures .is);
       work =
           front-cleared (words b) _ (measured m) (q .last .1 .1 .1 .1 .1 .0) (sized k .work-words .ensures) (q .ensures .work)
-          ∙ cleared-back (words b) (index b) (a .work .now) (r .last .1 .1 .1 .1 .0) (index-within b) (omega (arith, index-within b, start b .pre .work))
+          ∙ cleared-back (words b) (index b) (a .work .now) (r .last .1 .1 .1 .1 .0) (index-within b)
+          (omega (arith, index-within b, start b .pre .work))
           (r .kept .1 .1 .1 .1 .0);
       raster = front-cleared rasterBytes _ (a .raster .now) (q .last .1 .1 .1 .1 .1 .1 .0) (k .raster-bytes .ensures) (q .ensures .raster);
       surfaces = r .ensures .later;

@@ -36,5 +36,5 @@ returns c =
 pub record-by-spec : {M : Type 1} → statement M
 record-by-spec =
     tie.close
-    (tie.spec (λ c κs. search needs) (λ c κs. search needs) classify-mesh-quality-requires (λ c κs. search needs)
-    (λ c κs. search needs) (λ c. search needs) (λ c. search needs) (λ c. search needs) returns)
+    (tie.spec (λ c κs. search needs) (λ c κs. search needs) classify-mesh-quality-requires (λ c κs. search needs) (λ c κs. search needs)
+    (λ c. search needs) (λ c. search needs) (λ c. search needs) returns)

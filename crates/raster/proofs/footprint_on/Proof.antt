@@ -60,5 +60,5 @@ returns c =
 pub footprint-on-spec : {M : Type 1} → statement M
 footprint-on-spec =
     tie.close
-    (tie.spec (λ c κs. search needs) (λ c κs. search needs) tally-requires cast-nearest-u32-to-f32
-    (λ c κs. search needs) (λ c. search needs) returns)
+    (tie.spec (λ c κs. search needs) (λ c κs. search needs) tally-requires cast-nearest-u32-to-f32 (λ c κs. search needs)
+    (λ c. search needs) returns)

@@ -57,7 +57,8 @@ returns-2 c =
     let z = g .grid-over in
     let few = few-cells (z .result) (z .ensures .1) in (
       foot-some (a .vertices .now) (a .ids .now) (a .s) (w .result) (h .result) (m .result) (w .ensures) (h .ensures) (m .ensures)
-          (u .offset .result) (v .offset2 .result) (z .result) (found .result) (g .before .if1 .left) (u .offset .ensures .0) (v .offset2 .ensures .0)
+          (u .offset .result) (v .offset2 .result) (z .result) (found .result) (g .before .if1 .left) (u .offset .ensures .0)
+          (v .offset2 .ensures .0)
           (z .ensures .0) (found .ensures),
       cleared-back rasterBytes (z .result .nx * z .result .ny) (a .raster .now) (found .last .1 .1 .1 .1 .1 .0) few
           (omega (arith, few, s .pre)) (found .kept .1 .1 .1 .1 .1 .0),
@@ -67,5 +68,5 @@ pub footprint-over-spec : {M : Type 1} → statement M
 footprint-over-spec =
     tie.close
     (tie.spec (λ c κs. search needs) (λ c κs. search needs) (λ c κs. search needs) returns (λ c κs. search needs) mul-n
-    (λ c κs. search needs) (λ c κs. search needs) (λ c. search needs) (λ c. search needs) part-footprint-on-end
-    (λ c κs. search needs) (λ c. search needs) returns-2)
+    (λ c κs. search needs) (λ c κs. search needs) (λ c. search needs) (λ c. search needs) part-footprint-on-end (λ c κs. search needs)
+    (λ c. search needs) returns-2)

@@ -11,4 +11,5 @@ returns c =
     (p .ensures .0, cleared .clear .ensures ∙ p .ensures .1)
 
 pub footprint-raw-spec : {M : Type 1} → statement M
-footprint-raw-spec = tie.close (tie.spec (λ c κs. search needs) (λ c κs. search needs) (λ c. search needs) returns)
+footprint-raw-spec =
+    tie.close (tie.spec (λ c κs. search needs) (λ c κs. search needs) (λ c. search needs) returns)

@@ -44,5 +44,4 @@ returns c =
 pub tally-spec : {M : Type 1} → statement M
 tally-spec =
     tie.close
-    (tie.spec Inv-loop μ-loop loop-holds (λ c. search needs) cast-sum add-sum (λ c. search needs) (λ c. search needs)
-    loop-again returns)
+    (tie.spec Inv-loop μ-loop loop-holds (λ c. search needs) cast-sum add-sum (λ c. search needs) (λ c. search needs) loop-again returns)

@@ -25,6 +25,4 @@ returns-4 c = rw (c .enum-told4 .given .1)
 
 pub defect-number-spec : {M : Type 1} → statement M
 defect-number-spec =
-    tie.close
-    (tie.spec enum-told (λ c. search needs) (λ c. search needs) (λ c. search needs) returns returns-2 returns-3
-    returns-4)
+    tie.close (tie.spec enum-told (λ c. search needs) (λ c. search needs) (λ c. search needs) returns returns-2 returns-3 returns-4)

@@ -30,5 +30,5 @@ returns-5 c = rw (c .enum-told5 .given .1)
 pub method-number-spec : {M : Type 1} → statement M
 method-number-spec =
     tie.close
-    (tie.spec enum-told (λ c. search needs) (λ c. search needs) (λ c. search needs) (λ c. search needs) returns
-    returns-2 returns-3 returns-4 returns-5)
+    (tie.spec enum-told (λ c. search needs) (λ c. search needs) (λ c. search needs) (λ c. search needs) returns returns-2 returns-3
+    returns-4 returns-5)

@@ -39,7 +39,8 @@ module _ (c : tie.Else3) where
   abbrev start : tie.Start
   start = asked .before .before .before .before .before
 
-  behind : of start Behind2
+  behind : Behind2 (start .args .vertices .now) (start .args .indices .now) (start .args .unit-scale) (start .args .work)
+      (start .args .raster) (start .args .surfaces)
   behind =
       record {
         not-many = asked .before .before .if1 .left;
@@ -73,5 +74,5 @@ returns-2 c = of (c .before .before .before .before) row-zero (c .before .if1 .l
 pub checked-spec : {M : Type 1} → statement M
 checked-spec =
     tie.close
-    (tie.spec returns returns-2 (λ c κs. search needs) returns-3 areas-short-requires (λ c κs. search needs) returns-4
-    returns-5 returns-6)
+    (tie.spec returns returns-2 (λ c κs. search needs) returns-3 areas-short-requires (λ c κs. search needs) returns-4 returns-5
+    returns-6)

@@ -4,11 +4,6 @@ use borrow.Author.Needs.{needs}
 use Rattle.refusals.proofs.work_words.Statement.{statement}
 use Rattle.refusals.proofs.work_words.Tie as tie
 
-returns : tie.Need-returns
-returns c = refl
-
 pub work-words-spec : {M : Type 1} → statement M
 work-words-spec =
-    tie.close
-    (tie.spec (λ c. search needs) (λ c. search needs) (λ c. search needs) (λ c. search needs) (λ c. search needs)
-    returns)
+    tie.close (tie.spec (λ c. search needs) (λ c. search needs) (λ c. search needs) (λ c. search needs) (λ c. search needs) (λ c. refl))

@@ -43,6 +43,6 @@ pub print-line-of-spec : {M : Type 1} → statement M
 print-line-of-spec =
     tie.close
     (tie.spec (λ c. search needs) (λ c. search needs) (λ c κs. search needs) (λ c. search needs) array-share-prefix-ids
-    slice-aggregate-print-ids (λ c κs. search needs) array-share-prefix-vertices slice-aggregate-print-short
-    array-share-prefix-ids-2 slice-aggregate-print-short-2 print-short-requires (λ c. search needs)
-    (λ c κs. search needs) (λ c. search needs) (λ c. search needs) (λ c. search needs))
+    slice-aggregate-print-ids (λ c κs. search needs) array-share-prefix-vertices slice-aggregate-print-short array-share-prefix-ids-2
+    slice-aggregate-print-short-2 print-short-requires (λ c. search needs) (λ c κs. search needs) (λ c. search needs) (λ c. search needs)
+    (λ c. search needs))

@@ -13,5 +13,4 @@ slice-aggregate-write-all c = prints-front _ _ _ _ (c .before .run .ensures)
 pub print-listing-spec : {M : Type 1} → statement M
 print-listing-spec =
     tie.close
-    (tie.spec (λ c κs. search needs) array-share-prefix-text slice-aggregate-write-all (λ c κs. search needs)
-    (λ c. search needs))
+    (tie.spec (λ c κs. search needs) array-share-prefix-text slice-aggregate-write-all (λ c κs. search needs) (λ c. search needs))

@@ -11,6 +11,4 @@ abbrev μ-loop : tie.MeasureT-loop
 
 pub replay-all-spec : {M : Type 1} → statement M
 replay-all-spec =
-    tie.close
-    (tie.spec Inv-loop μ-loop (λ c. tt) (λ c κs. tt) (λ c. omega arith) (λ c. omega arith) (λ c. tt) (λ c. tt)
-    (λ c. tt))
+    tie.close (tie.spec Inv-loop μ-loop (λ c. tt) (λ c κs. tt) (λ c. omega arith) (λ c. omega arith) (λ c. tt) (λ c. tt) (λ c. tt))

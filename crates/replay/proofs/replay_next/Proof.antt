@@ -12,6 +12,5 @@ slice-aggregate-replay-mesh c = sym (length-take-le _ _ (omega arith))
 pub replay-next-spec : {M : Type 1} → statement M
 replay-next-spec =
     tie.close
-    (tie.spec (λ c. search needs) (λ c κs. search needs) (λ c. search needs) (λ c κs. search needs)
-    (λ c κs. search needs) (λ c. search needs) (λ c. search needs) slice-aggregate-replay-mesh (λ c κs. search needs)
-    (λ c. search needs))
+    (tie.spec (λ c. search needs) (λ c κs. search needs) (λ c. search needs) (λ c κs. search needs) (λ c κs. search needs)
+    (λ c. search needs) (λ c. search needs) slice-aggregate-replay-mesh (λ c κs. search needs) (λ c. search needs))

@@ -114,5 +114,5 @@ returns c =
 pub digit-root-spec : {M : Type 1} → statement M
 digit-root-spec =
     tie.close
-    (tie.spec Inv-loop μ-loop (λ c. omega arith) loop-holds mul-n add-n mul-d add-d (λ c. omega arith) mul-q add-q
-    mul-q-2 (λ c. omega arith) (λ c. omega arith) loop-again returns)
+    (tie.spec Inv-loop μ-loop (λ c. omega arith) loop-holds mul-n add-n mul-d add-d (λ c. omega arith) mul-q add-q mul-q-2
+    (λ c. omega arith) (λ c. omega arith) loop-again returns)

@@ -106,5 +106,5 @@ returns-2 c =
 pub nearest-root-spec : {M : Type 1} → statement M
 nearest-root-spec =
     tie.close
-    (tie.spec (λ c κs. search needs) mul-n sub-n mul-n-2 mul-t div-t mul-u rem-u mul-s add-s mul-if1 add-if1 mul-if1-2
-    add-result returns returns-2)
+    (tie.spec (λ c κs. search needs) mul-n sub-n mul-n-2 mul-t div-t mul-u rem-u mul-s add-s mul-if1 add-if1 mul-if1-2 add-result returns
+    returns-2)

@@ -49,5 +49,5 @@ returns-3 c =
 pub root64-spec : {M : Type 1} → statement M
 root64-spec =
     tie.close
-    (tie.spec returns float-to-bits-b root-normal-requires float-from-bits-result (λ c κs. search needs)
-    (λ c κs. search needs) returns-2 returns-3)
+    (tie.spec returns float-to-bits-b root-normal-requires float-from-bits-result (λ c κs. search needs) (λ c κs. search needs) returns-2
+    returns-3)

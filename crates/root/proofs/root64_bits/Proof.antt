@@ -34,5 +34,5 @@ returns-5 c =
 pub root64-bits-spec : {M : Type 1} → statement M
 root64-bits-spec =
     tie.close
-    (tie.spec float-from-bits-root-normal root-normal-requires (λ c κs. search needs) returns returns-2
-    (λ c. search needs) returns-4 returns-5)
+    (tie.spec float-from-bits-root-normal root-normal-requires (λ c κs. search needs) returns returns-2 (λ c. search needs) returns-4
+    returns-5)

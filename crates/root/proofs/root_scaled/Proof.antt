@@ -38,6 +38,4 @@ returns c = (ap (λ (z : ℕ). c .before .args .w / 2 * 2 ^ 52 + z) (c .settled 
 
 pub root-scaled-spec : {M : Type 1} → statement M
 root-scaled-spec =
-    tie.close
-    (tie.spec (λ c. search needs) (λ c. search needs) mul-settled (λ c. search needs) settled-requires add-result
-    returns)
+    tie.close (tie.spec (λ c. search needs) (λ c. search needs) mul-settled (λ c. search needs) settled-requires add-result returns)

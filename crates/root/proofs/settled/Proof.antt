@@ -122,8 +122,7 @@ returns c =
 pub settled-spec : {M : Type 1} → statement M
 settled-spec =
     tie.close
-    (tie.spec mul-p (λ c. search needs) (λ c. search needs) mul-wrapping-sub-u64-2 add-wrapping-sub-u64-2
-    (λ c κs. search needs) (λ c. search needs) (λ c. search needs) (λ c. search needs) mul-r-3 add-r-2 sub-r
-    (λ c. search needs) (λ c. search needs) (λ c. search needs) (λ c. search needs) (λ c. search needs)
-    (λ c κs. search needs) (λ c. search needs) (λ c. search needs) (λ c κs. search needs) (λ c. search needs)
-    (λ c κs. search needs) returns (λ c. search needs))
+    (tie.spec mul-p (λ c. search needs) (λ c. search needs) mul-wrapping-sub-u64-2 add-wrapping-sub-u64-2 (λ c κs. search needs)
+    (λ c. search needs) (λ c. search needs) (λ c. search needs) mul-r-3 add-r-2 sub-r (λ c. search needs) (λ c. search needs)
+    (λ c. search needs) (λ c. search needs) (λ c. search needs) (λ c κs. search needs) (λ c. search needs) (λ c. search needs)
+    (λ c κs. search needs) (λ c. search needs) (λ c κs. search needs) returns (λ c. search needs))

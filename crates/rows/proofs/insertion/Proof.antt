@@ -35,5 +35,4 @@ returns c =
 pub insertion-spec : {M : Type 1} → statement M
 insertion-spec =
     tie.close
-    (tie.spec Inv-loop μ-loop loop-holds settle-requires (λ c. search needs) (λ c. search needs) loop-again
-    (λ c. search needs) returns)
+    (tie.spec Inv-loop μ-loop loop-holds settle-requires (λ c. search needs) (λ c. search needs) loop-again (λ c. search needs) returns)

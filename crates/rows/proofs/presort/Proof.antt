@@ -31,5 +31,5 @@ returns-2 c =
 pub presort-spec : {M : Type 1} → statement M
 presort-spec =
     tie.close
-    (tie.spec Inv-loop μ-loop (λ c κs. search needs) (λ c. search needs) (λ c. search needs) loop-holds
-    (λ c κs. search needs) (λ c. search needs) loop-again (λ c. search needs) returns-2)
+    (tie.spec Inv-loop μ-loop (λ c κs. search needs) (λ c. search needs) (λ c. search needs) loop-holds (λ c κs. search needs)
+    (λ c. search needs) loop-again (λ c. search needs) returns-2)

@@ -21,6 +21,6 @@ returns c = rows-put (c .args .rows .now) (c .args .j) (c .args .r) (c .pre)
 pub put-spec : {M : Type 1} → statement M
 put-spec =
     tie.close
-    (tie.spec (λ c. search needs) (λ c. search needs) (λ c. search needs) (λ c. search needs) (λ c. search needs)
-    slice-write-rows-2 (λ c. search needs) (λ c. search needs) slice-write-rows-3 (λ c. search needs)
-    (λ c. search needs) slice-write-rows-4 (λ c. search needs) returns)
+    (tie.spec (λ c. search needs) (λ c. search needs) (λ c. search needs) (λ c. search needs) (λ c. search needs) slice-write-rows-2
+    (λ c. search needs) (λ c. search needs) slice-write-rows-3 (λ c. search needs) (λ c. search needs) slice-write-rows-4
+    (λ c. search needs) returns)

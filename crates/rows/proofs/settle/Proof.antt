@@ -58,5 +58,5 @@ returns-2 c =
 pub settle-spec : {M : Type 1} → statement M
 settle-spec =
     tie.close
-    (tie.spec Inv-loop μ-loop loop-holds (λ c κs. search needs) (λ c. search needs) returns (λ c κs. search needs)
-    (λ c. search needs) loop-again (λ c. search needs) returns-2)
+    (tie.spec Inv-loop μ-loop loop-holds (λ c κs. search needs) (λ c. search needs) returns (λ c κs. search needs) (λ c. search needs)
+    loop-again (λ c. search needs) returns-2)

@@ -63,7 +63,6 @@ returns-2 c =
 pub claim-spec : {M : Type 1} → statement M
 claim-spec =
     tie.close
-    (tie.spec (λ c. search needs) (λ c. search needs) (λ c. search needs) (λ c. search needs) add-part-2
-    (λ c. search needs) (λ c. search needs) (λ c. search needs) (λ c. search needs) (λ c. search needs)
-    put-wide-requires same-length returns (λ c. search needs) (λ c. search needs) (λ c. search needs)
-    put-narrow-requires same-length-2 returns-2)
+    (tie.spec (λ c. search needs) (λ c. search needs) (λ c. search needs) (λ c. search needs) add-part-2 (λ c. search needs)
+    (λ c. search needs) (λ c. search needs) (λ c. search needs) (λ c. search needs) put-wide-requires same-length returns
+    (λ c. search needs) (λ c. search needs) (λ c. search needs) put-narrow-requires same-length-2 returns-2)

@@ -90,5 +90,5 @@ returns-2 c = let s = c .before in found (at s) (λ u. code-eq (key (at s) (r (a
 pub find-from-spec : {M : Type 1} → statement M
 find-from-spec =
     tie.close
-    (tie.spec Inv-loop μ-loop (λ c. search needs) loop-holds mark-requires (λ c. search needs) same-requires
-    (λ c κs. search needs) loop-less loop-again returns returns-2)
+    (tie.spec Inv-loop μ-loop (λ c. search needs) loop-holds mark-requires (λ c. search needs) same-requires (λ c κs. search needs)
+    loop-less loop-again returns returns-2)

@@ -22,5 +22,5 @@ add-result-2 c =
 pub pair-spec : {M : Type 1} → statement M
 pair-spec =
     tie.close
-    (tie.spec (λ c. search needs) (λ c. search needs) cast-result (λ c. search needs) (λ c. search needs)
-    (λ c. search needs) cast-result-2 mul-result-3 add-result-2 (λ c. search needs))
+    (tie.spec (λ c. search needs) (λ c. search needs) cast-result (λ c. search needs) (λ c. search needs) (λ c. search needs)
+    cast-result-2 mul-result-3 add-result-2 (λ c. search needs))

@@ -29,6 +29,5 @@ returns c = let a = c .before .before .before .args in three-set (a .part .now) 
 pub put-narrow-spec : {M : Type 1} → statement M
 put-narrow-spec =
     tie.close
-    (tie.spec cast-part (λ c. search needs) (λ c. search needs) cast-part-2 (λ c. search needs) (λ c. search needs)
-    slice-write-part-2 cast-part-3 (λ c. search needs) (λ c. search needs) (λ c. search needs) (λ c. search needs)
-    returns)
+    (tie.spec cast-part (λ c. search needs) (λ c. search needs) cast-part-2 (λ c. search needs) (λ c. search needs) slice-write-part-2
+    cast-part-3 (λ c. search needs) (λ c. search needs) (λ c. search needs) (λ c. search needs) returns)

@@ -26,8 +26,7 @@ returns c = let a = c .before .before .before .before .before .before .args in s
 pub put-wide-spec : {M : Type 1} → statement M
 put-wide-spec =
     tie.close
-    (tie.spec (λ c. search needs) (λ c. search needs) (λ c. search needs) (λ c. search needs) (λ c. search needs)
-    (λ c. search needs) slice-write-part-2 (λ c. search needs) (λ c. search needs) (λ c. search needs)
-    slice-write-part-3 (λ c. search needs) (λ c. search needs) (λ c. search needs) slice-write-part-4
-    (λ c. search needs) (λ c. search needs) (λ c. search needs) slice-write-part-5 (λ c. search needs)
-    (λ c. search needs) (λ c. search needs) (λ c. search needs) (λ c. search needs) returns)
+    (tie.spec (λ c. search needs) (λ c. search needs) (λ c. search needs) (λ c. search needs) (λ c. search needs) (λ c. search needs)
+    slice-write-part-2 (λ c. search needs) (λ c. search needs) (λ c. search needs) slice-write-part-3 (λ c. search needs)
+    (λ c. search needs) (λ c. search needs) slice-write-part-4 (λ c. search needs) (λ c. search needs) (λ c. search needs)
+    slice-write-part-5 (λ c. search needs) (λ c. search needs) (λ c. search needs) (λ c. search needs) (λ c. search needs) returns)

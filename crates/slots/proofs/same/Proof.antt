@@ -37,5 +37,5 @@ returns-2 c = c .same-narrow .ensures ∙ read (c .before .before .before) false
 pub same-spec : {M : Type 1} → statement M
 same-spec =
     tie.close
-    (tie.spec (λ c. search needs) (λ c. search needs) (λ c. search needs) same-wide-requires (λ c. search needs)
-    (λ c. search needs) (λ c. search needs) same-narrow-requires returns returns-2)
+    (tie.spec (λ c. search needs) (λ c. search needs) (λ c. search needs) same-wide-requires (λ c. search needs) (λ c. search needs)
+    (λ c. search needs) same-narrow-requires returns returns-2)

@@ -36,5 +36,5 @@ returns c =
 pub same-narrow-spec : {M : Type 1} → statement M
 same-narrow-spec =
     tie.close
-    (tie.spec (λ c. search needs) (λ c. search needs) cast-result (λ c. search needs) (λ c. search needs)
-    (λ c. search needs) cast-result-2 (λ c. search needs) (λ c. search needs) (λ c. search needs) cast-result-3 returns)
+    (tie.spec (λ c. search needs) (λ c. search needs) cast-result (λ c. search needs) (λ c. search needs) (λ c. search needs)
+    cast-result-2 (λ c. search needs) (λ c. search needs) (λ c. search needs) cast-result-3 returns)

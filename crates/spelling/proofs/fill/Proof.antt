@@ -76,6 +76,6 @@ returns c =
 pub fill-spec : {M : Type 1} → statement M
 fill-spec =
     tie.close
-    (tie.spec Inv-loop μ-loop loop-holds (λ c. search needs) mul-put-number shared-slice-read-put-number
-    put-number-requires add-used (λ c. search needs) slice-write-out (λ c. search needs) (λ c. search needs)
-    (λ c. search needs) loop-again (λ c. search needs) returns)
+    (tie.spec Inv-loop μ-loop loop-holds (λ c. search needs) mul-put-number shared-slice-read-put-number put-number-requires add-used
+    (λ c. search needs) slice-write-out (λ c. search needs) (λ c. search needs) (λ c. search needs) loop-again (λ c. search needs)
+    returns)

@@ -61,5 +61,5 @@ returns c =
 pub put-line-spec : {M : Type 1} → statement M
 put-line-spec =
     tie.close
-    (tie.spec Inv-loop μ-loop loop-holds (λ c. search needs) slice-write-out (λ c. search needs) (λ c. search needs)
-    (λ c. search needs) add-line (λ c. search needs) (λ c. search needs) loop-again (λ c. search needs) returns)
+    (tie.spec Inv-loop μ-loop loop-holds (λ c. search needs) slice-write-out (λ c. search needs) (λ c. search needs) (λ c. search needs)
+    add-line (λ c. search needs) (λ c. search needs) loop-again (λ c. search needs) returns)

@@ -9,6 +9,4 @@ returns c = search (needs, add-commutes)
 
 pub grow-spec : {M : Type 1} → statement M
 grow-spec =
-    tie.close
-    (tie.spec (λ c. search needs) (λ c. search needs) (λ c. search needs) (λ c. search needs) (λ c. search needs)
-    returns)
+    tie.close (tie.spec (λ c. search needs) (λ c. search needs) (λ c. search needs) (λ c. search needs) (λ c. search needs) returns)

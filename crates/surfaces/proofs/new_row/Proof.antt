@@ -50,5 +50,5 @@ pub new-row-spec : {M : Type 1} → statement M
 new-row-spec =
     tie.close
     (tie.spec (λ c. search needs) (λ c κs. search needs) (λ c κs. search needs) (λ c. search needs) (λ c. search needs)
-    (λ c. search needs) (λ c κs. search needs) (λ c. search needs) (λ c. search needs) slice-write-rows-2
-    (λ c κs. search needs) (λ c. search needs) (λ c. search needs) slice-write-rows-3 (λ c. search needs) returns)
+    (λ c. search needs) (λ c κs. search needs) (λ c. search needs) (λ c. search needs) slice-write-rows-2 (λ c κs. search needs)
+    (λ c. search needs) (λ c. search needs) slice-write-rows-3 (λ c. search needs) returns)

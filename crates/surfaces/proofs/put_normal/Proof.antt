@@ -106,5 +106,5 @@ pub put-normal-spec : {M : Type 1} → statement M
 put-normal-spec =
     tie.close
     (tie.spec (λ c κs. search needs) find-requires (λ c κs. search needs) claim-requires key-of-requires (λ c κs. search needs)
-    (λ c. search needs) (λ c. search needs) mul-grow grow-requires (λ c. search needs) (λ c. search needs) returns
-    (λ c. search needs) (λ c. search needs) returns-2)
+    (λ c. search needs) (λ c. search needs) mul-grow grow-requires (λ c. search needs) (λ c. search needs) returns (λ c. search needs)
+    (λ c. search needs) returns-2)

@@ -66,6 +66,5 @@ returns c =
 pub chain-behind-spec : {M : Type 1} → statement M
 chain-behind-spec =
     tie.close
-    (tie.spec (λ c. search needs) (λ c κs. search needs) (λ c. search needs) (λ c κs. search needs)
-    gather-chain-behind-requires (λ c. search needs) slice-aggregate-tally-edges tally-edges-requires (λ c. search needs)
-    returns)
+    (tie.spec (λ c. search needs) (λ c κs. search needs) (λ c. search needs) (λ c κs. search needs) gather-chain-behind-requires
+    (λ c. search needs) slice-aggregate-tally-edges tally-edges-requires (λ c. search needs) returns)

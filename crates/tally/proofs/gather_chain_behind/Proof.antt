@@ -23,5 +23,4 @@ returns-2 c =
 
 pub gather-chain-behind-spec : {M : Type 1} → statement M
 gather-chain-behind-spec =
-    tie.close
-    (tie.spec (λ c. search needs) (λ c κs. search needs) (λ c. search needs) (λ c. search needs) returns returns-2)
+    tie.close (tie.spec (λ c. search needs) (λ c κs. search needs) (λ c. search needs) (λ c. search needs) returns returns-2)

@@ -70,5 +70,5 @@ returns c =
 pub net-behind-spec : {M : Type 1} → statement M
 net-behind-spec =
     tie.close
-    (tie.spec (λ c. search needs) (λ c. search needs) (λ c. search needs) clear-requires gather-behind-requires
-    (λ c. search needs) slice-aggregate-tally-faces tally-faces-requires (λ c. search needs) returns)
+    (tie.spec (λ c. search needs) (λ c. search needs) (λ c. search needs) clear-requires gather-behind-requires (λ c. search needs)
+    slice-aggregate-tally-faces tally-faces-requires (λ c. search needs) returns)

@@ -55,5 +55,4 @@ returns-4 c =
 pub by-faces-spec : {M : Type 1} → statement M
 by-faces-spec =
     tie.close
-    (tie.spec returns (λ c κs. search needs) (λ c. search needs) returns-2 (λ c. search needs) returns-3
-    (λ c. search needs) returns-4)
+    (tie.spec returns (λ c κs. search needs) (λ c. search needs) returns-2 (λ c. search needs) returns-3 (λ c. search needs) returns-4)

@@ -27,5 +27,4 @@ returns-2 c =
 
 pub prism-on-spec : {M : Type 1} → statement M
 prism-on-spec =
-    tie.close
-    (tie.spec (λ c κs. search needs) (λ c. search needs) returns (λ c κs. search needs) (λ c. search needs) returns-2)
+    tie.close (tie.spec (λ c κs. search needs) (λ c. search needs) returns (λ c κs. search needs) (λ c. search needs) returns-2)

@@ -80,6 +80,6 @@ returns c =
 pub take-all-spec : {M : Type 1} → statement M
 take-all-spec =
     tie.close
-    (tie.spec Inv-loop μ-loop (λ c κs. search needs) (λ c κs. search needs) (λ c κs. search needs) loop-holds
-    (λ c. search needs) with-root-requires cross-at-requires take-requires add-t (λ c. search needs) loop-again
-    (λ c. search needs) (λ c. search needs) returns)
+    (tie.spec Inv-loop μ-loop (λ c κs. search needs) (λ c κs. search needs) (λ c κs. search needs) loop-holds (λ c. search needs)
+    with-root-requires cross-at-requires take-requires add-t (λ c. search needs) loop-again (λ c. search needs) (λ c. search needs)
+    returns)

@@ -65,5 +65,5 @@ returns c =
 pub weld-spec : {M : Type 1} → statement M
 weld-spec =
     tie.close
-    (tie.spec (λ c. search needs) (λ c. search needs) (λ c κs. search needs) (λ c. search needs) (λ c. search needs)
-    (λ c. search needs) gather-requires (λ c κs. search needs) (λ c κs. search needs) (λ c. search needs) returns)
+    (tie.spec (λ c. search needs) (λ c. search needs) (λ c κs. search needs) (λ c. search needs) (λ c. search needs) (λ c. search needs)
+    gather-requires (λ c κs. search needs) (λ c κs. search needs) (λ c. search needs) returns)

@@ -40,5 +40,5 @@ returns-2 c =
 pub welded-indices-spec : {M : Type 1} → statement M
 welded-indices-spec =
     tie.close
-    (tie.spec (λ c. search needs) (λ c κs. search needs) (λ c. search needs) returns (λ c κs. search needs)
-    (λ c κs. search needs) (λ c. search needs) returns-2)
+    (tie.spec (λ c. search needs) (λ c κs. search needs) (λ c. search needs) returns (λ c κs. search needs) (λ c κs. search needs)
+    (λ c. search needs) returns-2)

@@ -27,5 +27,5 @@ returns-2 c = rw (c .before .answer2 .given .1)
 pub edge-chain-number-spec : {M : Type 1} → statement M
 edge-chain-number-spec =
     tie.close
-    (tie.spec (λ c. search needs) (λ c. search needs) (λ c. search needs) mul-result add-result (λ c. search needs)
-    (λ c. search needs) (λ c. search needs) returns returns-2)
+    (tie.spec (λ c. search needs) (λ c. search needs) (λ c. search needs) mul-result add-result (λ c. search needs) (λ c. search needs)
+    (λ c. search needs) returns returns-2)

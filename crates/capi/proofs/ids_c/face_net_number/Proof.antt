@@ -32,5 +32,5 @@ returns-2 c = rw (c .before .answer2 .given .1)
 pub face-net-number-spec : {M : Type 1} → statement M
 face-net-number-spec =
     tie.close
-    (tie.spec (λ c. search needs) mul-result (λ c. search needs) add-result (λ c. search needs) (λ c. search needs)
-    (λ c. search needs) returns returns-2)
+    (tie.spec (λ c. search needs) mul-result (λ c. search needs) add-result (λ c. search needs) (λ c. search needs) (λ c. search needs)
+    returns returns-2)

@@ -14,5 +14,4 @@ returns-2 c = rw (c .before .answer2 .given .1)
 
 pub piece-count-number-spec : {M : Type 1} → statement M
 piece-count-number-spec =
-    tie.close
-    (tie.spec (λ c. search needs) (λ c. search needs) (λ c. search needs) (λ c. search needs) returns returns-2)
+    tie.close (tie.spec (λ c. search needs) (λ c. search needs) (λ c. search needs) (λ c. search needs) returns returns-2)

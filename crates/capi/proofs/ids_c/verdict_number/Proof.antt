@@ -16,5 +16,4 @@ returns-2 c = rw (c .before .answer2 .given .1)
 pub verdict-number-spec : {M : Type 1} → statement M
 verdict-number-spec =
     tie.close
-    (tie.spec (λ c. search needs) (λ c. search needs) (λ c. search needs) (λ c. search needs) (λ c. search needs)
-    returns returns-2)
+    (tie.spec (λ c. search needs) (λ c. search needs) (λ c. search needs) (λ c. search needs) (λ c. search needs) returns returns-2)

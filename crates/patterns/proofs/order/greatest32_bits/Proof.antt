@@ -8,5 +8,4 @@ returns c = cc
 
 pub greatest32-bits-spec : {M : Type 1} → statement M
 greatest32-bits-spec =
-    tie.close
-    (tie.spec (λ c κs. search needs) (λ c κs. search needs) (λ c κs. search needs) (λ c κs. search needs) returns)
+    tie.close (tie.spec (λ c κs. search needs) (λ c κs. search needs) (λ c κs. search needs) (λ c κs. search needs) returns)

@@ -10,5 +10,4 @@ returns c =
 
 pub least32-bits-spec : {M : Type 1} → statement M
 least32-bits-spec =
-    tie.close
-    (tie.spec (λ c κs. search needs) (λ c κs. search needs) (λ c κs. search needs) (λ c κs. search needs) returns)
+    tie.close (tie.spec (λ c κs. search needs) (λ c κs. search needs) (λ c κs. search needs) (λ c κs. search needs) returns)

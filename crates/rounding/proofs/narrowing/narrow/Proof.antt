@@ -98,5 +98,5 @@ returns-4 c = c .f32-of .ensures ∙ answer (c .before .before .before .before .
 pub narrow-spec : {M : Type 1} → statement M
 narrow-spec =
     tie.close
-    (tie.spec returns float-to-bits-b mul-s narrow-normal-requires add-result cast-result float-from-bits-result
-    cast-result-2 float-from-bits-result-2 (λ c κs. search needs) (λ c κs. search needs) returns-2 returns-3 returns-4)
+    (tie.spec returns float-to-bits-b mul-s narrow-normal-requires add-result cast-result float-from-bits-result cast-result-2
+    float-from-bits-result-2 (λ c κs. search needs) (λ c κs. search needs) returns-2 returns-3 returns-4)

@@ -34,5 +34,5 @@ returns-3 c = narrow-nan (c .before .before .args .b) (omega arith)
 pub narrow-bits-spec : {M : Type 1} → statement M
 narrow-bits-spec =
     tie.close
-    (tie.spec (λ c. search needs) (λ c κs. search needs) add-result cast-result (λ c. search needs) (λ c. search needs)
-    returns returns-2 returns-3)
+    (tie.spec (λ c. search needs) (λ c κs. search needs) add-result cast-result (λ c. search needs) (λ c. search needs) returns returns-2
+    returns-3)

@@ -25,5 +25,5 @@ returns-4 c =
 pub narrow-size-spec : {M : Type 1} → statement M
 narrow-size-spec =
     tie.close
-    (tie.spec (λ c. search needs) (λ c. search needs) (λ c κs. search needs) (λ c κs. search needs) returns returns-2
-    (λ c. search needs) returns-4)
+    (tie.spec (λ c. search needs) (λ c. search needs) (λ c κs. search needs) (λ c κs. search needs) returns returns-2 (λ c. search needs)
+    returns-4)

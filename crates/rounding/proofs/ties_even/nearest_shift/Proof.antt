@@ -28,5 +28,5 @@ returns c =
 pub nearest-shift-spec : {M : Type 1} → statement M
 nearest-shift-spec =
     tie.close
-    (tie.spec (λ c. search needs) (λ c. search needs) sub-result-2 add-result (λ c. search needs) add-result-2
-    (λ c. search needs) returns)
+    (tie.spec (λ c. search needs) (λ c. search needs) sub-result-2 add-result (λ c. search needs) add-result-2 (λ c. search needs)
+    returns)

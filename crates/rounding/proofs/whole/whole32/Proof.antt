@@ -42,5 +42,5 @@ returns-3 c =
 pub whole32-spec : {M : Type 1} → statement M
 whole32-spec =
     tie.close
-    (tie.spec (λ c κs. search needs) (λ c κs. search needs) (λ c κs. search needs) (λ c κs. search needs) int-to-float-n
-    returns returns-2 returns-3)
+    (tie.spec (λ c κs. search needs) (λ c κs. search needs) (λ c κs. search needs) (λ c κs. search needs) int-to-float-n returns returns-2
+    returns-3)

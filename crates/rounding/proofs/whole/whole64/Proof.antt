@@ -40,6 +40,4 @@ returns-3 c =
 
 pub whole64-spec : {M : Type 1} → statement M
 whole64-spec =
-    tie.close
-    (tie.spec (λ c κs. search needs) (λ c κs. search needs) (λ c κs. search needs) int-to-float-n returns returns-2
-    returns-3)
+    tie.close (tie.spec (λ c κs. search needs) (λ c κs. search needs) (λ c κs. search needs) int-to-float-n returns returns-2 returns-3)

@@ -34,8 +34,8 @@ returns c =
 pub with-vertex-spec : {M : Type 1} → statement M
 with-vertex-spec =
     tie.close
-    (tie.spec (λ c. search needs) (λ c. search needs) (λ c. search needs) (λ c. search needs) (λ c. search needs)
-    (λ c. search needs) (λ c. search needs) (λ c. search needs) (λ c. search needs) (λ c κs. numbers c .xmin)
-    (λ c κs. numbers (c .before) .ymin) (λ c κs. numbers (c .before .before) .zmin)
-    (λ c κs. numbers (c .before .before .before) .xmax) (λ c κs. numbers (c .before .before .before .before) .ymax)
-    (λ c κs. numbers (c .before .before .before .before .before) .zmax) returns)
+    (tie.spec (λ c. search needs) (λ c. search needs) (λ c. search needs) (λ c. search needs) (λ c. search needs) (λ c. search needs)
+    (λ c. search needs) (λ c. search needs) (λ c. search needs) (λ c κs. numbers c .xmin) (λ c κs. numbers (c .before) .ymin)
+    (λ c κs. numbers (c .before .before) .zmin) (λ c κs. numbers (c .before .before .before) .xmax)
+    (λ c κs. numbers (c .before .before .before .before) .ymax) (λ c κs. numbers (c .before .before .before .before .before) .zmax)
+    returns)

@@ -42,6 +42,6 @@ returns c = rw (first-axis (c .before .before .before .before .before .before .a
 pub corner-spec : {M : Type 1} → statement M
 corner-spec =
     tie.close
-    (tie.spec (λ c. search needs) (λ c. search needs) (λ c. search needs) float-to-float-x (λ c. search needs)
-    (λ c. search needs) (λ c. search needs) float-to-float-y (λ c. search needs) (λ c. search needs) (λ c. search needs)
-    float-to-float-z (λ c. search needs) (λ c. search needs) (λ c. search needs) returns)
+    (tie.spec (λ c. search needs) (λ c. search needs) (λ c. search needs) float-to-float-x (λ c. search needs) (λ c. search needs)
+    (λ c. search needs) float-to-float-y (λ c. search needs) (λ c. search needs) (λ c. search needs) float-to-float-z (λ c. search needs)
+    (λ c. search needs) (λ c. search needs) returns)

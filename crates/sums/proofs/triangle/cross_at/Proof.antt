@@ -83,7 +83,7 @@ returns-3 c =
 pub cross-at-spec : {M : Type 1} → statement M
 cross-at-spec =
     tie.close
-    (tie.spec (λ c κs. search needs) returns (λ c. search needs) (λ c. search needs) (λ c. search needs)
-    (λ c. search needs) (λ c. search needs) (λ c. search needs) (λ c. search needs) (λ c. search needs)
-    (λ c. search needs) (λ c κs. search needs) (λ c κs. search needs) returns-2 cast-corner corner-requires
-    cast-corner-2 corner-requires-2 cast-corner-3 corner-requires-3 (λ c κs. search needs) returns-3)
+    (tie.spec (λ c κs. search needs) returns (λ c. search needs) (λ c. search needs) (λ c. search needs) (λ c. search needs)
+    (λ c. search needs) (λ c. search needs) (λ c. search needs) (λ c. search needs) (λ c. search needs) (λ c κs. search needs)
+    (λ c κs. search needs) returns-2 cast-corner corner-requires cast-corner-2 corner-requires-2 cast-corner-3 corner-requires-3
+    (λ c κs. search needs) returns-3)

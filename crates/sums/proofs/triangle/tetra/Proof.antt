@@ -11,6 +11,4 @@ returns c = c .dot .ensures ∙ ap (dot (corner (c .before .before .before .befo
 
 pub tetra-spec : {M : Type 1} → statement M
 tetra-spec =
-    tie.close
-    (tie.spec (λ c. search needs) (λ c. search needs) (λ c. search needs) (λ c κs. search needs) (λ c κs. search needs)
-    returns)
+    tie.close (tie.spec (λ c. search needs) (λ c. search needs) (λ c. search needs) (λ c κs. search needs) (λ c κs. search needs) returns)

@@ -26,5 +26,5 @@ returns-4 c = rw (← c .before .before .before .before .slope-of .ensures, c .b
 pub add-spec : {M : Type 1} → statement M
 add-spec =
     tie.close
-    (tie.spec (λ c κs. search needs) enum-told (λ c. search needs) (λ c. search needs) (λ c. search needs) returns
-    returns-2 returns-3 returns-4)
+    (tie.spec (λ c κs. search needs) enum-told (λ c. search needs) (λ c. search needs) (λ c. search needs) returns returns-2 returns-3
+    returns-4)

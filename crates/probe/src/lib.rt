@@ -113,7 +113,8 @@ pub extern "C" fn probe_footprint_raw(
 ) -> f32
     ensures { λ r. ⌜ (r ≡ cond (ltb (length (now (area .entry))) rasterBytes) nought
         (footprint (now (vertices .entry)) (now (ids .entry)) (windowOf (axisAt «u_axis») (axisAt «v_axis») xmin xmax ymin ymax)))
-        × (now (area .exit) ≡ cond (ltb (length (now (area .entry))) rasterBytes) (now (area .entry)) (cleared rasterBytes (now (area .entry)))) ⌝ }
+        × (now (area .exit)
+        ≡ cond (ltb (length (now (area .entry))) rasterBytes) (now (area .entry)) (cleared rasterBytes (now (area .entry)))) ⌝ }
 {
     if area.len() < 65536 {
         return 0.0;

@@ -36,7 +36,8 @@ pub struct Best {
 // The footprint in a window times the extent on the third axis. The raster is zero afterwards.
 fn prism_on(vertices: &[f32], indices: &[u32], s: Window, along: f32, raster: &mut [u8]) -> f32
     requires { ⌜ length (now raster) ≡ rasterBytes ⌝ }
-    ensures { λ r. ⌜ (r ≡ prismOn (now (vertices .entry)) (now (indices .entry)) s along) × (now (raster .exit) ≡ replicate rasterBytes 0) ⌝ }
+    ensures { λ r. ⌜ (r ≡ prismOn (now (vertices .entry)) (now (indices .entry)) s along)
+        × (now (raster .exit) ≡ replicate rasterBytes 0) ⌝ }
 {
     if (along > 0.0) & ((s.xmax > s.xmin) & (s.ymax > s.ymin)) {
         return raster::footprint_raw(vertices, indices, s, raster) * along;

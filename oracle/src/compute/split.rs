@@ -1,5 +1,5 @@
 //! Separate triangles, each of a direction of its own, whose areas are chosen against the port's quick sort of the rows: it splits
-//! off two at a time, until its turns are used up and the heap sort takes over.
+//! off two at a time, until its turns are used up and the passes by gaps take over.
 
 use crate::solids::Shape;
 use std::collections::BTreeSet;

@@ -7,6 +7,8 @@ from tests.common import ROOT
 
 ROW = re.compile(r"^\| \[?`?(?P<path>crates/[^`\]|]+\.antt)`?\]?(?:\([^)]*\))? \|.*\| (?P<lines>\d+) \|$")
 PART = re.compile(r"^\*\*(?P<lines>[\d,]+) lines\*\*")
+TYPE = re.compile(r"^\| `(?P<name>\w+)` \| `(?P<crate>\w+)` \| (?P<kind>struct|enum) \| (?P<parts>.*) \|$")
+DECLARED = re.compile(r"Rattle·(\w+?)(?:·specs)?\.specs\.(?:specs\.)?declared\.(?:\w+\.)?([A-Z]\w*)\b")
 
 
 def lines_to_read(path):
@@ -29,6 +31,27 @@ def believed():
     return found
 
 
+def declared():
+    """The types of the code that the believed files name: crate and name."""
+    found = set()
+    for path in believed():
+        with open(os.path.join(ROOT, path), encoding="utf-8") as text:
+            found.update(DECLARED.findall(text.read()))
+    return found
+
+
+def parts_of(crate, name):
+    """A struct's fields or an enum's cases, as the code has them, and which of the two it is."""
+    for folder, _, files in os.walk(os.path.join(ROOT, "crates", crate, "src")):
+        for file in files:
+            with open(os.path.join(folder, file), encoding="utf-8") as text:
+                m = re.search(r"pub (struct|enum) " + name + r" \{(.*?)\n\}", text.read(), re.S)
+            if m:
+                lines = (re.sub(r"//.*", "", line).strip().rstrip(",") for line in m[2].split("\n"))
+                return m[1], "; ".join("`" + line.replace("pub ", "") + "`" for line in lines if line)
+    return None
+
+
 class Reading(unittest.TestCase):
     def setUp(self):
         with open(os.path.join(ROOT, "docs", "READING.md"), encoding="utf-8") as text:
@@ -44,6 +67,13 @@ class Reading(unittest.TestCase):
         for m in self.rows:
             with self.subTest(m["path"]):
                 self.assertEqual(int(m["lines"]), lines_to_read(os.path.join(ROOT, m["path"])))
+
+    def test_the_types_are_the_codes(self):
+        rows = [m for m in (TYPE.match(line) for line in self.text) if m]
+        self.assertEqual({(m["crate"], m["name"]) for m in rows}, declared())
+        for m in rows:
+            with self.subTest(m["name"]):
+                self.assertEqual((m["kind"], m["parts"]), parts_of(m["crate"], m["name"]))
 
     def test_the_sums_are_true(self):
         said, total = None, 0

@@ -19,7 +19,7 @@ use Rattle.sums.specs.Fine.{allFine}
 use Rattle.sums.specs.Totals.{onSlope, slopeOf, totalsTo, withFacet, withPart}
 use Rattle.ieee.specs.Integer.{sameInteger}
 use Rattle.rows.specs.Rows.{inserted, largest, leastAbove, precedes, scaled, smallest, sorted}
-use Rattle.surfaces.specs.Surfaces.{rows, sameKey, tenths}
+use Rattle.surfaces.specs.Surfaces.{addArea, normalKey, rows, sameKey, tenths}
 use Rattle.walk.specs.Walk.{bucketsTo, withSurface}
 use Rattle.verdict.specs.Verdict.{byChain, byFaces, nearZero, quality, tooLarge}
 use Rattle.volume.specs.Best.{bestOf}
@@ -50,14 +50,14 @@ unfolding cubeFile floatsOf cubeRecord recordOf recordBy recordFrom verdict meas
     withPart withFacet onSlope slopeOf part partOf cornersInRange inRange rebased normal size tetra facetOf triangle boxTo lowest
     highest boxVolume extent quality tooLarge nearZero byChain byFaces boundaryFree overIncident enough chain step around sameEdge
     present unbalanced crowded keysThat keys counting uses signedSum bit sumBy maxBy distinct overTriangles best bestOf buckets
-    surfaceRows bucketsTo withSurface tenths keyOf sameKey sameInteger put rows precedes inserted sorted scaled largest leastAbove
+    surfaceRows bucketsTo withSurface tenths normalKey sameKey sameInteger addArea rows precedes inserted sorted scaled largest leastAbove
     smallest least greatest magnitude integral rounded rootRound closestRoot floorRoot digits root add sub mul div lt le eq neg sum
     round units odd numberSize climb span isNan ofBits ofFields ofInt toSigned
 cube-record = refl
 
 cube-rows : surfaceRows (floatsOf (cubeFile .vertices)) (cubeFile .ids) (ofBits binary32 (cubeFile .unit)) ≡ cubeRows
 unfolding cubeFile floatsOf cubeRows surfaceRows buckets bucketsTo withSurface part partOf cornersInRange inRange rebased normal
-    size tetra facetOf triangle boxTo lowest highest tenths keyOf sameKey sameInteger put rows precedes inserted sorted scaled least
+    size tetra facetOf triangle boxTo lowest highest tenths normalKey sameKey sameInteger addArea rows precedes inserted sorted scaled least
     greatest integral rounded rootRound closestRoot floorRoot digits root add sub mul div lt le eq neg sum round units odd
     numberSize climb span isNan ofBits ofFields ofInt toSigned
 cube-rows = refl

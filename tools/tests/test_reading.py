@@ -68,6 +68,11 @@ class Reading(unittest.TestCase):
             with self.subTest(m["path"]):
                 self.assertEqual(int(m["lines"]), lines_to_read(os.path.join(ROOT, m["path"])))
 
+    def test_what_is_believed_leans_on_nothing_inner(self):
+        for path in believed():
+            with self.subTest(path), open(os.path.join(ROOT, path), encoding="utf-8") as text:
+                self.assertNotRegex(text.read(), r"specs\.inner\.")
+
     def test_the_types_are_the_codes(self):
         rows = [m for m in (TYPE.match(line) for line in self.text) if m]
         self.assertEqual({(m["crate"], m["name"]) for m in rows}, declared())

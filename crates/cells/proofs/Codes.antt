@@ -7,7 +7,7 @@ use lib.IntN.{ℤ, pos, negsuc}
 use Rattle.ids.proofs.Same.{three-eq, three-refl}
 use Rattle.slots.specs.declared.Code.{Code}
 use Rattle.cells.specs.Cells.{Cell, sameCell}
-use Rattle.ieee.specs.Integer.{sameInteger}
+use Rattle.ieee.specs.SameInteger.{sameInteger}
 use Rattle.cells.specs.inner.Table.{coded, cellCode}
 
 -- ---- one to one

@@ -4,7 +4,7 @@ use mathlib.Core.Bool.{Bool, _&&_, cond}
 use mathlib.Core.List.{List}
 use lib.IntN.{ℤ}
 use lib.Ieee.{Float, binary64, mul, toSigned}
-use Rattle.ieee.specs.Integer.{sameInteger}
+use Rattle.ieee.specs.SameInteger.{sameInteger}
 use Rattle.ieee.specs.Integral.{halfAway}
 use Rattle.vertices.specs.Vertices.{coordinate}
 

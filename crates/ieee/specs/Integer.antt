@@ -3,8 +3,7 @@
 use mathlib.Core.Path.{_≡_}
 use mathlib.Core.Bool.{Bool, true, false}
 use Prim.Native.Nat.{ℕ, _-_, _*_, _^_, _≤_}
-use lib.Dec.{eqb}
-use lib.IntN.{ℤ, pos, negsuc, negℤ}
+use lib.IntN.{pos, negℤ}
 use lib.Ieee.{Float, nan, inf, fin, up, down, toSigned, toUnsigned}
 
 -- the whole number n is not above the size of x; an infinity's is above every number
@@ -37,10 +36,3 @@ pub record ToUnsignedIs (w : ℕ) : Type 0 where
   pub of-nan : toUnsigned w nan ≡ 0
   pub from-zero-up : (x : Float) → HasSign false x → Cut (2 ^ w - 1) x (toUnsigned w x)
   pub from-zero-down : (x : Float) → HasSign true x → toUnsigned w x ≡ 0
-
--- ---- whether two integers are one
-unfoldable pub sameInteger : ℤ → ℤ → Bool
-sameInteger (pos m) (pos n) = eqb m n
-sameInteger (pos m) (negsuc n) = false
-sameInteger (negsuc m) (pos n) = false
-sameInteger (negsuc m) (negsuc n) = eqb m n

@@ -8,6 +8,7 @@ pub mod Whole
 pub mod Rounded
 pub mod Root
 pub mod Integer
+pub mod SameInteger
 pub mod WholeNumber
 pub mod Nearest
 pub mod Cube

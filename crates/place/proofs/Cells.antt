@@ -27,7 +27,7 @@ use Rattle.ieee.proofs.Order.Ranks.{same-test}
 use Rattle.ieee.proofs.Order.Signed.{AtMost}
 use Rattle.ieee.proofs.Values.Unchanged.{integral-own}
 use Rattle.cells.specs.Cells.{cellOf}
-use Rattle.ieee.specs.Integer.{sameInteger}
+use Rattle.ieee.specs.SameInteger.{sameInteger}
 use Rattle.cells.proofs.Codes.{integer-eq, integer-refl}
 use Rattle.weld.specs.Weld.{epsilonOf, inverse}
 use Rattle.refusals.specs.Refusals.{unitFits}

@@ -12,7 +12,7 @@ use lib.Ieee.{Float}
 use Rattle.ieee.proofs.Integers.Order.{eq-whole, eq-moved}
 use Rattle.vertices.specs.Vertices.{vertexCount, coordinate}
 use Rattle.cells.specs.Cells.{cellOf, cellAt, sameCell, firstThat, named}
-use Rattle.ieee.specs.Integer.{sameInteger}
+use Rattle.ieee.specs.SameInteger.{sameInteger}
 use Rattle.weld.specs.Weld.{epsilonOf, inverse, weldId, weldAll, unwelded, welded}
 use Rattle.refusals.specs.Refusals.{unitFits}
 use Rattle.qto.specs.Full.{distance}

@@ -5,7 +5,7 @@ use lib.Dec.{T}
 use lib.Ieee.{Float}
 use Rattle.rows.specs.declared.PlanarSurface.{PlanarSurface}
 use Rattle.rows.specs.Rows.{flatten, rowsOf, scaled, sorted, largest, smallest}
-use Rattle.rows.specs.inner.Plain.{allPlain}
+use Rattle.rows.specs.Plain.{allPlain}
 use Rattle.rows.proofs.Flat.{rows-flat}
 use Rattle.qto.specs.declared.Extremes.{Extremes}
 use Rattle.qto.specs.inner.Steps.{Arranged}

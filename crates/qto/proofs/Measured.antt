@@ -22,7 +22,7 @@ use Rattle.sums.proofs.Units.{leastUnit, mostUnit, square-positive}
 use lib.Ieee.Fits.{and-l, and-r}
 use Rattle.rows.specs.declared.PlanarSurface.{PlanarSurface}
 use Rattle.rows.specs.Rows.{flatten, rowsOf, scaled, sorted, largest, smallest}
-use Rattle.rows.specs.inner.Plain.{allPlain}
+use Rattle.rows.specs.Plain.{allPlain}
 use Rattle.rows.proofs.Flat.{rows-flat, length-flatten}
 use Rattle.rows.proofs.Areas.{length-scaled}
 use Rattle.rows.proofs.Order.{length-sorted}

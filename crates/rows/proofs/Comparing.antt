@@ -14,7 +14,7 @@ use Rattle.ieee.proofs.Order.Comparison.{eq-not-lt, le-lt-trans, le-of-not-lt, 
 use Rattle.ieee.proofs.Values.OneFloat.{value-unique}
 use Rattle.rows.specs.declared.PlanarSurface.{PlanarSurface}
 use Rattle.rows.specs.Rows.{thenBy, precedes}
-use Rattle.rows.specs.inner.Plain.{plainFloat, plainRow}
+use Rattle.rows.specs.Plain.{plainFloat, plainRow}
 use Rattle.rows.specs.Sorting.{singleRow}
 
 -- ---- by the first alone, or by the rest

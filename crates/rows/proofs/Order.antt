@@ -11,7 +11,7 @@ use lib.Ieee.Fits.{and-i, and-l, and-r}
 use lib.ListN.{length}
 use Rattle.rows.specs.declared.PlanarSurface.{PlanarSurface}
 use Rattle.rows.specs.Rows.{precedes, inserted, sorted}
-use Rattle.rows.specs.inner.Plain.{plainRow, allPlain}
+use Rattle.rows.specs.Plain.{plainRow, allPlain}
 use Rattle.rows.specs.Sorting.{passing, SameRows, Behind, InOrder, singleRow, allSingle, SortedInOrder, SortedSame, SortedOne}
 use Rattle.rows.specs.inner.Passes.{Rising}
 use Rattle.rows.proofs.Counts.{one, none-first, none-both, none-at}

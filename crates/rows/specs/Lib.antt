@@ -1,4 +1,5 @@
 -- Surfaces (01): the rows of the surface area, and their order; what it means that rows are sorted, which says it all.
 pub mod Rows
+pub mod Plain
 pub mod Sorting
 pub mod inner

@@ -9,7 +9,7 @@ use lib.Ieee.{nan, binary32, fits}
 use lib.ListN.{length, getD}
 use Rattle.rows.specs.declared.PlanarSurface.{PlanarSurface}
 use Rattle.rows.specs.Rows.{precedes, sorted}
-use Rattle.rows.specs.inner.Plain.{allPlain}
+use Rattle.rows.specs.Plain.{allPlain}
 
 -- what stands past the end
 abbrev pub noRow : PlanarSurface

@@ -6,7 +6,7 @@ ghost use lib.Dec.{T};
 ghost use lib.ListN.{length, set};
 ghost use Rattle.rows.specs.Rows.{flatten, rowsOf, thenBy, precedes as precedesOf, sorted, scaled, scaledRow};
 ghost use Rattle.rows.specs.Rows.{largest as largestOf, smallest as smallestOf, lessAbove};
-ghost use Rattle.rows.specs.inner.Plain.{allPlain};
+ghost use Rattle.rows.specs.Plain.{allPlain};
 ghost use Rattle.rows.specs.Sorting.{rowAt};
 ghost use Rattle.rows.specs.inner.Passes.{Inside, Few, swapped, Keeps, Rising, AfterPass};
 

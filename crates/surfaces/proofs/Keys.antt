@@ -9,7 +9,7 @@ use lib.Ieee.{Float}
 use lib.ListN.{length}
 use Rattle.ids.proofs.Same.{three-eq, three-refl}
 use Rattle.ieee.specs.Single.{_⊕_, nought}
-use Rattle.ieee.specs.Integer.{sameInteger}
+use Rattle.ieee.specs.SameInteger.{sameInteger}
 use Rattle.slots.proofs.Codes.{by}
 use Rattle.cells.proofs.Codes.{integer-eq, integer-refl}
 use Rattle.surfaces.specs.declared.Key.{Key}

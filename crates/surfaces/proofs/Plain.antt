@@ -10,7 +10,7 @@ use lib.Ieee.Fits.{down-pos}
 use lib.Ieee.Order.{round-mono}
 use lib.Ieee.Positive.{positive, above, above-of-le, le→cross}
 use Rattle.ieee.proofs.Values.Negation.{div-neg-left, ofInt-neg}
-use Rattle.rows.specs.inner.Plain.{plainFloat}
+use Rattle.rows.specs.Plain.{plainFloat}
 use Rattle.surfaces.specs.Surfaces.{ten, tenth}
 
 -- ---- what is above 0 is plain, and so is its negative

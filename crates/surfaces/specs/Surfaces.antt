@@ -5,7 +5,7 @@ use lib.IntN.{ℤ}
 use lib.Ieee.{Float, binary32, ofBits, ofInt, toSigned}
 use Rattle.ieee.specs.Integral.{halfAway}
 use Rattle.ieee.specs.Single.{_⊕_, _⊗_, _⊘_, nought}
-use Rattle.ieee.specs.Integer.{sameInteger}
+use Rattle.ieee.specs.SameInteger.{sameInteger}
 use Rattle.rows.specs.declared.PlanarSurface.{PlanarSurface}
 use Rattle.surfaces.specs.declared.Key.{Key}
 

@@ -17,7 +17,7 @@ use Rattle.sums.specs.Fine.{allFine}
 use Rattle.sums.proofs.Areas.{part-plus}
 use Rattle.sums.proofs.Plus.{plus-add, plus-mul, plus-zero}
 use Rattle.rows.specs.Rows.{scaled}
-use Rattle.rows.specs.inner.Plain.{plainFloat, plainRow, allPlain}
+use Rattle.rows.specs.Plain.{plainFloat, plainRow, allPlain}
 use Rattle.surfaces.specs.declared.Key.{Key}
 use Rattle.surfaces.specs.Surfaces.{Bucket, normalKey, tenth, rows}
 use Rattle.surfaces.specs.Keys.{areaFor, hasKey, Apart, AllAreas}

@@ -11,7 +11,7 @@ use Rattle.vertices.specs.Areas.{workWords, surfaceFloats, rasterBytes}
 use Rattle.sums.specs.declared.bounds.Bounds.{Bounds}
 use Rattle.sums.specs.Box.{box}
 use Rattle.rows.specs.Rows.{flatten, rowsOf, scaled, sorted, largest, smallest}
-use Rattle.rows.specs.inner.Plain.{allPlain}
+use Rattle.rows.specs.Plain.{allPlain}
 use Rattle.record.specs.declared.MeshQto.{MeshQto}
 use Rattle.refusals.specs.Refusals.{Passes}
 use Rattle.qto.specs.declared.Extremes.{Extremes}

@@ -1,4 +1,4 @@
--- What the contracts of `floats` cite, one idea a file, over both formats; `Nearest`, `Integer` and the records of `Integral` say what
+-- What the contracts of `floats` cite, one idea a file, over both formats; `Nearest`, `Integer` and `Whole` say what
 -- that is worth to a reader, `Answers` that it leaves no choice, and `Examples` tries each on a few values. `WholeNumber` is demand 3's.
 -- A conversion to an integer is the model's own `toSigned` or `toUnsigned`, a pattern its `toBits` and `ofBits`.
 pub mod Magnitude

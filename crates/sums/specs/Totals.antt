@@ -1,13 +1,14 @@
--- Slope, and the running sums (01): two in f64, four in f32.
+-- Slope, and the running sums (01): two in f64, the four areas by slope in f32.
 use Prim.Native.Nat.{ℕ, zero, suc}
 use mathlib.Core.Bool.{cond}
 use mathlib.Core.List.{List}
 use lib.Ieee.{Float, binary32, lt, neg, ofBits}
 use Rattle.ieee.specs.Magnitude.{magnitude}
-use Rattle.ieee.specs.Single.{_⊕_, nought}
+use Rattle.ieee.specs.Single.{_⊕_, _⊗_, nought}
 use Rattle.ieee.specs.Double.{_⊞_, nought64}
 use Rattle.ids.specs.Triangles.{triangle}
 use Rattle.sums.specs.declared.triangle.Facet.{Facet}
+use Rattle.sums.specs.declared.totals.Areas.{Areas}
 use Rattle.sums.specs.declared.totals.Slope.{Slope}
 use Rattle.sums.specs.declared.totals.Thresholds.{Thresholds}
 use Rattle.sums.specs.declared.totals.Totals.{Totals}
@@ -26,35 +27,44 @@ slopeOf p z =
 abbrev pub thresholds : Thresholds
 thresholds = record { top = ofBits binary32 0x3f70_a3d7; side = ofBits binary32 0x3eaf_1aa0 }
 
+-- ---- the areas by slope
+
+-- an area more on a slope
+unfoldable pub onSlope : Slope → Float → Areas → Areas
+onSlope Slope.Top x a = record { top = a .top ⊕ x; bottom = a .bottom; side = a .side; inclined = a .inclined }
+onSlope Slope.Bottom x a = record { top = a .top; bottom = a .bottom ⊕ x; side = a .side; inclined = a .inclined }
+onSlope Slope.Side x a = record { top = a .top; bottom = a .bottom; side = a .side ⊕ x; inclined = a .inclined }
+onSlope Slope.Inclined x a = record { top = a .top; bottom = a .bottom; side = a .side; inclined = a .inclined ⊕ x }
+
+-- each times a number
+abbrev pub scaledAreas : Float → Areas → Areas
+scaledAreas by a = record { top = a .top ⊗ by; bottom = a .bottom ⊗ by; side = a .side ⊗ by; inclined = a .inclined ⊗ by }
+
+-- each has a property
+pub record EachArea (P : Float → Type 0) (a : Areas) : Type 0 where
+  pub top : P (a .top)
+  pub bottom : P (a .bottom)
+  pub side : P (a .side)
+  pub inclined : P (a .inclined)
+
 -- ---- the sums
 
 abbrev pub noTotals : Totals
-noTotals = record { surface = nought64; volume6 = nought64; top = nought; bottom = nought; side = nought; inclined = nought }
-
--- with other areas by slope
-abbrev pub bySlope : Totals → Float → Float → Float → Float → Totals
-bySlope s top bottom side inclined =
-    record { surface = s .surface; volume6 = s .volume6; top = top; bottom = bottom; side = side; inclined = inclined }
-
--- with an area on a slope
-unfoldable pub onSlope : Slope → Float → Totals → Totals
-onSlope Slope.Top a s = bySlope s (s .top ⊕ a) (s .bottom) (s .side) (s .inclined)
-onSlope Slope.Bottom a s = bySlope s (s .top) (s .bottom ⊕ a) (s .side) (s .inclined)
-onSlope Slope.Side a s = bySlope s (s .top) (s .bottom) (s .side ⊕ a) (s .inclined)
-onSlope Slope.Inclined a s = bySlope s (s .top) (s .bottom) (s .side) (s .inclined ⊕ a)
+noTotals =
+    record {
+      surface = nought64;
+      volume6 = nought64;
+      areas = record { top = nought; bottom = nought; side = nought; inclined = nought };
+    }
 
 -- with a facet's area, volume term and slope
 unfoldable pub withFacet : Thresholds → Totals → Facet → Totals
 withFacet p s f =
-    onSlope (slopeOf p (f .nz)) (f .area32)
-    (record {
+    record {
       surface = s .surface ⊞ f .area;
       volume6 = s .volume6 ⊞ f .volume;
-      top = s .top;
-      bottom = s .bottom;
-      side = s .side;
-      inclined = s .inclined;
-    })
+      areas = onSlope (slopeOf p (f .nz)) (f .area32) (s .areas);
+    }
 
 -- with one triangle's part: only a used one adds to the sums
 unfoldable pub withPart : Thresholds → Totals → Part → Totals

@@ -8,6 +8,7 @@ pub use bounds::box_of;
 pub use bounds::box_volume;
 pub use bounds::extent;
 pub use bounds::origin;
+pub use totals::Areas;
 pub use totals::Slope;
 pub use totals::Thresholds;
 pub use totals::Totals;

@@ -1,6 +1,6 @@
 // The slope of a facet, and the running sums that take it.
 ghost use mathlib.Core.Path.{_≡_};
-ghost use Rattle.sums.specs.Totals.{slopeOf, thresholds, noTotals, withFacet};
+ghost use Rattle.sums.specs.Totals.{onSlope, scaledAreas, slopeOf, thresholds, noTotals, withFacet};
 use crate::triangle::Facet;
 
 pub enum Slope {
@@ -42,43 +42,74 @@ fn slope_of(pair: Thresholds, z: f32) -> Slope
     Slope::Inclined
 }
 
-// The running sums: two in f64, four in f32.
-pub struct Totals {
-    pub surface: f64,
-    pub volume6: f64,
+// The areas of the facets, by slope.
+pub struct Areas {
     pub top: f32,
     pub bottom: f32,
     pub side: f32,
     pub inclined: f32,
 }
 
+impl Areas {
+    // An area more on a slope.
+    pub fn on_slope(mut self, to: Slope, area: f32) -> Areas
+        ensures { λ r. ⌜ r ≡ onSlope to area self ⌝ }
+    {
+        match to {
+            Slope::Top => self.top = self.top + area,
+            Slope::Bottom => self.bottom = self.bottom + area,
+            Slope::Side => self.side = self.side + area,
+            Slope::Inclined => self.inclined = self.inclined + area,
+        }
+        self
+    }
+
+    // Each times a number.
+    pub fn scaled(self, by: f32) -> Areas
+        ensures { λ r. ⌜ r ≡ scaledAreas by self ⌝ }
+    {
+        Areas {
+            top: self.top * by,
+            bottom: self.bottom * by,
+            side: self.side * by,
+            inclined: self.inclined * by,
+        }
+    }
+}
+
+// The running sums: two in f64, the areas by slope in f32.
+pub struct Totals {
+    pub surface: f64,
+    pub volume6: f64,
+    pub areas: Areas,
+}
+
 impl Totals {
     pub fn none() -> Totals
         ensures { λ r. ⌜ r ≡ noTotals ⌝ }
     {
-        Totals {
-            surface: 0.0,
-            volume6: 0.0,
+        let areas = Areas {
             top: 0.0,
             bottom: 0.0,
             side: 0.0,
             inclined: 0.0,
+        };
+        Totals {
+            surface: 0.0,
+            volume6: 0.0,
+            areas,
         }
     }
 
-    // Takes one triangle's area, volume term and slope, and hands itself back.
-    pub fn add(mut self, pair: Thresholds, f: Facet) -> Totals
+    // Takes one triangle's area, volume term and slope.
+    pub fn add(self, pair: Thresholds, f: Facet) -> Totals
         ensures { λ r. ⌜ r ≡ withFacet pair self f ⌝ }
     {
-        self.surface = self.surface + f.area;
-        self.volume6 = self.volume6 + f.volume;
-        let to = slope_of(pair, f.nz);
-        match to {
-            Slope::Top => self.top = self.top + f.area32,
-            Slope::Bottom => self.bottom = self.bottom + f.area32,
-            Slope::Side => self.side = self.side + f.area32,
-            Slope::Inclined => self.inclined = self.inclined + f.area32,
+        let areas = self.areas;
+        Totals {
+            surface: self.surface + f.area,
+            volume6: self.volume6 + f.volume,
+            areas: areas.on_slope(slope_of(pair, f.nz), f.area32),
         }
-        self
     }
 }

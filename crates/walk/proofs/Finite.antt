@@ -13,13 +13,14 @@ use Rattle.ieee.specs.Single.{_⊕_, nought}
 use Rattle.ieee.proofs.Order.Differences.{zero-bits}
 use Rattle.ids.specs.Triangles.{triangle}
 use Rattle.sums.specs.declared.triangle.Facet.{Facet}
+use Rattle.sums.specs.declared.totals.Areas.{Areas}
 use Rattle.sums.specs.declared.totals.Slope.{Slope}
 use Rattle.sums.specs.declared.totals.Thresholds.{Thresholds}
 use Rattle.sums.specs.declared.totals.Totals.{Totals}
 use Rattle.sums.specs.Box.{box, origin}
 use Rattle.sums.specs.Facet.{Part, outOfRange, sliver, used, part}
 use Rattle.sums.specs.Fine.{allFine}
-use Rattle.sums.specs.Totals.{bySlope, noTotals, onSlope, slopeOf, withFacet, withPart, totalsTo}
+use Rattle.sums.specs.Totals.{EachArea, noTotals, onSlope, slopeOf, withFacet, withPart, totalsTo}
 use Rattle.sums.proofs.Areas.{Adds, part-within}
 use Rattle.sums.proofs.Within.{Within, within-add, within-most}
 use Rattle.surfaces.specs.Surfaces.{Bucket, normalKey}
@@ -49,81 +50,68 @@ within-none k f = rw (zero-bits f) (record { finite-is = tt; small = omega arith
 abbrev pub Times : ℕ → Float → Type 0
 Times n x = Within (n * 2 ^ 72) x
 
--- ---- the totals: the two of all triangles m times, the four by slope n times
-pub record TotalsWithin (m n : ℕ) (t : Totals) : Type 0 where
-  pub surface : Within (m * 2 ^ 72) (t .surface)
-  pub volume6 : Within (m * 2 ^ 103) (t .volume6)
-  pub top : Within (n * 2 ^ 72) (t .top)
-  pub bottom : Within (n * 2 ^ 72) (t .bottom)
-  pub side : Within (n * 2 ^ 72) (t .side)
-  pub inclined : Within (n * 2 ^ 72) (t .inclined)
+-- ---- the totals
+pub record TotalsWithin (n : ℕ) (t : Totals) : Type 0 where
+  pub surface : Times n (t .surface)
+  pub volume6 : Within (n * 2 ^ 103) (t .volume6)
+  pub areas : EachArea (Times n) (t .areas)
 
-totals-none : TotalsWithin 0 0 noTotals
+totals-none : TotalsWithin 0 noTotals
 totals-none =
+    let none = within-none 72 binary32 in
     record {
       surface = within-none 72 binary64;
       volume6 = within-none 103 binary64;
-      top = within-none 72 binary32;
-      bottom = within-none 72 binary32;
-      side = within-none 72 binary32;
-      inclined = within-none 72 binary32;
+      areas = record { top = none; bottom = none; side = none; inclined = none };
     }
 
-totals-still : (n : ℕ) (t : Totals) → TotalsWithin n n t → TotalsWithin (suc n) (suc n) t
+pub each-still : {P Q : Float → Type 0} (a : Areas) → ((y : Float) → P y → Q y) → EachArea P a → EachArea Q a
+each-still a f w =
+    record { top = f _ (w .top); bottom = f _ (w .bottom); side = f _ (w .side); inclined = f _ (w .inclined) }
+
+-- one of the four goes on, the others stay
+each-next : {P Q : Float → Type 0} (s : Slope) (x : Float) (a : Areas) → ((y : Float) → P y → Q y) → ((y : Float) → P y → Q (y ⊕ x))
+    → EachArea P a → EachArea Q (onSlope s x a)
+unfolding onSlope
+each-next Slope.Top x a f g w = record { top = g _ (w .top); bottom = f _ (w .bottom); side = f _ (w .side); inclined = f _ (w .inclined) }
+each-next Slope.Bottom x a f g w =
+    record { top = f _ (w .top); bottom = g _ (w .bottom); side = f _ (w .side); inclined = f _ (w .inclined) }
+each-next Slope.Side x a f g w =
+    record { top = f _ (w .top); bottom = f _ (w .bottom); side = g _ (w .side); inclined = f _ (w .inclined) }
+each-next Slope.Inclined x a f g w =
+    record { top = f _ (w .top); bottom = f _ (w .bottom); side = f _ (w .side); inclined = g _ (w .inclined) }
+
+totals-still : (n : ℕ) (t : Totals) → TotalsWithin n t → TotalsWithin (suc n) t
 totals-still n t w =
     record {
       surface = within-still 72 n (t .surface) (w .surface);
       volume6 = within-still 103 n (t .volume6) (w .volume6);
-      top = within-still 72 n (t .top) (w .top);
-      bottom = within-still 72 n (t .bottom) (w .bottom);
-      side = within-still 72 n (t .side) (w .side);
-      inclined = within-still 72 n (t .inclined) (w .inclined);
+      areas = each-still (t .areas) (within-still 72 n) (w .areas);
     }
 
 module _ (n : ℕ) (N : suc n ≤ 32768) where
-  slope-next : (s : Slope) (a : Float) (t : Totals) → Within (2 ^ 72) a → TotalsWithin (suc n) n t
-      → TotalsWithin (suc n) (suc n) (onSlope s a t)
-  unfolding onSlope
-  slope-next s a t A w = go s
-    where
-      still : {x : Float} → Times n x → Times (suc n) x
-      still {x} = within-still 72 n x
+  area-next : (x : Float) → Within (2 ^ 72) x → (y : Float) → Times n y → Times (suc n) (y ⊕ x)
+  area-next x X y v = within-next binary32 72 n (lit≤ tt) N y x v X
 
-      more : {x : Float} → Times n x → Times (suc n) (x ⊕ a)
-      more {x} v = within-next binary32 72 n (lit≤ tt) N x a v A
-
-      four : {p q r s : Float} → Times (suc n) p → Times (suc n) q → Times (suc n) r → Times (suc n) s
-          → TotalsWithin (suc n) (suc n) (bySlope t p q r s)
-      four P Q R S = record { surface = w .surface; volume6 = w .volume6; top = P; bottom = Q; side = R; inclined = S }
-
-      go : (s : Slope) → TotalsWithin (suc n) (suc n) (onSlope s a t)
-      go Slope.Top = four (more (w .top)) (still (w .bottom)) (still (w .side)) (still (w .inclined))
-      go Slope.Bottom = four (still (w .top)) (more (w .bottom)) (still (w .side)) (still (w .inclined))
-      go Slope.Side = four (still (w .top)) (still (w .bottom)) (more (w .side)) (still (w .inclined))
-      go Slope.Inclined = four (still (w .top)) (still (w .bottom)) (still (w .side)) (more (w .inclined))
-
-  facet-next : (p : Thresholds) (t : Totals) (f : Facet) → Adds f → TotalsWithin n n t → TotalsWithin (suc n) (suc n) (withFacet p t f)
+  facet-next : (p : Thresholds) (t : Totals) (f : Facet) → Adds f → TotalsWithin n t → TotalsWithin (suc n) (withFacet p t f)
   unfolding withFacet
   facet-next p t f a w =
-      slope-next (slopeOf p (f .nz)) (f .area32) _ (a .area32)
-      (record {
+      record {
         surface = within-next binary64 72 n (lit≤ tt) N (t .surface) (f .area) (w .surface) (a .area);
         volume6 = within-next binary64 103 n (lit≤ tt) N (t .volume6) (f .volume) (w .volume6) (a .volume);
-        top = w .top;
-        bottom = w .bottom;
-        side = w .side;
-        inclined = w .inclined;
-      })
+        areas =
+            each-next (slopeOf p (f .nz)) (f .area32) (t .areas) (within-still 72 n) (area-next (f .area32) (a .area32)) (w .areas);
+      }
 
-  part-next : (p : Thresholds) (t : Totals) (q : Part) → ((f : Facet) → q ≡ used f → Adds f) → TotalsWithin n n t
-      → TotalsWithin (suc n) (suc n) (withPart p t q)
+  part-next : (p : Thresholds) (t : Totals) (q : Part) → ((f : Facet) → q ≡ used f → Adds f) → TotalsWithin n t
+      → TotalsWithin (suc n) (withPart p t q)
   unfolding withPart
   part-next p t outOfRange a w = totals-still n t w
   part-next p t sliver a w = totals-still n t w
   part-next p t (used f) a w = facet-next p t f (a f refl) w
 
 pub totals-within : (vs : List Float) (p : Thresholds) (ids : List ℕ) (n : ℕ) → T (allFine vs) → n ≤ 32768
-    → TotalsWithin n n (totalsTo vs (origin (box vs)) p ids n)
+    → TotalsWithin n (totalsTo vs (origin (box vs)) p ids n)
 unfolding totalsTo
 totals-within vs p ids zero fine N = totals-none
 totals-within vs p ids (suc n) fine N =
@@ -138,10 +126,7 @@ totals-finite vs p ids n fine N =
     record {
       surface = w .surface .finite-is;
       volume6 = w .volume6 .finite-is;
-      top = w .top .finite-is;
-      bottom = w .bottom .finite-is;
-      side = w .side .finite-is;
-      inclined = w .inclined .finite-is;
+      areas = each-still _ (λ x v. v .finite-is) (w .areas);
     }
 
 -- ---- the areas of the keys
@@ -152,8 +137,7 @@ unfolding withSurface
 surface-next n N bs outOfRange a w = areas-still (Times n) (Times (suc n)) (within-still 72 n) bs w
 surface-next n N bs sliver a w = areas-still (Times n) (Times (suc n)) (within-still 72 n) bs w
 surface-next n N bs (used f) a w =
-    let more : (x : Float) → Times n x → Times (suc n) (x ⊕ f .area32) =
-    λ x v. within-next binary32 72 n (lit≤ tt) N x (f .area32) v (a f refl .area32) in
+    let more = area-next n N (f .area32) (a f refl .area32) in
     put-all (Times n) (Times (suc n)) (within-still 72 n) (normalKey (f .nx) (f .ny) (f .nz)) (f .area32) more
     (more nought (within-most (0 * 2 ^ 72) (n * 2 ^ 72) nought (omega arith) (within-none 72 binary32))) bs w
 

@@ -3,17 +3,15 @@ use mathlib.Core.List.{List}
 use lib.Dec.{T}
 use lib.Ieee.Scale.{finite}
 use Rattle.sums.specs.declared.totals.Totals.{Totals}
+use Rattle.sums.specs.Totals.{EachArea}
 use Rattle.surfaces.specs.Surfaces.{Bucket}
 use Rattle.surfaces.specs.Keys.{AllAreas}
 
--- the six running sums are finite
+-- the running sums are finite
 pub record FiniteTotals (t : Totals) : Type 0 where
   pub surface : T (finite (t .surface))
   pub volume6 : T (finite (t .volume6))
-  pub top : T (finite (t .top))
-  pub bottom : T (finite (t .bottom))
-  pub side : T (finite (t .side))
-  pub inclined : T (finite (t .inclined))
+  pub areas : EachArea (λ x. T (finite x)) (t .areas)
 
 -- the area of each key is
 abbrev pub FiniteAreas : List Bucket → Type 0

@@ -36,18 +36,13 @@ module _ (m : ℕ) (pair : Thresholds) (p : Prepared) (s : State) where
   unfolding partBy withPart withSurface
   takes-sliver e h = rw (e, h) (record { totals = refl; puts = λ w bs l g. (sym l, g) })
 
-  pub takes-used : (f : Facet) (r : State) → p .«in_range» ≡ true → lt (p .length) shortest ≡ false → f ≡ facetBy p
-      → Takes m pair (used f) s r
-      → Takes m pair (partBy p) s r
-  unfolding partBy facetBy
-  takes-used f r e h f-is t = rw (e, h) (rw f-is at t)
-
--- a facet
-pub takes-facet : (m : ℕ) (pair : Thresholds) (f : Facet) (s : State) (t : List ℕ) (u : List Float) (n : ℕ) (a : Totals)
-    → AddsArea m (s .sums .rows) (normalKey (f .nx) (f .ny) (f .nz)) (f .area32) (s .index) t (s .rows) u n
-    → a ≡ withFacet pair (s .sums .totals) f → Takes m pair (used f) s (state t u (record { totals = a; rows = n }))
-unfolding withPart withSurface
-takes-facet m pair f s t u n a p h = record { totals = h; puts = p .adds }
+  -- a facet
+  pub takes-used : (f : Facet) (t : List ℕ) (u : List Float) (n : ℕ) (a : Totals) → p .«in_range» ≡ true → lt (p .length) shortest ≡ false
+      → f ≡ facetBy p
+      → AddsArea m (s .sums .rows) (normalKey (f .nx) (f .ny) (f .nz)) (f .area32) (s .index) t (s .rows) u n
+      → a ≡ withFacet pair (s .sums .totals) f → Takes m pair (partBy p) s (state t u (record { totals = a; rows = n }))
+  unfolding partBy facetBy withPart withSurface
+  takes-used f t u n a e h f-is p a-is = rw (e, h, ← f-is) (record { totals = a-is; puts = p .adds })
 
 -- ---- no more rows than triangles
 

@@ -1,14 +1,8 @@
 // One walk over the triangles: the totals, and a row for each key of a normal. Internal: `qto` asks it.
-ghost use mathlib.Core.Path.{_≡_};
-ghost use Prim.Native.Nat.{_*_};
-ghost use lib.ListN.{replicate};
-ghost use Rattle.ids.specs.Triangles.{triangleCount};
 ghost use Rattle.surfaces.specs.inner.Index.{Ready};
-ghost use Rattle.sums.specs.Facet.{used};
 ghost use Rattle.sums.specs.inner.Prepared.{partBy};
-ghost use Rattle.walk.specs.inner.Steps.{given, state, Takes, Taken};
+ghost use Rattle.walk.specs.inner.Steps.{state, Takes};
 ghost use Rattle.walk.specs.inner.Walks.{Walkable, Walks};
-use sums::Facet;
 use sums::Prepared;
 use sums::Thresholds;
 use sums::Totals;
@@ -19,28 +13,7 @@ pub struct Sums {
     pub rows: usize,
 }
 
-// A facet more.
-fn take_facet(
-    pair: Thresholds,
-    s: Sums,
-    f: Facet,
-    index: &mut [u32],
-    rows: &mut [f32],
-    m: usize,
-) -> Sums
-    requires { ⌜ Ready m (s .rows) (now index) (now rows) ⌝ }
-    ensures { λ r. ⌜ Takes m pair (used f) (state (now (index .entry)) (now (rows .entry)) s)
-        (state (now (index .exit)) (now (rows .exit)) r) ⌝ }
-{
-    let totals = s.totals;
-    let n = surfaces::put_normal(index, rows, m, s.rows, f.nx, f.ny, f.nz, f.area32);
-    Sums {
-        totals: totals.add(pair, f),
-        rows: n,
-    }
-}
-
-// What is prepared of a triangle more.
+// What is prepared of a triangle more: a facet adds its row and its part of the totals.
 fn take(
     pair: Thresholds,
     s: Sums,
@@ -59,13 +32,19 @@ fn take(
     if p.length < 1e-12 {
         return s;
     }
-    take_facet(pair, s, sums::facet_by(p), index, rows, m)
+    let f = sums::facet_by(p);
+    let totals = s.totals;
+    let n = surfaces::put_normal(index, rows, m, s.rows, f.nx, f.ny, f.nz, f.area32);
+    Sums {
+        totals: totals.add(pair, f),
+        rows: n,
+    }
 }
 
-// All triangles, the index words being zero before. In one turn a triangle gets its cross product, the one in front of it its root, and the
-// one in front of that is taken: the three have nothing to do with each other, so that a processor looks for a row while it works at a
-// root.
-fn take_all(
+// The sums of all triangles. The rows stand first in the surface area; the index, 5 words a triangle, is left as it is, since all words are
+// cleared when the verdict is known. In one turn a triangle gets its cross product, the one in front of it its root, and the one in front
+// of that is taken: the three have nothing to do with each other, so that a processor looks for a row while it works at a root.
+pub fn walk(
     vertices: &[f32],
     indices: &[u32],
     origin: [f64; 3],
@@ -73,11 +52,11 @@ fn take_all(
     index: &mut [u32],
     rows: &mut [f32],
 ) -> Sums
-    requires { ⌜ Walkable (now vertices) (now indices) (now index) (now rows)
-        × (now index ≡ replicate (5 * triangleCount (now indices)) 0) ⌝ }
-    ensures { λ r. ⌜ Taken (given (now (vertices .entry)) origin pair (now (indices .entry)) (now (rows .entry)))
-        (triangleCount (now (indices .entry))) (state (now (index .exit)) (now (rows .exit)) r) ⌝ }
+    requires { ⌜ Walkable (now vertices) (now indices) (now index) (now rows) ⌝ }
+    ensures { λ r. ⌜ Walks (now (vertices .entry)) origin pair (now (indices .entry)) (now (rows .entry)) r (now (rows .exit)) ⌝ }
 {
+    let n = index.len();
+    table::clear(index, n);
     let m = indices.len() / 3;
     let mut s = Sums {
         totals: Totals::none(),
@@ -95,22 +74,4 @@ fn take_all(
         t += 1;
     }
     s
-}
-
-// The sums of all triangles. The rows stand first in the surface area; the index, 5 words a triangle, is left as it is, since all words are
-// cleared when the verdict is known.
-pub fn walk(
-    vertices: &[f32],
-    indices: &[u32],
-    origin: [f64; 3],
-    pair: Thresholds,
-    index: &mut [u32],
-    rows: &mut [f32],
-) -> Sums
-    requires { ⌜ Walkable (now vertices) (now indices) (now index) (now rows) ⌝ }
-    ensures { λ r. ⌜ Walks (now (vertices .entry)) origin pair (now (indices .entry)) (now (rows .entry)) r (now (rows .exit)) ⌝ }
-{
-    let n = index.len();
-    table::clear(index, n);
-    take_all(vertices, indices, origin, pair, index, rows)
 }

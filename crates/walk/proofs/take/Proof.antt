@@ -15,13 +15,14 @@ returns-2 c =
 
 returns-3 : tie.Need-returns-3
 returns-3 c =
-    let took = c .before .before .before .before in
-    let made = took .before .before .before in
-    let long = made .before in
-    let ranged = long .before .before in
-    takes-used _ _ (ranged .before .before .before .before .args .p) _ _ _ (not-false _ (ranged .if1 .left)) (long .if2 .left)
-    (made .facet-by .ensures) (took .take-facet .ensures)
+    let put = c .before .before .before .before .before in
+    let made = put .before .before .before .before in
+    let ranged = made .before .before .before in
+    takes-used _ _ (ranged .before .before .before .before .args .p) _ _ _ _ _ _ (not-false _ (ranged .if1 .left)) (made .before .if2 .left)
+    (made .facet-by .ensures) (put .put-normal .ensures) (c .add .ensures)
 
 pub take-spec : {M : Type 1} → statement M
 take-spec =
-    tie.close (tie.spec returns returns-2 (λ c κs. search needs) (λ c κs. search needs) (λ c. search needs) (λ c. search needs) returns-3)
+    tie.close
+    (tie.spec returns returns-2 (λ c κs. search needs) (λ c κs. search needs) (λ c κs. search needs) (λ c. search needs) (λ c. search needs)
+    returns-3)

@@ -1,25 +1,88 @@
--- `walk::walk` meets its contract: the index is cleared before. Assumes nothing.
-use Rattle.walk.proofs.Turns.{walks}
+-- `walk::walk` meets its contract: the index is cleared; after t turns one triangle has its cross product, the one in front of it its
+-- length, and all in front of that are taken. Assumes nothing.
+use mathlib.Core.Path.{_≡_, ap, subst, _∙_, refl}
+use lib.ListN.{length, replicate}
+use Prim.Native.Nat.{ℕ, _+_, _-_, _≤_}
+use Rattle.walk.specs.inner.Steps.{Given, given, trianglesIn, State, state, Taken, Underway}
+use Rattle.walk.proofs.Turns.{underway-none, underway-next, ready, walks}
 use Rattle.ids.proofs.Lent.{cleared-all}
-use mathlib.Core.Path.{_∙_, ap, refl}
-use Prim.Native.Nat.{ℕ}
-use lib.ListN.{replicate}
 use borrow.Author.Needs.{needs}
+use native.Mathlib.Omega.{arith}
 use Rattle.walk.proofs.walk.Statement.{statement}
 use Rattle.walk.proofs.walk.Tie as tie
 
-take-all-requires : tie.Need-take-all-requires
-take-all-requires c κs =
-    let cleared = c .before .before .before .before in
-    let s = cleared .before .before .before .before .before .before in
-    let a = s .pre in (
-      record { fine = a .fine; few = a .few; some = a .some; words = cleared .clear .kept .0 ∙ a .words; room = a .room },
-      cleared .clear .ensures ∙ cleared-all _ (s .args .index .now) refl ∙ ap (λ (k : ℕ). replicate k 0) (a .words),
+abbrev Inv-loop : tie.InvT-loop
+Inv-loop vertices indices origin pair index₀ rows₀ n m s₀ held₀ next₀ t₀ index rows s held next t =
+    (t ≤ m + 2) × (length index ≡ length index₀) × (length rows ≡ length rows₀)
+    × Underway (given vertices origin pair indices rows₀) t (state index rows s) held next
+
+abbrev μ-loop : tie.MeasureT-loop
+μ-loop vertices indices origin pair index₀ rows₀ n m s₀ held₀ next₀ t₀ index rows s held next t = m + 2 - t
+
+-- what the walk is given, and where it is after some turns
+module _ (c : tie.At-loop Inv-loop μ-loop) where
+  abbrev cleared : tie.After-clear Inv-loop μ-loop
+  cleared = c .before .before .before .before .before .before
+
+  abbrev st : tie.Start Inv-loop μ-loop
+  st = cleared .before .before .before .before .before .before
+
+  abbrev the : Given
+  the = given (st .args .vertices .now) (st .args .origin) (st .args .pair) (st .args .indices .now) (st .args .rows .now)
+
+  abbrev here : State
+  here = state (c .loop .index) (c .loop .rows) (c .loop .s)
+
+loop-holds : tie.Need-loop-holds Inv-loop μ-loop
+loop-holds c =
+    let first = c .before in
+    let none = first .before in
+    let k = none .before .before .before in
+    let s = k .before .before .before .before .before .before in
+    let zero = k .clear .ensures ∙ cleared-all _ (s .args .index .now) refl ∙ ap (λ (n : ℕ). replicate n 0) (s .pre .words) in
+    (omega arith, refl, refl, underway-none _ _ _ _ _ zero (none .none .ensures) (first .nothing .ensures) (c .nothing2 .ensures))
+
+with-root-requires : tie.Need-with-root-requires Inv-loop μ-loop
+with-root-requires c κs = c .before .loop .inv .3 .rooted
+
+cross-at-requires : tie.Need-cross-at-requires Inv-loop μ-loop
+cross-at-requires c κs = let s = st (c .before .before) in (s .pre .few, s .pre .fine)
+
+take-requires : tie.Need-take-requires Inv-loop μ-loop
+take-requires c κs =
+    let at = c .before .before .before .before .before in
+    let asked = st at .pre in
+    ready (the at) _ (here at) (omega (arith, asked .few)) (at .loop .inv .1 ∙ cleared at .clear .kept .0 ∙ asked .words)
+    (omega (arith, asked .room, at .loop .inv .2)) (omega (arith, asked .some)) (at .loop .inv .3 .taken)
+
+add-t : tie.Need-add-t Inv-loop μ-loop
+add-t c =
+    let took = c .before .before .before .before in
+    record { fits = omega (arith, st (took .before .before .before .before .before .before) .pre .few) }
+
+loop-again : tie.Need-loop-again Inv-loop μ-loop
+loop-again c =
+    let took = c .before .before .before .before in
+    let crossed = took .before .before .before in
+    let rooted = crossed .before in
+    let at = rooted .before .before in
+    let i = at .loop .inv in (
+      omega arith,
+      took .take .kept .1 .1 .1 .0 ∙ i .1,
+      took .take .kept .1 .1 .1 .1 .0 ∙ i .2,
+      underway-next (the at) _ (here at) _ _ _ _ _ (omega arith) (i .3) (took .take .ensures) (rooted .with-root .ensures)
+          (crossed .cross-at .ensures),
     )
 
-returns : tie.Need-returns
-returns c = walks _ _ (c .before .before .before .before .take-all .ensures)
+returns : tie.Need-returns Inv-loop μ-loop
+returns c =
+    let at = c .before in
+    let e : at .loop .t - 2 ≡ trianglesIn (the at) = omega (arith, at .loop .inv .0) in
+    walks (the at) (here at) (subst (λ (k : ℕ). Taken (the at) k (here at)) e (at .loop .inv .3 .taken))
 
 pub walk-spec : {M : Type 1} → statement M
 walk-spec =
-    tie.close (tie.spec (λ c κs. search needs) take-all-requires (λ c. search needs) (λ c. search needs) returns)
+    tie.close
+    (tie.spec Inv-loop μ-loop (λ c κs. search needs) (λ c κs. search needs) (λ c κs. search needs) (λ c κs. search needs) loop-holds
+    (λ c. search needs) with-root-requires cross-at-requires take-requires add-t (λ c. search needs) loop-again (λ c. search needs)
+    (λ c. search needs) returns)

@@ -14,6 +14,13 @@ pub enum Quality {
     Degenerate,
 }
 
+// What is known of a mesh besides its ids: the signed volume, the surface area and the box's volume, after the unit.
+pub struct Sizes {
+    pub volume: f32,
+    pub surface: f32,
+    pub aabb: f32,
+}
+
 // What a list of ids says: that it is not boundary-free, or a quality.
 pub enum Chained {
     Boundary,
@@ -102,25 +109,18 @@ fn by_chain(vertices: &[f32], indices: &[u32], eps: f32, near: bool, work: &mut 
 }
 
 // By the box and the volume, then by the ids.
-fn judge(
-    vertices: &[f32],
-    indices: &[u32],
-    eps: f32,
-    volume: f32,
-    aabb_volume: f32,
-    work: &mut [u32],
-) -> Quality
+fn judge(vertices: &[f32], indices: &[u32], eps: f32, s: Sizes, work: &mut [u32]) -> Quality
     requires { ⌜ PartsFit (now vertices) (now indices) (now work) ⌝ }
-    ensures { λ r. ⌜ r ≡ qualityOf (now (vertices .entry)) (now (indices .entry)) eps volume «aabb_volume» ⌝ }
+    ensures { λ r. ⌜ r ≡ qualityOf (now (vertices .entry)) (now (indices .entry)) eps (s .volume) (s .aabb) ⌝ }
 {
-    if aabb_volume <= 0.0 {
+    if s.aabb <= 0.0 {
         return Quality::Degenerate;
     }
-    let size = floats::magnitude32(volume);
-    if size > aabb_volume * 1.001 {
+    let size = floats::magnitude32(s.volume);
+    if size > s.aabb * 1.001 {
         return Quality::OpenShell;
     }
-    by_chain(vertices, indices, eps, size <= aabb_volume * 1e-6, work)
+    by_chain(vertices, indices, eps, size <= s.aabb * 1e-6, work)
 }
 
 // The quality of a mesh. The work words, edge, face, weld and id part, are zero afterwards.
@@ -128,15 +128,14 @@ pub fn classify_mesh_quality(
     vertices: &[f32],
     indices: &[u32],
     eps: f32,
-    volume: f32,
-    aabb_volume: f32,
+    s: Sizes,
     work: &mut [u32],
 ) -> Quality
     requires { ⌜ PartsFit (now vertices) (now indices) (now work) ⌝ }
-    ensures { λ r. ⌜ (r ≡ qualityOf (now (vertices .entry)) (now (indices .entry)) eps volume «aabb_volume»)
+    ensures { λ r. ⌜ (r ≡ qualityOf (now (vertices .entry)) (now (indices .entry)) eps (s .volume) (s .aabb))
         × (now (work .exit) ≡ replicate (workWords (length (now (vertices .entry))) (length (now (indices .entry)))) 0) ⌝ }
 {
-    let q = judge(vertices, indices, eps, volume, aabb_volume, work);
+    let q = judge(vertices, indices, eps, s, work);
     let n = work.len();
     table::clear(work, n);
     q

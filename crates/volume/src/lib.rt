@@ -2,6 +2,7 @@
 // record has its enums.
 ghost use mathlib.Core.Path.{_≡_};
 ghost use lib.ListN.{length, replicate};
+ghost use Rattle.ieee.specs.Magnitude.{magnitude};
 ghost use Rattle.vertices.specs.Areas.{rasterBytes};
 ghost use Rattle.volume.specs.Best.{prismOn, orLess, orNone, prism as prismOf, openBest, bestOf};
 ghost use Rattle.volume.specs.Best.{upper as upperOf, collapsed as collapsedOf, trusted as trustedOf};
@@ -9,6 +10,7 @@ use raster::Axis;
 use raster::Window;
 use sums::Bounds;
 use verdict::Quality;
+use verdict::Sizes;
 
 // Which definition the best volume has.
 pub enum Method {
@@ -136,20 +138,20 @@ fn open_best(volume: f32, surface: f32, aabb: f32, prism: f32) -> Best
 
 // The best volume, by the magnitude of the mesh's own. The footprints are asked for an open shell alone; the raster is zero afterwards.
 pub fn best_volume(
+    quality: Quality,
+    s: Sizes,
     vertices: &[f32],
     indices: &[u32],
-    quality: Quality,
-    volume: f32,
-    surface: f32,
-    aabb: f32,
     b: Bounds,
     cube: f32,
     raster: &mut [u8],
 ) -> Best
     requires { ⌜ length (now raster) ≡ rasterBytes ⌝ }
-    ensures { λ r. ⌜ (r ≡ bestOf quality volume surface aabb (prismOf (now (vertices .entry)) (now (indices .entry)) b cube))
+    ensures { λ r. ⌜ (r ≡ bestOf quality (magnitude (s .volume)) (s .surface) (s .aabb)
+        (prismOf (now (vertices .entry)) (now (indices .entry)) b cube))
         × (now (raster .exit) ≡ replicate rasterBytes 0) ⌝ }
 {
+    let volume = floats::magnitude32(s.volume);
     match quality {
         Quality::Closed => {
             raster::clear(raster, 65536);
@@ -170,12 +172,8 @@ pub fn best_volume(
             }
         }
         Quality::OpenShell => {
-            open_best(
-                volume,
-                surface,
-                aabb,
-                prism(vertices, indices, b, cube, raster),
-            )
+            let p = prism(vertices, indices, b, cube, raster);
+            open_best(volume, s.surface, s.aabb, p)
         }
     }
 }

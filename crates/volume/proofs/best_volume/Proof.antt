@@ -6,40 +6,34 @@ use borrow.Author.Needs.{needs}
 use Rattle.volume.proofs.best_volume.Statement.{statement}
 use Rattle.volume.proofs.best_volume.Tie as tie
 
-enum-told : tie.Need-enum-told
-enum-told c = search needs
-
--- the ways back, from call to call
-abbrev before-clear-arg : tie.After-clear-arg → tie.Start
-before-clear-arg c = c .before .before .before .before .before .before
-
-abbrev before-clear-arg2 : tie.After-clear-arg2 → tie.Start
-before-clear-arg2 c = c .before .before .before .before .before .before
+abbrev start : tie.After-magnitude32 → tie.Start
+start c = c .before .before .before .before
 
 returns : tie.Need-returns
 unfolding bestOf
 returns c =
-    let after-clear-arg = c .before .before .before in
-    let start = before-clear-arg after-clear-arg in
-    (rw (after-clear-arg .before .enum-told .given .1), c .before .before .clear .ensures ∙ cleared-all _ _ (start .pre))
+    let told = c .before .before .before .before in
+    let sized = told .before .before in
+    (rw (told .enum-told .given .1, sized .magnitude32 .ensures), c .before .before .clear .ensures ∙ cleared-all _ _ (start sized .pre))
 
 returns-2 : tie.Need-returns-2
 unfolding bestOf
 returns-2 c =
-    let after-clear-arg2 = c .before .before .before in
-    let start = before-clear-arg2 after-clear-arg2 in
-    (rw (after-clear-arg2 .before .enum-told2 .given .1), c .before .before .clear2 .ensures ∙ cleared-all _ _ (start .pre))
+    let told = c .before .before .before .before in
+    (rw (told .enum-told2 .given .1), c .before .before .clear2 .ensures ∙ cleared-all _ _ (start (told .before .before) .pre))
 
 returns-3 : tie.Need-returns-3
 unfolding bestOf
 returns-3 c =
-    let the-prism = c .before .before .before .prism in (
-      rw (c .before .before .before .before .before .enum-told3 .given .1, ← the-prism .ensures .0) (c .open-best .ensures),
-      the-prism .ensures .1,
+    let asked = c .before .before .before in
+    let told = asked .before .before in (
+      rw (told .enum-told3 .given .1, ← asked .prism .ensures .0, ← told .before .before .magnitude32 .ensures) (c .open-best .ensures),
+      asked .prism .ensures .1,
     )
 
 pub best-volume-spec : {M : Type 1} → statement M
 best-volume-spec =
     tie.close
-    (tie.spec enum-told (λ c κs. search needs) (λ c. search needs) (λ c κs. search needs) (λ c. search needs) (λ c κs. search needs)
-    (λ c κs. search needs) (λ c. search needs) returns (λ c. search needs) returns-2 (λ c. search needs) returns-3)
+    (tie.spec (λ c κs. search needs) (λ c. search needs) (λ c κs. search needs) (λ c. search needs) (λ c κs. search needs)
+    (λ c. search needs) (λ c κs. search needs) (λ c κs. search needs) (λ c. search needs) returns (λ c. search needs) returns-2
+    (λ c. search needs) returns-3)

@@ -16,13 +16,13 @@ use Rattle.record.specs.declared.MeshQto.{MeshQto}
 use Rattle.qto.specs.declared.Measures.{Measures}
 use Rattle.qto.specs.Full.{distance, verdict, best, measures, recordFrom, recordBy, recordOf}
 
-pub assembled : (vs : List Float) (ids : List ℕ) (u : Float) (b : Bounds) (m : Measures) (aabb ε size : Float) (q : Quality)
+pub assembled : (vs : List Float) (ids : List ℕ) (u : Float) (b : Bounds) (m : Measures) (aabb ε : Float) (q : Quality)
     (e : Best) → b ≡ box vs
-    → aabb ≡ boxVolume b (u ⊗ u ⊗ u) → ε ≡ epsilonOf distance u → q ≡ quality vs ids ε (m .volume) aabb → size ≡ magnitude (m .volume)
-    → e ≡ bestOf q size (m .surface) aabb (prism vs ids b (u ⊗ u ⊗ u))
+    → aabb ≡ boxVolume b (u ⊗ u ⊗ u) → ε ≡ epsilonOf distance u → q ≡ quality vs ids ε (m .volume) aabb
+    → e ≡ bestOf q (magnitude (m .volume)) (m .surface) aabb (prism vs ids b (u ⊗ u ⊗ u))
     → recordFrom m aabb q e ≡ recordBy vs ids u m (verdict vs ids u (m .volume))
 unfolding recordBy verdict best
-assembled vs ids u b m aabb ε size q e hb ha hε hq hs he = rw (he, hs, hq, hε, ha, hb)
+assembled vs ids u b m aabb ε q e hb ha hε hq he = rw (he, hq, hε, ha, hb)
 
 -- the measures are those of the mesh
 pub of-mesh : (vs : List Float) (ids : List ℕ) (u : Float) (m : Measures) (r : MeshQto) → m ≡ measures vs ids u

@@ -29,7 +29,7 @@ use Rattle.rows.specs.declared.PlanarSurface.{PlanarSurface}
 use Rattle.rows.specs.Rows.{precedes, inserted, sorted, scaled, largest, smallest, noise, lessAbove, leastAbove}
 use Rattle.surfaces.specs.Surfaces.{Bucket, rows}
 use Rattle.surfaces.specs.Keys.{AllAreas}
-use Rattle.walk.proofs.Finite.{TotalsWithin, Times, totals-within, buckets-within}
+use Rattle.walk.proofs.Finite.{TotalsWithin, Times, each-still, totals-within, buckets-within}
 use Rattle.verdict.specs.declared.Quality.{Quality}
 use Rattle.volume.specs.declared.Best.{Best}
 use Rattle.volume.specs.declared.Method.{Method}
@@ -53,7 +53,7 @@ area-finite n N by S a v =
     within-mul binary32 87 8 a by (lit≤ tt) (within-most (n * 2 ^ 72) (2 ^ 87) a (mul-le-mul-right (2 ^ 72) N) v) S .finite-is
 
 -- ---- the two sums in f64 with the unit
-module _ (n : ℕ) (N : n ≤ 32768) (t : Totals) (w : TotalsWithin n n t) (u : Float) (S : Within (2 ^ 8) (square u))
+module _ (n : ℕ) (N : n ≤ 32768) (t : Totals) (w : TotalsWithin n t) (u : Float) (S : Within (2 ^ 8) (square u))
     (C : Within (2 ^ 12) (cube u)) where
   surface-finite : T (finite (surfaceOf t u))
   unfolding surfaceOf
@@ -187,6 +187,7 @@ module _ (vs : List Float) (ids : List ℕ) (u : Float) (p : Passes vs ids u) wh
       let C = cube-within u (ends .0) (ends .1) in
       let b = box-fine vs (p .fine) (omega (arith, p .floats-least)) in
       let v = volumeOf t u in
+      let areas = each-still (t .areas) (area-finite n few (square u) S) (w .areas) in
       let v-finite = volume-finite n few t w u S C in
       let most =
       best-finite (verdict vs ids u v) (magnitude v) (surfaceOf t u) (boxVolume (box vs) (cube u)) (prism vs ids (box vs) (cube u))
@@ -196,10 +197,10 @@ module _ (vs : List Float) (ids : List ℕ) (u : Float) (p : Passes vs ids u) wh
         volume = v-finite;
         aabb = box-volume-within (box vs) (cube u) b C .finite-is;
         surface = surface-finite n few t w u S C;
-        top = area-finite n few (square u) S (t .top) (w .top);
-        bottom = area-finite n few (square u) S (t .bottom) (w .bottom);
-        side = area-finite n few (square u) S (t .side) (w .side);
-        inclined = area-finite n few (square u) S (t .inclined) (w .inclined);
+        top = areas .top;
+        bottom = areas .bottom;
+        side = areas .side;
+        inclined = areas .inclined;
         largest = largest-finite (surfaceRows vs ids u) rows-all-finite;
         smallest = smallest-finite (surfaceRows vs ids u) rows-all-finite;
         best = most .volume;

@@ -14,10 +14,11 @@ use Rattle.ieee.specs.Double.{_⊠_, _⧄_}
 use Rattle.ids.specs.Lent.{mostEntries}
 use Rattle.ids.specs.Triangles.{triangleCount}
 use Rattle.sums.specs.declared.bounds.Bounds.{Bounds}
+use Rattle.sums.specs.declared.totals.Areas.{Areas}
 use Rattle.sums.specs.declared.totals.Thresholds.{Thresholds}
 use Rattle.sums.specs.Box.{box, origin}
 use Rattle.sums.specs.Fine.{allFine}
-use Rattle.sums.specs.Totals.{thresholds}
+use Rattle.sums.specs.Totals.{scaledAreas, thresholds}
 use Rattle.sums.proofs.Units.{leastUnit, mostUnit, square-positive}
 use lib.Ieee.Fits.{and-l, and-r}
 use Rattle.rows.specs.declared.PlanarSurface.{PlanarSurface}
@@ -125,25 +126,22 @@ module _
 
       -- what the code makes of the sums and of the rows when these are in order: x before y, which stands behind the rows
       module _ (e : Extremes) (x : List Float) (arranged : Arranged (take k w) (square u) e x) where
-        pub measured : (volume surface c q : Float) → volume
+        pub measured : (volume surface c q : Float) (areas : Areas) → volume
             ≡ rounded binary32 (r .totals .volume6 ⧄ ofBits binary64 0x4018_0000_0000_0000 ⊠ c) → c ≡ cube u
-            → surface ≡ rounded binary32 (r .totals .surface ⊠ q) → q ≡ square u
+            → surface ≡ rounded binary32 (r .totals .surface ⊠ q) → q ≡ square u → areas ≡ scaledAreas (square u) (r .totals .areas)
             → _≡_ {A = Measures}
             (record {
               volume = volume;
               surface = surface;
-              top = r .totals .top ⊗ square u;
-              bottom = r .totals .bottom ⊗ square u;
-              side = r .totals .side ⊗ square u;
-              inclined = r .totals .inclined ⊗ square u;
+              areas = areas;
               largest = e .largest;
               smallest = e .smallest;
               count = r .rows;
             })
             (measures vs ids u)
         unfolding measures measuresFrom volumeOf surfaceOf
-        measured volume surface c q hv hc hs hq =
-            rw (arranged .largest-is, arranged .smallest-is, hv, hc, hs, hq, arranged-rows, count-rows, totalled)
+        measured volume surface c q areas hv hc hs hq ha =
+            rw (arranged .largest-is, arranged .smallest-is, hv, hc, hs, hq, ha, arranged-rows, count-rows, totalled)
 
         pub rows-after : (y : List Float) → y ≡ drop (4 * r .rows) w → x ++ y ≡ surfacesAfter vs ids u s
         unfolding surfacesAfter

@@ -10,7 +10,7 @@ use Rattle.ieee.specs.Double.{_⊠_, _⧄_}
 use Rattle.ids.specs.Triangles.{triangleCount}
 use Rattle.sums.specs.declared.totals.Totals.{Totals}
 use Rattle.sums.specs.Box.{box, origin, boxVolume}
-use Rattle.sums.specs.Totals.{thresholds, totalsTo}
+use Rattle.sums.specs.Totals.{scaledAreas, thresholds, totalsTo}
 use Rattle.rows.specs.declared.PlanarSurface.{PlanarSurface}
 use Rattle.rows.specs.Rows.{flatten, scaled, sorted, largest, smallest}
 use Rattle.surfaces.specs.Surfaces.{Bucket, rows}
@@ -62,10 +62,7 @@ measuresFrom t rs u =
     record {
       volume = volumeOf t u;
       surface = surfaceOf t u;
-      top = t .top ⊗ square u;
-      bottom = t .bottom ⊗ square u;
-      side = t .side ⊗ square u;
-      inclined = t .inclined ⊗ square u;
+      areas = scaledAreas (square u) (t .areas);
       largest = largest rs;
       smallest = smallest rs;
       count = length rs;
@@ -94,10 +91,10 @@ recordFrom m aabb q b =
       «volume_m3» = m .volume;
       «aabb_volume_m3» = aabb;
       «surface_area_m2» = m .surface;
-      «area_top_m2» = m .top;
-      «area_bottom_m2» = m .bottom;
-      «area_side_m2» = m .side;
-      «area_inclined_m2» = m .inclined;
+      «area_top_m2» = m .areas .top;
+      «area_bottom_m2» = m .areas .bottom;
+      «area_side_m2» = m .areas .side;
+      «area_inclined_m2» = m .areas .inclined;
       «largest_surface_m2» = m .largest;
       «smallest_surface_m2» = m .smallest;
       «surface_count» = m .count;

@@ -11,7 +11,9 @@ pub use record::apply_product_flags;
 pub use record::mark_clip_unapplied;
 pub use record::mark_profile_invalid;
 use refusals::Check;
+use sums::Areas;
 use sums::Bounds;
+use verdict::Sizes;
 
 // ---- what is measured
 
@@ -35,10 +37,7 @@ fn arrange(rows: &mut [f32], n: usize, by: f32) -> Extremes
 pub struct Measures {
     pub volume: f32,
     pub surface: f32,
-    pub top: f32,
-    pub bottom: f32,
-    pub side: f32,
-    pub inclined: f32,
+    pub areas: Areas,
     pub largest: f32,
     pub smallest: f32,
     pub count: usize,
@@ -69,14 +68,12 @@ fn measure(
     );
     let n = s.rows;
     let t = s.totals;
+    let areas = t.areas;
     let e = arrange(&mut surfaces[0..4 * n], n, square);
     Measures {
         volume: floats::narrow(t.volume6 / 6.0 * cube),
         surface: floats::narrow(t.surface * std::num::f32_to_f64_with_nan(square)),
-        top: t.top * square,
-        bottom: t.bottom * square,
-        side: t.side * square,
-        inclined: t.inclined * square,
+        areas: areas.scaled(square),
         largest: e.largest,
         smallest: e.smallest,
         count: n,
@@ -101,19 +98,23 @@ fn record_by(
     let cube = unit_scale * unit_scale * unit_scale;
     let aabb = sums::box_volume(b, cube);
     let eps = weld::epsilon(1e-4, unit_scale);
-    let q = verdict::classify_mesh_quality(vertices, indices, eps, m.volume, aabb, work);
-    let size = floats::magnitude32(m.volume);
-    let best = volume::best_volume(vertices, indices, q, size, m.surface, aabb, b, cube, raster);
+    let s = Sizes {
+        volume: m.volume,
+        surface: m.surface,
+        aabb,
+    };
+    let q = verdict::classify_mesh_quality(vertices, indices, eps, s, work);
+    let best = volume::best_volume(q, s, vertices, indices, b, cube, raster);
     let method = best.method;
     let prism = best.prism;
     MeshQto {
         volume_m3: m.volume,
         aabb_volume_m3: aabb,
         surface_area_m2: m.surface,
-        area_top_m2: m.top,
-        area_bottom_m2: m.bottom,
-        area_side_m2: m.side,
-        area_inclined_m2: m.inclined,
+        area_top_m2: m.areas.top,
+        area_bottom_m2: m.areas.bottom,
+        area_side_m2: m.areas.side,
+        area_inclined_m2: m.areas.inclined,
         largest_surface_m2: m.largest,
         smallest_surface_m2: m.smallest,
         surface_count: m.count as u32,

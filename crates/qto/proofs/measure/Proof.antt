@@ -37,30 +37,26 @@ module _ (c : tie.After-walk) where
         walked = c .walk .ensures;
       }
 
+abbrev at-walk : tie.After-areas → tie.After-walk
+at-walk c = c .before .before .before .before .before .before
+
 arrange-requires : tie.Need-arrange-requires
 arrange-requires c κs =
-    let k = c .before .before .before .before .before .before in
+    let k = at-walk (c .before) in
     arrangeable (u k) (found k) (4 * k .walk .result .rows - 0) (omega arith) (s k .pre .mesh)
-
--- where the rows were arranged
-abbrev lent : tie.After-arrange → tie.After-slice-known4
-lent c = c .before .before .before
-
-abbrev at-walk : tie.After-arrange → tie.After-walk
-at-walk c = lent c .before .before .before .before
 
 returns : tie.Need-returns
 returns c =
-    let after = c .before .before .before .before .before in
-    let last = after .before .before .before .before .before .before in
-    let k = at-walk last in
+    let after = c .before .before .before .before in
+    let last = after .before .before .before .before in
+    let k = at-walk (last .before .before) in
     let front = 4 * k .walk .result .rows in
     let e = last .arrange in
     record {
       is =
-          measured (u k) (found k) (front - 0) (omega arith) (e .result) _ (e .ensures) _ _ _ _ (after .before .before .narrow .ensures)
-          (from-origin k .before .f32-to-f64-with-nan .ensures) (c .before .before .before .before .narrow2 .ensures)
-          (after .before .f32-to-f64-with-nan2 .ensures);
+          measured (u k) (found k) (front - 0) (omega arith) (e .result) _ (e .ensures) _ _ _ _ _ (after .narrow .ensures)
+          (from-origin k .before .f32-to-f64-with-nan .ensures) (c .before .narrow2 .ensures)
+          (c .before .before .before .f32-to-f64-with-nan2 .ensures) (c .scaled .ensures);
       few = few (u k) (found k) (s k .pre .mesh .ids-most);
       later = rows-after (u k) (found k) (front - 0) (omega arith) (e .result) _ (e .ensures) _ (post-is 0 front (area k) (omega arith));
     }
@@ -70,4 +66,4 @@ measure-spec =
     tie.close
     (tie.spec (λ c κs. search needs) (λ c κs. search needs) (λ c κs. search needs) (λ c κs. search needs) (λ c. search needs)
     (λ c. search needs) (λ c. search needs) (λ c. search needs) arrange-requires (λ c κs. search needs) (λ c κs. search needs)
-    (λ c κs. search needs) (λ c. search needs) (λ c. search needs) returns)
+    (λ c κs. search needs) (λ c κs. search needs) (λ c. search needs) (λ c. search needs) returns)

@@ -19,15 +19,14 @@ returns : tie.Need-returns
 unfolding recordFrom
 returns c =
     let best = c .before .before .before in
-    let judged = best .before .before .before .before .before in
+    let judged = best .before .before .before .before in
     let s = start (at-box judged) in
     let a = s .args in
     record {
       is =
-          assembled (a .vertices .now) (a .indices .now) (a .unit-scale) (a .b) (a .m) _ _ _ _ _ (s .pre .is-box)
+          assembled (a .vertices .now) (a .indices .now) (a .unit-scale) (a .b) (a .m) _ _ _ _ (s .pre .is-box)
           (at-box judged .box-volume .ensures)
           (judged .before .before .epsilon .ensures) (judged .classify-mesh-quality .ensures .0)
-          (best .before .before .magnitude32 .ensures)
           (best .best-volume .ensures .0);
       work = judged .classify-mesh-quality .ensures .1;
       raster = best .best-volume .ensures .1;
@@ -36,5 +35,5 @@ returns c =
 pub record-by-spec : {M : Type 1} → statement M
 record-by-spec =
     tie.close
-    (tie.spec (λ c κs. search needs) (λ c κs. search needs) classify-mesh-quality-requires (λ c κs. search needs) (λ c κs. search needs)
+    (tie.spec (λ c κs. search needs) (λ c κs. search needs) classify-mesh-quality-requires (λ c κs. search needs)
     (λ c. search needs) (λ c. search needs) (λ c. search needs) returns)

@@ -52,7 +52,7 @@ equal-above x y F G h =
 
 -- by the cross product n and its square d
 pub crossed-corners : (t : List (List Float)) (n : List Float) (d l v : Float) → n ≡ normal t → d ≡ dot n n → v ≡ tetra t
-    → partIn (record { «in_range» = true; square = d; length = l; normal = n; volume = v }) ≡ partOf t
+    → partIn (record { «in_range» = true; square = d; length = l; nx = at n 0; ny = at n 1; nz = at n 2; volume = v }) ≡ partOf t
 unfolding withRoot partBy facetBy partOf facetOf size
 crossed-corners t n d l v n-is d-is v-is = rw (d-is, n-is, v-is)
 

@@ -78,12 +78,14 @@ pub struct Facet {
 // ---- a triangle on its way, in two stages: first its cross product and volume term are there, then the length. Between them the
 // triangle before it gets its length, and behind them the one before that is taken, so that a processor works at all three.
 
-// The cross product, its square and its length, which is 0 until the second stage, and the volume term.
+// The cross product n, its square and its length, which is 0 until the second stage, and the volume term.
 pub struct Prepared {
     pub in_range: bool,
     pub square: f64,
     pub length: f64,
-    pub normal: [f64; 3],
+    pub nx: f64,
+    pub ny: f64,
+    pub nz: f64,
     pub volume: f64,
 }
 
@@ -95,7 +97,9 @@ pub fn nothing() -> Prepared
         in_range: false,
         square: 0.0,
         length: 0.0,
-        normal: [0.0, 0.0, 0.0],
+        nx: 0.0,
+        ny: 0.0,
+        nz: 0.0,
         volume: 0.0,
     }
 }
@@ -109,7 +113,9 @@ fn cross_corners(t: [[f64; 3]; 3]) -> Prepared
         in_range: true,
         square: dot(n, n),
         length: 0.0,
-        normal: n,
+        nx: n[0],
+        ny: n[1],
+        nz: n[2],
         volume: tetra(t),
     }
 }
@@ -174,15 +180,14 @@ pub fn with_root(mut r: Prepared, last: Prepared) -> Prepared
 pub fn facet_by(r: Prepared) -> Facet
     ensures { λ f. ⌜ f ≡ facetBy r ⌝ }
 {
-    let n = r.normal;
     let area = 0.5 * r.length;
     let inv = 1.0 / r.length;
     Facet {
         area,
         area32: floats::narrow(area),
         volume: r.volume,
-        nx: floats::narrow(n[0] * inv),
-        ny: floats::narrow(n[1] * inv),
-        nz: floats::narrow(n[2] * inv),
+        nx: floats::narrow(r.nx * inv),
+        ny: floats::narrow(r.ny * inv),
+        nz: floats::narrow(r.nz * inv),
     }
 }

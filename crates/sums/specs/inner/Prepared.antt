@@ -2,14 +2,13 @@
 -- make.
 use mathlib.Core.Path.{_≡_}
 use mathlib.Core.Bool.{false, cond}
-use mathlib.Core.List.{[], _∷_}
 use lib.Ieee.{binary32, binary64, lt}
 use Rattle.ieee.specs.Root.{root}
 use Rattle.ieee.specs.Rounded.{rounded}
 use Rattle.ieee.specs.Double.{_⊠_, nought64}
 use Rattle.sums.specs.declared.triangle.Facet.{Facet}
 use Rattle.sums.specs.declared.triangle.Prepared.{Prepared}
-use Rattle.sums.specs.Facet.{Part, outOfRange, sliver, used, at, half64, shortest, unit}
+use Rattle.sums.specs.Facet.{Part, outOfRange, sliver, used, half64, shortest, unit}
 
 -- ---- with its length
 
@@ -19,9 +18,9 @@ facetBy r =
       area = half64 ⊠ r .length;
       area32 = rounded binary32 (half64 ⊠ r .length);
       volume = r .volume;
-      nx = unit (r .length) (at (r .normal) 0);
-      ny = unit (r .length) (at (r .normal) 1);
-      nz = unit (r .length) (at (r .normal) 2);
+      nx = unit (r .length) (r .nx);
+      ny = unit (r .length) (r .ny);
+      nz = unit (r .length) (r .nz);
     }
 
 unfoldable pub partBy : Prepared → Part
@@ -38,7 +37,9 @@ withRoot r =
       «in_range» = r .«in_range»;
       square = r .square;
       length = root binary64 (r .square);
-      normal = r .normal;
+      nx = r .nx;
+      ny = r .ny;
+      nz = r .nz;
       volume = r .volume;
     }
 
@@ -52,6 +53,8 @@ noTriangle =
       «in_range» = false;
       square = nought64;
       length = nought64;
-      normal = nought64 ∷ nought64 ∷ nought64 ∷ [];
+      nx = nought64;
+      ny = nought64;
+      nz = nought64;
       volume = nought64;
     }

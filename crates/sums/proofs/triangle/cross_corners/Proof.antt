@@ -9,4 +9,6 @@ returns c = crossed-corners _ _ _ _ _ (c .before .before .normal .ensures) (c .b
 
 pub cross-corners-spec : {M : Type 1} → statement M
 cross-corners-spec =
-    tie.close (tie.spec (λ c κs. search needs) (λ c κs. search needs) (λ c κs. search needs) returns)
+    tie.close
+    (tie.spec (λ c κs. search needs) (λ c κs. search needs) (λ c. search needs) (λ c. search needs) (λ c. search needs)
+    (λ c κs. search needs) returns)

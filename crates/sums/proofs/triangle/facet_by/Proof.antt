@@ -7,11 +7,13 @@ use Rattle.sums.proofs.triangle.facet_by.Tie as tie
 returns : tie.Need-returns
 unfolding facetBy
 returns c =
-    let n = c .before .before in
-    rw (n .before .narrow .ensures, n .narrow2 .ensures, c .before .narrow3 .ensures, c .narrow4 .ensures)
+    rw (
+      c .before .before .before .before .before .before .narrow .ensures,
+      c .before .before .before .before .narrow2 .ensures,
+      c .before .before .narrow3 .ensures,
+      c .narrow4 .ensures,
+    )
 
 pub facet-by-spec : {M : Type 1} → statement M
 facet-by-spec =
-    tie.close
-    (tie.spec (λ c κs. search needs) (λ c. search needs) (λ c κs. search needs) (λ c. search needs) (λ c κs. search needs)
-    (λ c. search needs) (λ c κs. search needs) returns)
+    tie.close (tie.spec (λ c κs. search needs) (λ c κs. search needs) (λ c κs. search needs) (λ c κs. search needs) returns)

@@ -14,8 +14,8 @@ ghost use Rattle.vertices.specs.Vertices.{vertexCount};
 ghost use Rattle.weld.specs.Weld.{epsilonOf, welded};
 ghost use Rattle.grid.specs.Point.{pointIn};
 ghost use Rattle.vertices.specs.Areas.{rasterBytes};
-ghost use Rattle.raster.specs.Footprint.{windowOf, footprint};
-ghost use Rattle.raster.specs.inner.Axes.{axisAt};
+ghost use Rattle.raster.specs.Footprint.{footprint};
+ghost use Rattle.probe.specs.inner.Asked.{axisAt, flatAt, floatAt, windowAt};
 use grid::Flat;
 use raster::Axis;
 
@@ -58,31 +58,20 @@ pub extern "C" fn probe_welded_indices(
     false
 }
 
+// Is the point q, whose coordinates come first, in the triangle whose corners follow?
 #[no_mangle]
-pub extern "C" fn probe_point_in_triangle(
-    px: f32,
-    py: f32,
-    ax: f32,
-    ay: f32,
-    bx: f32,
-    by: f32,
-    cx: f32,
-    cy: f32,
-) -> bool
-    ensures { λ r. ⌜ r ≡ pointIn px py (record { ax = ax; ay = ay; bx = bx; by = by; cx = cx; cy = cy }) ⌝ }
+pub extern "C" fn probe_point_in_triangle(q: &[f32; 8]) -> bool
+    ensures { λ r. ⌜ r ≡ pointIn (floatAt (now (q .entry)) 0) (floatAt (now (q .entry)) 1) (flatAt (now (q .entry))) ⌝ }
 {
-    grid::point_in_triangle(
-        px,
-        py,
-        Flat {
-            ax,
-            ay,
-            bx,
-            by,
-            cx,
-            cy,
-        },
-    )
+    let t = Flat {
+        ax: q[2],
+        ay: q[3],
+        bx: q[4],
+        by: q[5],
+        cx: q[6],
+        cy: q[7],
+    };
+    grid::point_in_triangle(q[0], q[1], t)
 }
 
 // 0 is x, 1 is y, and any other number z.
@@ -98,27 +87,26 @@ fn axis(n: u32) -> Axis
     }
 }
 
-// The footprint, where the raster is long enough; else nothing is done, and the answer is 0.
+// The footprint, where the raster is long enough; else nothing is done, and the answer is 0. The box holds the least and the greatest on the
+// first axis, then on the second.
 #[no_mangle]
 pub extern "C" fn probe_footprint_raw(
     vertices: &[f32],
     ids: &[u32],
-    u_axis: u32,
-    v_axis: u32,
-    xmin: f32,
-    xmax: f32,
-    ymin: f32,
-    ymax: f32,
+    axes: &[u32; 2],
+    bounds: &[f32; 4],
     area: &mut [u8],
 ) -> f32
     ensures { λ r. ⌜ (r ≡ cond (ltb (length (now (area .entry))) rasterBytes) nought
-        (footprint (now (vertices .entry)) (now (ids .entry)) (windowOf (axisAt «u_axis») (axisAt «v_axis») xmin xmax ymin ymax)))
+        (footprint (now (vertices .entry)) (now (ids .entry)) (windowAt (now (axes .entry)) (now (bounds .entry)))))
         × (now (area .exit)
         ≡ cond (ltb (length (now (area .entry))) rasterBytes) (now (area .entry)) (cleared rasterBytes (now (area .entry)))) ⌝ }
 {
     if area.len() < 65536 {
         return 0.0;
     }
-    let s = raster::window_on(axis(u_axis), axis(v_axis), xmin, xmax, ymin, ymax);
+    let u = axis(axes[0]);
+    let v = axis(axes[1]);
+    let s = raster::window_on(u, v, bounds[0], bounds[1], bounds[2], bounds[3]);
     raster::footprint_raw(vertices, ids, s, area)
 }

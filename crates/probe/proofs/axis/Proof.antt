@@ -3,7 +3,7 @@ use mathlib.Core.Path.{_≡_, refl}
 use Prim.Native.Nat.{ℕ, zero, suc}
 use native.Mathlib.Omega.{arith}
 use Rattle.raster.specs.declared.Axis.{Axis}
-use Rattle.raster.specs.inner.Axes.{axisAt}
+use Rattle.probe.specs.inner.Asked.{axisAt}
 use Rattle.probe.proofs.axis.Statement.{statement}
 use Rattle.probe.proofs.axis.Tie as tie
 

@@ -17,6 +17,7 @@ ghost use Rattle.vertices.specs.Areas.{rasterBytes};
 ghost use Rattle.raster.specs.Footprint.{footprint};
 ghost use Rattle.probe.specs.inner.Asked.{axisAt, flatAt, floatAt, windowAt};
 use grid::Flat;
+use ids::MOST_ENTRIES;
 use raster::Axis;
 
 #[no_mangle]
@@ -47,7 +48,7 @@ pub extern "C" fn probe_welded_indices(
         (replicate (8 * vertexCount (now (vertices .entry))) 0 ++ welded (now (vertices .entry)) (now (ids .entry)) eps)
         (now (part .entry))) ⌝ }
 {
-    if 98304 < vertices.len() {
+    if MOST_ENTRIES < vertices.len() {
         return false;
     }
     let needed = 8 * (vertices.len() / 3) + ids.len();

@@ -5,6 +5,7 @@ ghost use Rattle.ids.specs.Lent.{mostEntries};
 ghost use Rattle.sums.specs.Fine.{allFine};
 ghost use Rattle.refusals.specs.Refusals.{unitFits, areasShort, checkOf};
 ghost use Rattle.vertices.specs.Areas.{workWords, rasterBytes};
+use ids::MOST_ENTRIES;
 
 pub enum Check {
     Refuse(u8),
@@ -71,7 +72,7 @@ pub fn checked(
 {
     let f = vertices.len();
     let i = indices.len();
-    if (98304 < f) | (98304 < i) {
+    if (MOST_ENTRIES < f) | (MOST_ENTRIES < i) {
         return Check::Refuse(1);
     }
     if (i < 3) | (f < 9) {

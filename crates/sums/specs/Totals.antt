@@ -40,13 +40,6 @@ onSlope Slope.Inclined x a = record { top = a .top; bottom = a .bottom; side = a
 abbrev pub scaledAreas : Float → Areas → Areas
 scaledAreas by a = record { top = a .top ⊗ by; bottom = a .bottom ⊗ by; side = a .side ⊗ by; inclined = a .inclined ⊗ by }
 
--- each has a property
-pub record EachArea (P : Float → Type 0) (a : Areas) : Type 0 where
-  pub top : P (a .top)
-  pub bottom : P (a .bottom)
-  pub side : P (a .side)
-  pub inclined : P (a .inclined)
-
 -- ---- the sums
 
 abbrev pub noTotals : Totals

@@ -6,6 +6,7 @@ ghost use Rattle.ids.specs.Triangles.{distinct as isDistinct, triangle};
 ghost use Rattle.ids.specs.Lent.{cleared, refusal as refusalOf};
 ghost use Rattle.table.specs.inner.Rows.{homeRow, nextRow};
 ghost use Rattle.table.specs.inner.Words.{TriangleOf};
+use ids::MOST_ENTRIES;
 
 pub fn lesser(a: u32, b: u32) -> u32
     ensures { λ r. ⌜ r ≡ min a b ⌝ }
@@ -39,7 +40,7 @@ pub fn distinct_at(ids: &[u32], t: usize) -> bool
 pub fn refusal(ids: usize, needed: usize, lent: usize) -> u8
     ensures { λ r. ⌜ r ≡ refusalOf ids needed lent ⌝ }
 {
-    if 98304 < ids {
+    if MOST_ENTRIES < ids {
         return 1;
     }
     if lent < needed { 3 } else { 0 }

@@ -14,13 +14,6 @@ pub enum Quality {
     Degenerate,
 }
 
-// What is known of a mesh besides its ids: the signed volume, the surface area and the box's volume, after the unit.
-pub struct Sizes {
-    pub volume: f32,
-    pub surface: f32,
-    pub aabb: f32,
-}
-
 // What a list of ids says: that it is not boundary-free, or a quality.
 pub enum Chained {
     Boundary,
@@ -106,6 +99,15 @@ fn by_chain(vertices: &[f32], indices: &[u32], eps: f32, near: bool, work: &mut 
         return by_welded(vertices, indices, eps, near, work);
     }
     open_unless_free(said)
+}
+
+// ---- the whole
+
+// What is known of a mesh besides its ids: the signed volume, the surface area and the box's volume, after the unit.
+pub struct Sizes {
+    pub volume: f32,
+    pub surface: f32,
+    pub aabb: f32,
 }
 
 // By the box and the volume, then by the ids.

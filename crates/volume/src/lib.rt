@@ -12,6 +12,14 @@ use sums::Bounds;
 use verdict::Quality;
 use verdict::Sizes;
 
+// The volume that is carried, by which definition, whether it is to be relied on, and what bounds it.
+pub struct Best {
+    pub volume: f32,
+    pub method: Method,
+    pub reliable: bool,
+    pub prism: PrismBound,
+}
+
 // Which definition the best volume has.
 pub enum Method {
     Mesh,
@@ -24,13 +32,6 @@ pub enum Method {
 pub enum PrismBound {
     NotComputed,
     Bound(f32),
-}
-
-pub struct Best {
-    pub volume: f32,
-    pub method: Method,
-    pub reliable: bool,
-    pub prism: PrismBound,
 }
 
 // ---- the prism

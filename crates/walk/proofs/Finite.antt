@@ -20,13 +20,13 @@ use Rattle.sums.specs.declared.totals.Totals.{Totals}
 use Rattle.sums.specs.Box.{box, origin}
 use Rattle.sums.specs.Facet.{Part, outOfRange, sliver, used, part}
 use Rattle.sums.specs.Fine.{allFine}
-use Rattle.sums.specs.Totals.{EachArea, noTotals, onSlope, slopeOf, withFacet, withPart, totalsTo}
+use Rattle.sums.specs.Totals.{noTotals, onSlope, slopeOf, withFacet, withPart, totalsTo}
 use Rattle.sums.proofs.Areas.{Adds, part-within}
 use Rattle.sums.proofs.Within.{Within, within-add, within-most}
 use Rattle.surfaces.specs.Surfaces.{Bucket, normalKey}
 use Rattle.surfaces.specs.Keys.{AllAreas}
 use Rattle.surfaces.proofs.Keys.{areas-still, put-all}
-use Rattle.walk.specs.Domain.{FiniteTotals, FiniteAreas}
+use Rattle.walk.specs.Domain.{EachArea, FiniteTotals, FiniteAreas}
 use Rattle.walk.specs.Walk.{withSurface, bucketsTo}
 
 -- ---- one more

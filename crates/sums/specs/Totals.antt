@@ -44,11 +44,7 @@ scaledAreas by a = record { top = a .top ⊗ by; bottom = a .bottom ⊗ by; side
 
 abbrev pub noTotals : Totals
 noTotals =
-    record {
-      surface = nought64;
-      volume6 = nought64;
-      areas = record { top = nought; bottom = nought; side = nought; inclined = nought };
-    }
+    record { surface = nought64; volume6 = nought64; areas = record { top = nought; bottom = nought; side = nought; inclined = nought } }
 
 -- with a facet's area, volume term and slope
 unfoldable pub withFacet : Thresholds → Totals → Facet → Totals

@@ -4,10 +4,10 @@
 // what has no `requires`.
 ghost use lib.Dec.{T};
 ghost use lib.Ieee.{binary32, binary64, fin, le, lt, ofBits, toSigned, toUnsigned};
-ghost use lib.IntN.{pos};
+ghost use lib.IntN.{pos, negℤ};
 ghost use mathlib.Core.Bool.{false};
 ghost use mathlib.Core.Path.{_≡_};
-ghost use Prim.Native.Nat.{_/_, _<_, _^_};
+ghost use Prim.Native.Nat.{_-_, _/_, _<_, _≤_, _^_};
 ghost use Rattle.ieee.specs.inner.Fields.{sized};
 use patterns::FIELD;
 use patterns::SIGN;
@@ -28,41 +28,37 @@ fn cut_size(e: u64, t: u64) -> u64
     }
 }
 
-// The sign is put on last: a processor would guess a branch by the sign wrongly every other time. From 2^63 on there are
-// only the ends.
-pub fn to_i64(x: f64) -> i64
-    ensures { λ r. ⌜ r ≡ toSigned 63 x ⌝ }
+// The float with the pattern b as an integer of h bits and a sign. The sign is put on last: a processor would guess a branch
+// by the sign wrongly every other time. From 2^h on there are only the ends.
+fn to_signed(b: u64, h: u64, least: i64, most: i64) -> i64
+    requires { ⌜ (h ≤ 63) × (least ≡ negℤ (pos (2 ^ h))) × (most ≡ pos (2 ^ h - 1)) ⌝ }
+    ensures { λ r. ⌜ r ≡ toSigned h (ofBits binary64 b) ⌝ }
 {
-    let b = bits64(x);
     let e = b % SIGN / FIELD;
-    if e < 1086 {
+    if e < 1023 + h {
         let n = cut_size(e, b % FIELD) as i64;
         if b < SIGN { n } else { -n }
-    } else if x != x {
+    } else if 0x7ff0_0000_0000_0000 < b % SIGN {
         0
     } else if b < SIGN {
-        i64::MAX
+        most
     } else {
-        i64::MIN
+        least
     }
 }
 
-// The same by the pattern that x has as an `f64`, with the ends from 2^31 on.
+pub fn to_i64(x: f64) -> i64
+    ensures { λ r. ⌜ r ≡ toSigned 63 x ⌝ }
+{
+    to_signed(bits64(x), 63, i64::MIN, i64::MAX)
+}
+
+// By the pattern that x has as an `f64`.
 pub fn to_i32(x: f32) -> i32
     ensures { λ r. ⌜ r ≡ toSigned 31 x ⌝ }
 {
     let b = bits64(std::num::f32_to_f64_with_nan(x));
-    let e = b % SIGN / FIELD;
-    if e < 1054 {
-        let n = cut_size(e, b % FIELD) as i32;
-        if b < SIGN { n } else { -n }
-    } else if x != x {
-        0
-    } else if b < SIGN {
-        i32::MAX
-    } else {
-        i32::MIN
-    }
+    to_signed(b, 31, i32::MIN as i64, i32::MAX as i64) as i32
 }
 
 // A NaN fails both tests.

@@ -2,12 +2,12 @@
 use mathlib.Core.Path.{_≡_, refl, sym, ap, _∙_}
 use mathlib.Core.Bool.{Bool, true, false, not, cond, true≢false, false≢true}
 use Prim.Native.Nat.{ℕ, _+_, _-_, _*_, _/_, _^_, _≤_, _<_, min}
-use native.Mathlib.Nat.{le-of-lt, mul-pos, le-div-iff-mul-le}
+use native.Mathlib.Nat.{le-of-lt, lt-of-lt-of-le, mul-pos, le-div-iff-mul-le}
 use native.Mathlib.Omega.{arith}
 use borrow.Author.Tests.{lt-ltb, ltb-false}
 use lib.IntN.{ℤ, pos, negℤ}
-use lib.Pow.{pow-pos}
-use lib.Ieee.{Float, nan, inf, fin, up, down, lt, le, eq, ne, isNan, toSigned, toUnsigned}
+use lib.Pow.{pow-mono, pow-pos}
+use lib.Ieee.{Float, nan, inf, fin, up, down, lt, le, eq, isNan, toSigned, toUnsigned}
 use lib.Ieee.Exact.{HasValue}
 use lib.Ieee.Fits.{down-pos}
 use lib.Ieee.Casts.{toSigned-in}
@@ -18,7 +18,6 @@ use Rattle.ieee.specs.Integral.{cut}
 use Rattle.ieee.specs.inner.Wholes.{signed}
 use Rattle.ieee.proofs.Numbers.Wholes.{whole-same}
 use Rattle.ieee.proofs.Order.Comparison.{lt-not-le}
-use Rattle.ieee.proofs.Patterns.Nan.{is-nan, ne-self}
 
 -- ---- sizes against 2 ^ k, from the products that `lt` and `le` compare
 module _ (k m : ℕ) (e : ℤ) where
@@ -87,10 +86,6 @@ unsigned-low w (inf false) h = absurd (true≢false h)
 unsigned-low w (fin true m e) h = refl
 unsigned-low w (fin false m e) h = absurd (true≢false (sym (lt-ltb 0 (1 * 1 * down e + m * up e * 1) (omega (arith, down-pos e))) ∙ h))
 
-pub signed-nan : (h : ℕ) (x : Float) → ne x x ≡ true → toSigned h x ≡ pos 0
-unfolding toSigned
-signed-nan h x t = ap (toSigned h) (is-nan x (sym (ne-self x) ∙ t))
-
 -- ---- within the range, the fraction is dropped
 pub signed-cut : (h : ℕ) (x : Float) (s : Bool) (a c : ℕ) → 0 < c → HasValue x s a c → a / c < 2 ^ h → toSigned h x ≡ signed s (a / c)
 unfolding toSigned
@@ -111,6 +106,13 @@ unsigned-value w (inf t) s a c C v = absurd v
 unsigned-value w (fin t m e) s a c C v = rw (v .0, same-size m e s t a c C v)
 
 -- ---- the answer as a word of the machine
+pub signed-within : (w : Width) (h : ℕ) → h ≤ hbits w → (x : Float) → SFits w (toSigned h x)
+signed-within w h p x = record { sfits = lt-of-lt-of-le (toSigned-in h x) (pow-mono p) }
+
+-- which reads back
+pub signed-read : (w : Width) (h : ℕ) → h ≤ hbits w → (x : Float) (z : ℤ) → z ≡ toSigned h x → toZ w (ofZ w z) ≡ toSigned h x
+signed-read w h p x z e = rw e (toZ-ofZ w (toSigned h x) (signed-within w h p x))
+
 pub signed-fits : (w : Width) (x : Float) → SFits w (toSigned (hbits w) x)
 signed-fits w x = record { sfits = toSigned-in (hbits w) x }
 

@@ -1,69 +1,29 @@
 -- `integers::to_i32` meets its contract. Assumes nothing.
 use borrow.Author.Needs.{needs}
-use mathlib.Core.Path.{_≡_, sym}
-use mathlib.Core.Bool.{true, false}
-use Prim.Native.Nat.{_^_}
-use native.Mathlib.Omega.{arith}
-use borrow.Author.Tests.{le-leb, lt-leb}
-use lib.Dec.{lit<, lit≤}
-use lib.IntN.{pos, _-ℤ_}
-use lib.Ieee.{binary64, ofBits, toSigned}
-use mir.Syntax.{w32}
-use mir.Val.{toZ}
-use Rattle.ieee.proofs.Order.Ranges.{signed-fits, signed-kept, signed-nan}
+use mathlib.Core.Path.{_≡_}
+use lib.Dec.{lit≤}
+use lib.Ieee.{toSigned}
+use mir.Syntax.{w32, w64}
+use mir.Val.{ofZ, toZ}
+use Rattle.ieee.proofs.Order.Ranges.{signed-fits, signed-read}
 use Rattle.ieee.proofs.Patterns.Back.{read-wide}
-use Rattle.ieee.proofs.Patterns.Integer.{below-zero, few, from-zero-up, past-end}
 use Rattle.integers.proofs.to_i32.Statement.{statement}
 use Rattle.integers.proofs.to_i32.Tie as tie
 
--- x has the pattern b as an `f64`
-is : (c : tie.After-bits64) → ofBits binary64 (c .bits64 .result) ≡ c .before .before .args .x
-is c = rw (c .bits64 .ensures, c .before .f32-to-f64-with-nan .ensures) (read-wide _ (c .before .before .good .0 .1))
+given : (c : tie.After-to-signed) → toZ w64 (ofZ w64 (c .to-signed .result)) ≡ toSigned 31 (c .before .before .before .args .x)
+given c =
+    let start = c .before .before .before in
+    let is = read-wide (start .args .x) (start .good .0 .1) in
+    signed-read w64 31 (lit≤ tt) (start .args .x) (c .to-signed .result)
+    (rw (c .to-signed .ensures, c .before .bits64 .ensures, c .before .before .f32-to-f64-with-nan .ensures, is))
 
--- the sign is put on
-negative : (c : tie.Else2) → pos 0 -ℤ toZ w32 (c .before .cut-size .result)
-    ≡ toSigned 31 (c .before .before .before .before .before .args .x)
-negative c =
-    let called = c .before .before .before in
-    below-zero w32 31 (lit≤ tt) (lit< tt) _ _ _ (is called) (omega arith) (c .before .cut-size .ensures) (c .if2 .left)
-
-cast-n : tie.Need-cast-n
-cast-n c =
-    let called = c .before .before in
-    record {
-      sfits =
-          few w32 31 (lit≤ tt) (lit< tt) _ _ _ (is called) (omega arith) (c .cut-size .ensures);
-    }
-
-sub-result : tie.Need-sub-result
-sub-result c = rw (negative c) (signed-fits w32 _)
+cast-result : tie.Need-cast-result
+cast-result c = rw (given c) (signed-fits w32 _)
 
 returns : tie.Need-returns
-returns c =
-    let called = c .before .before .before in
-    from-zero-up w32 31 (lit≤ tt) (lit< tt) _ _ _ (is called)
-    (omega arith) (c .before .cut-size .ensures) (c .if2 .taken)
-
-returns-2 : tie.Need-returns-2
-returns-2 c = rw (negative c) (signed-kept w32 _)
-
-returns-3 : tie.Need-returns-3
-returns-3 c = sym (signed-nan 31 (c .before .before .before .before .args .x) (c .if3 .taken))
-
-returns-4 : tie.Need-returns-4
-returns-4 c =
-    let called = c .before .before .before in
-    let b = called .bits64 .result in
-    past-end 31 _ b (is called) (omega arith) (c .before .if3 .left) false (lt-leb (2 ^ 63) b (c .if4 .taken))
-
-returns-5 : tie.Need-returns-5
-returns-5 c =
-    let called = c .before .before .before in
-    let b = called .bits64 .result in
-    past-end 31 _ b (is called) (omega arith) (c .before .if3 .left) true (le-leb (2 ^ 63) b (c .if4 .left))
+returns c = signed-read w32 31 (lit≤ tt) _ _ (given c)
 
 pub to-i32-spec : {M : Type 1} → statement M
 to-i32-spec =
     tie.close
-    (tie.spec (λ c κs. search needs) (λ c κs. search needs) (λ c κs. search needs) cast-n sub-result returns returns-2 returns-3 returns-4
-    returns-5)
+    (tie.spec (λ c κs. search needs) (λ c κs. search needs) (λ c. search needs) (λ c. search needs) (λ c κs. search needs) cast-result returns)

@@ -28,17 +28,18 @@ fn cut_size(e: u64, t: u64) -> u64
     }
 }
 
-// The float with the pattern b as an integer of h bits and a sign. The sign is put on last: a processor would guess a branch
-// by the sign wrongly every other time. From 2^h on there are only the ends.
-fn to_signed(b: u64, h: u64, least: i64, most: i64) -> i64
+// x as an integer of h bits and a sign. The sign is put on last: a processor would guess a branch by the sign wrongly every
+// other time. From 2^h on there are only the ends.
+fn to_signed(x: f64, h: u64, least: i64, most: i64) -> i64
     requires { ⌜ (h ≤ 63) × (least ≡ negℤ (pos (2 ^ h))) × (most ≡ pos (2 ^ h - 1)) ⌝ }
-    ensures { λ r. ⌜ r ≡ toSigned h (ofBits binary64 b) ⌝ }
+    ensures { λ r. ⌜ r ≡ toSigned h x ⌝ }
 {
+    let b = bits64(x);
     let e = b % SIGN / FIELD;
     if e < 1023 + h {
         let n = cut_size(e, b % FIELD) as i64;
         if b < SIGN { n } else { -n }
-    } else if 0x7ff0_0000_0000_0000 < b % SIGN {
+    } else if x != x {
         0
     } else if b < SIGN {
         most
@@ -50,15 +51,14 @@ fn to_signed(b: u64, h: u64, least: i64, most: i64) -> i64
 pub fn to_i64(x: f64) -> i64
     ensures { λ r. ⌜ r ≡ toSigned 63 x ⌝ }
 {
-    to_signed(bits64(x), 63, i64::MIN, i64::MAX)
+    to_signed(x, 63, i64::MIN, i64::MAX)
 }
 
-// By the pattern that x has as an `f64`.
 pub fn to_i32(x: f32) -> i32
     ensures { λ r. ⌜ r ≡ toSigned 31 x ⌝ }
 {
-    let b = bits64(std::num::f32_to_f64_with_nan(x));
-    to_signed(b, 31, i32::MIN as i64, i32::MAX as i64) as i32
+    let wide = std::num::f32_to_f64_with_nan(x);
+    to_signed(wide, 31, i32::MIN as i64, i32::MAX as i64) as i32
 }
 
 // A NaN fails both tests.

@@ -7,7 +7,7 @@ use native.Mathlib.Omega.{arith}
 use borrow.Author.Tests.{lt-ltb, ltb-false}
 use lib.IntN.{ℤ, pos, negℤ}
 use lib.Pow.{pow-mono, pow-pos}
-use lib.Ieee.{Float, nan, inf, fin, up, down, lt, le, eq, isNan, toSigned, toUnsigned}
+use lib.Ieee.{Float, nan, inf, fin, up, down, lt, le, eq, ne, isNan, toSigned, toUnsigned}
 use lib.Ieee.Exact.{HasValue}
 use lib.Ieee.Fits.{down-pos}
 use lib.Ieee.Casts.{toSigned-in}
@@ -18,6 +18,7 @@ use Rattle.ieee.specs.Integral.{cut}
 use Rattle.ieee.specs.inner.Wholes.{signed}
 use Rattle.ieee.proofs.Numbers.Wholes.{whole-same}
 use Rattle.ieee.proofs.Order.Comparison.{lt-not-le}
+use Rattle.ieee.proofs.Patterns.Nan.{is-nan, ne-self}
 
 -- ---- sizes against 2 ^ k, from the products that `lt` and `le` compare
 module _ (k m : ℕ) (e : ℤ) where
@@ -85,6 +86,10 @@ unsigned-low w (inf true) h = refl
 unsigned-low w (inf false) h = absurd (true≢false h)
 unsigned-low w (fin true m e) h = refl
 unsigned-low w (fin false m e) h = absurd (true≢false (sym (lt-ltb 0 (1 * 1 * down e + m * up e * 1) (omega (arith, down-pos e))) ∙ h))
+
+pub signed-nan : (h : ℕ) (x : Float) → ne x x ≡ true → toSigned h x ≡ pos 0
+unfolding toSigned
+signed-nan h x t = ap (toSigned h) (is-nan x (sym (ne-self x) ∙ t))
 
 -- ---- within the range, the fraction is dropped
 pub signed-cut : (h : ℕ) (x : Float) (s : Bool) (a c : ℕ) → 0 < c → HasValue x s a c → a / c < 2 ^ h → toSigned h x ≡ signed s (a / c)

@@ -3,7 +3,7 @@ ghost use lib.Dec.{leb};
 ghost use lib.Ieee.{binary32, binary64, ofBits, toBits};
 ghost use mathlib.Core.Bool.{cond};
 ghost use mathlib.Core.Path.{_≡_};
-ghost use Prim.Native.Nat.{_<_, _^_};
+ghost use Prim.Native.Nat.{_%_, _<_, _^_};
 ghost use Rattle.ieee.specs.inner.Fields.{sized};
 ghost use Rattle.ieee.specs.Integral.{ceiling, floor, halfAway, integral, toWhole};
 ghost use Rattle.rounding.specs.inner.Ways.{wayOf};
@@ -34,24 +34,27 @@ fn shifted(d: u64, j: u64, way: Way) -> u64
     }
 }
 
-// The size of a float below 2^52 as a whole number, from its pattern's fields: the exponent's e and the digits' t.
-fn whole_size(e: u64, t: u64, way: Way) -> u64
-    requires { ⌜ (e < 1075) × (t < 2 ^ 52) ⌝ }
-    ensures { λ r. ⌜ r ≡ toWhole (wayOf way) (sized binary64 e t) (2 ^ 1074) ⌝ }
+// The way of the float with the pattern b: one from zero up, another below.
+fn way_at(b: u64, above: Way, below: Way) -> Way
+    ensures { λ r. ⌜ wayOf r ≡ cond (leb (2 ^ 63) b) (wayOf below) (wayOf above) ⌝ }
 {
+    if b < SIGN { above } else { below }
+}
+
+// The size of a float below 2^52 as a whole number, from its pattern b and the exponent's field e in it.
+fn whole_size(b: u64, e: u64, above: Way, below: Way) -> u64
+    requires { ⌜ e < 1075 ⌝ }
+    ensures { λ r. ⌜ r ≡ toWhole (cond (leb (2 ^ 63) b) (wayOf below) (wayOf above))
+        (sized binary64 e (b % 2 ^ 52)) (2 ^ 1074) ⌝ }
+{
+    let way = way_at(b, above, below);
+    let t = b % FIELD;
     if e < 1012 {
         // so far below a half it only counts whether it is 0
         shifted(e + t, 63, way)
     } else {
         shifted(FIELD + t, 1075 - e, way)
     }
-}
-
-// The way of the float with the pattern b: one from zero up, another below.
-fn way_at(b: u64, above: Way, below: Way) -> Way
-    ensures { λ r. ⌜ wayOf r ≡ cond (leb (2 ^ 63) b) (wayOf below) (wayOf above) ⌝ }
-{
-    if b < SIGN { above } else { below }
 }
 
 // x as a whole number, by one way from zero up and by another below. From 2^52 on x is whole. The size is made whole, and
@@ -64,7 +67,7 @@ fn whole64(x: f64, above: Way, below: Way) -> f64
     if e >= 1075 {
         x
     } else {
-        let n = whole_size(e, b % FIELD, way_at(b, above, below)) as f64;
+        let n = whole_size(b, e, above, below) as f64;
         if b < SIGN { n } else { -n }
     }
 }
@@ -78,7 +81,7 @@ fn whole32(x: f32, above: Way, below: Way) -> f32
     if e >= 1046 {
         x
     } else {
-        let n = whole_size(e, b % FIELD, way_at(b, above, below)) as f32;
+        let n = whole_size(b, e, above, below) as f32;
         if b < SIGN { n } else { -n }
     }
 }

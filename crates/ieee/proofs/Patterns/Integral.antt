@@ -96,12 +96,8 @@ unfolding inFloat
 in-format g f w b n h r =
     let l : size-of g b / 2 ^ low g < hid f =
     div-lt-iff-lt-mul (pow-pos (low g)) .1 (at-most g (prec f - 1) (field g b) (b % hid g) (mod-lt b (pow-pos (prec g - 1))) h) in
-    let m = whole-le w (size-of g b) (2 ^ low g) (pow-pos (low g)) in
-    le→leb n (2 ^ prec f) (rw r (few (toWhole w (size-of g b) (2 ^ low g)) (size-of g b / 2 ^ low g) (hid f) (2 ^ prec f) m l
-    (twice-hid f)))
-  where
-    few : (n q h p : ℕ) → n ≤ q + 1 → q < h → p ≡ 2 * h → n ≤ p
-    few n q h p a b c = omega arith
+    let m : n ≤ size-of g b / 2 ^ low g + 1 = rw r (whole-le w (size-of g b) (2 ^ low g) (pow-pos (low g))) in
+    le→leb n (2 ^ prec f) (omega (arith, twice-hid f))
 
 -- ---- the pattern as an `f64`
 module _ (f : Format) (above below : Way) (x : Float) (b : ℕ) (is : ofBits binary64 b ≡ x) where
@@ -109,15 +105,18 @@ module _ (f : Format) (above below : Way) (x : Float) (b : ℕ) (is : ofBits bin
   abbrev way : Way
   way = cond (leb (2 ^ 63) b) below above
 
-  pub from-zero-up : (n : ℕ) → b < 2 ^ 63 → field binary64 b < 1075 → n ≡ toWhole way (size-of binary64 b) (2 ^ 1074)
+  pub holds : (n : ℕ) → field binary64 b < 1022 + prec f → n ≡ toWhole way (size-of binary64 b) (2 ^ 1074) → T (inFloat f (pos n))
+  holds n h r = in-format binary64 f way b n (omega (arith, two f)) r
+
+  pub from-zero-up : {n : ℕ} → b < 2 ^ 63 → field binary64 b < 1075 → n ≡ toWhole way (size-of binary64 b) (2 ^ 1074)
       → ofInt f (pos n) ≡ integral f above below x
   unfolding ofInt
-  from-zero-up n g h r = let e = lt-leb (2 ^ 63) b g in small binary64 f above below x b is false n e (omega arith) (rw e at r)
+  from-zero-up {n} g h r = let e = lt-leb (2 ^ 63) b g in small binary64 f above below x b is false n e (omega arith) (rw e at r)
 
-  pub below-zero : (n : ℕ) → 2 ^ 63 ≤ b → field binary64 b < 1075 → n ≡ toWhole way (size-of binary64 b) (2 ^ 1074)
+  pub below-zero : {n : ℕ} → 2 ^ 63 ≤ b → field binary64 b < 1075 → n ≡ toWhole way (size-of binary64 b) (2 ^ 1074)
       → neg (ofInt f (pos n)) ≡ integral f above below x
   unfolding ofInt
-  below-zero n g h r =
+  below-zero {n} g h r =
       let e = le-leb (2 ^ 63) b g in round-neg f false n 1 ∙ small binary64 f above below x b is true n e (omega arith) (rw e at r)
 
   pub whole-already : T (fits f x) → 1022 + prec f ≤ field binary64 b → x ≡ integral f above below x

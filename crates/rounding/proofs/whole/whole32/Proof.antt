@@ -6,7 +6,7 @@ use lib.Ieee.{binary32, binary64, ofBits}
 use denote.Floats.{passes}
 use Rattle.rounding.specs.inner.Ways.{wayOf}
 use Rattle.ieee.proofs.Patterns.Back.{read-wide}
-use Rattle.ieee.proofs.Patterns.Integral.{below-zero, from-zero-up, in-format, whole-already}
+use Rattle.ieee.proofs.Patterns.Integral.{below-zero, from-zero-up, holds, whole-already}
 use Rattle.rounding.proofs.whole.whole32.Statement.{statement}
 use Rattle.rounding.proofs.whole.whole32.Tie as tie
 
@@ -16,9 +16,9 @@ is c = rw (c .bits64 .ensures, c .before .f32-to-f64-with-nan .ensures) (read-wi
 
 int-to-float-n : tie.Need-int-to-float-n
 int-to-float-n c =
-    let asked = c .before .before in
-    in-format binary64 binary32 (wayOf (asked .way-at .result)) (asked .before .before .bits64 .result) _
-    (omega (arith, asked .before .if1 .left)) (c .before .whole-size .ensures)
+    let called = c .before .before .before in
+    let ways = called .before .before .args in
+    holds binary32 (wayOf (ways .above)) (wayOf (ways .below)) _ _ (is called) _ (omega arith) (c .before .whole-size .ensures)
 
 returns : tie.Need-returns
 returns c =
@@ -27,20 +27,13 @@ returns c =
 
 returns-2 : tie.Need-returns-2
 returns-2 c =
-    let asked = c .before .before .before in
-    let called = asked .before .before in
-    from-zero-up binary32 _ _ _ _ (is called) _ (c .if2 .taken) (omega arith)
-    (rw (← asked .way-at .ensures) (c .before .before .whole-size .ensures))
+    from-zero-up _ _ _ _ _ (is (c .before .before .before .before)) (c .if2 .taken) (omega arith) (c .before .before .whole-size .ensures)
 
 returns-3 : tie.Need-returns-3
 returns-3 c =
-    let asked = c .before .before .before in
-    let called = asked .before .before in
-    below-zero binary32 _ _ _ _ (is called) _ (c .if2 .left) (omega arith)
-    (rw (← asked .way-at .ensures) (c .before .before .whole-size .ensures))
+    below-zero _ _ _ _ _ (is (c .before .before .before .before)) (c .if2 .left) (omega arith) (c .before .before .whole-size .ensures)
 
 pub whole32-spec : {M : Type 1} → statement M
 whole32-spec =
     tie.close
-    (tie.spec (λ c κs. search needs) (λ c κs. search needs) (λ c κs. search needs) (λ c κs. search needs) int-to-float-n returns returns-2
-    returns-3)
+    (tie.spec (λ c κs. search needs) (λ c κs. search needs) (λ c κs. search needs) int-to-float-n returns returns-2 returns-3)

@@ -5,16 +5,16 @@ use lib.Ieee.{Float, binary32, lt}
 use lib.Ieee.Fits.{mul-fits}
 use Rattle.ieee.specs.Single.{_⊖_, _⊗_, nought}
 use Rattle.ieee.proofs.Order.Comparison.{lt-asym}
-use Rattle.ieee.proofs.Order.Differences.{sub-negative, sub-positive, zero-bits}
+use Rattle.ieee.proofs.Order.Differences.{sub-sign, zero-bits}
 use Rattle.grid.specs.declared.Flat.{Flat}
 use Rattle.grid.specs.Point.{notOutside, place, placeBy, placeOf, pointIn, side}
 
 -- ---- signs
 negative : (a b c d : Float) → lt (a ⊗ b ⊖ c ⊗ d) nought ≡ lt (a ⊗ b) (c ⊗ d)
-negative a b c d = rw (zero-bits binary32) (sub-negative binary32 (a ⊗ b) (c ⊗ d) (mul-fits binary32 a b) (mul-fits binary32 c d))
+negative a b c d = rw (zero-bits binary32) (sub-sign binary32 (a ⊗ b) (c ⊗ d) (mul-fits binary32 a b) (mul-fits binary32 c d) .0)
 
 positive : (a b c d : Float) → lt nought (a ⊗ b ⊖ c ⊗ d) ≡ lt (c ⊗ d) (a ⊗ b)
-positive a b c d = rw (zero-bits binary32) (sub-positive binary32 (a ⊗ b) (c ⊗ d) (mul-fits binary32 a b) (mul-fits binary32 c d))
+positive a b c d = rw (zero-bits binary32) (sub-sign binary32 (a ⊗ b) (c ⊗ d) (mul-fits binary32 a b) (mul-fits binary32 c d) .1)
 
 -- outside is where both signs occur
 both-signs : (p q z : Bool) → notOutside (placeBy p q z) ≡ not (p && q)

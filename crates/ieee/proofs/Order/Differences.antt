@@ -19,7 +19,7 @@ use Rattle.ieee.proofs.Values.ByValue.{lt-values, sub-values}
 use Rattle.ieee.proofs.Values.OneFloat.{in-units, round-zero}
 use Rattle.ieee.proofs.Values.Totals.{Total, total-of}
 
-abbrev none : Float
+abbrev pub none : Float
 none = fin false 0 (pos 0)
 
 pub zero-bits : (f : Format) → ofBits f 0 ≡ fin false 0 (pos 0)
@@ -151,32 +151,19 @@ module _ (f : Format) (s : Bool) (m : ℕ) (e : ℤ) (t : Bool) (k : ℕ) (d : �
       rw difference
       (above-zero f (r .sign) (r .size) ∙ difference-above f s i t j ∙ sym (lt-values y x t j s i (2 ^ low f) (pow-pos (low f)) y-is x-is))
 
-pub sub-negative : (f : Format) (x y : Float) → T (fits f x) → T (fits f y) → lt (sub f x y) (fin false 0 (pos 0)) ≡ lt x y
+pub sub-sign : (f : Format) (x y : Float) → T (fits f x) → T (fits f y) → (lt (sub f x y) none ≡ lt x y) × (lt none (sub f x y) ≡ lt y x)
 unfolding lt sub
-sub-negative f nan y p q = refl
-sub-negative f (inf s) nan p q = refl
-sub-negative f (inf true) (inf true) p q = refl
-sub-negative f (inf true) (inf false) p q = refl
-sub-negative f (inf false) (inf true) p q = refl
-sub-negative f (inf false) (inf false) p q = refl
-sub-negative f (inf s) (fin t n d) p q = refl
-sub-negative f (fin s m e) nan p q = refl
-sub-negative f (fin s m e) (inf t) p q = refl
-sub-negative f (fin s m e) (fin t n d) p q = finite-negative f s m e t n d p q
-
-pub sub-positive : (f : Format) (x y : Float) → T (fits f x) → T (fits f y) → lt (fin false 0 (pos 0)) (sub f x y) ≡ lt y x
-unfolding lt sub
-sub-positive f nan nan p q = refl
-sub-positive f nan (inf t) p q = refl
-sub-positive f nan (fin t n d) p q = refl
-sub-positive f (inf s) nan p q = refl
-sub-positive f (inf true) (inf true) p q = refl
-sub-positive f (inf true) (inf false) p q = refl
-sub-positive f (inf false) (inf true) p q = refl
-sub-positive f (inf false) (inf false) p q = refl
-sub-positive f (inf true) (fin t n d) p q = refl
-sub-positive f (inf false) (fin t n d) p q = refl
-sub-positive f (fin s m e) nan p q = refl
-sub-positive f (fin s m e) (inf true) p q = refl
-sub-positive f (fin s m e) (inf false) p q = refl
-sub-positive f (fin s m e) (fin t n d) p q = finite-positive f s m e t n d p q
+sub-sign f nan nan p q = (refl, refl)
+sub-sign f nan (inf t) p q = (refl, refl)
+sub-sign f nan (fin t n d) p q = (refl, refl)
+sub-sign f (inf s) nan p q = (refl, refl)
+sub-sign f (inf true) (inf true) p q = (refl, refl)
+sub-sign f (inf true) (inf false) p q = (refl, refl)
+sub-sign f (inf false) (inf true) p q = (refl, refl)
+sub-sign f (inf false) (inf false) p q = (refl, refl)
+sub-sign f (inf true) (fin t n d) p q = (refl, refl)
+sub-sign f (inf false) (fin t n d) p q = (refl, refl)
+sub-sign f (fin s m e) nan p q = (refl, refl)
+sub-sign f (fin s m e) (inf true) p q = (refl, refl)
+sub-sign f (fin s m e) (inf false) p q = (refl, refl)
+sub-sign f (fin s m e) (fin t n d) p q = (finite-negative f s m e t n d p q, finite-positive f s m e t n d p q)

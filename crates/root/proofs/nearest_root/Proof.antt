@@ -55,45 +55,6 @@ parts-at c =
     parts-of m _ (c .before .pre .0) (c .before .pre .1)
     (subst (λ (q : ℕ). IsRoot m q) (sym (c .digit-root .ensures)) (floorRoot-is m))
 
-mul-n : tie.Need-mul-n
-mul-n c = let p = parts-at c in omega arith
-
-sub-n : tie.Need-sub-n
-sub-n c = let p = parts-at c in omega arith
-
-mul-n-2 : tie.Need-mul-n-2
-mul-n-2 c = let p = parts-at c in omega arith
-
-mul-t : tie.Need-mul-t
-mul-t c = let p = parts-at c in omega arith
-
-div-t : tie.Need-div-t
-div-t c = let p = parts-at c in omega arith
-
-mul-u : tie.Need-mul-u
-mul-u c = let p = parts-at c in omega arith
-
-rem-u : tie.Need-rem-u
-rem-u c = let p = parts-at c in omega arith
-
-mul-s : tie.Need-mul-s
-mul-s c = let p = parts-at c in omega arith
-
-add-s : tie.Need-add-s
-add-s c = let p = parts-at c in omega arith
-
-mul-if1 : tie.Need-mul-if1
-mul-if1 c = let p = parts-at c in omega arith
-
-add-if1 : tie.Need-add-if1
-add-if1 c = let p = parts-at c in omega arith
-
-mul-if1-2 : tie.Need-mul-if1-2
-mul-if1-2 c = let p = parts-at c in omega arith
-
-add-result : tie.Need-add-result
-add-result c = let p = parts-at (c .before) in omega arith
-
 returns : tie.Need-returns
 returns c =
     let p = parts-at (c .before) in next (c .before .before .args .m * 2 ^ 52) _ _ _ (squares p) (omega (arith, c .if1 .taken))
@@ -103,8 +64,11 @@ returns-2 : tie.Need-returns-2
 returns-2 c =
     let p = parts-at (c .before) in same (c .before .before .args .m * 2 ^ 52) _ _ _ (squares p) (omega (arith, c .if1 .left)) (omega arith)
 
+-- every number on the way fits a word by its parts
 pub nearest-root-spec : {M : Type 1} → statement M
 nearest-root-spec =
     tie.close
-    (tie.spec (λ c κs. search needs) mul-n sub-n mul-n-2 mul-t div-t mul-u rem-u mul-s add-s mul-if1 add-if1 mul-if1-2 add-result returns
-    returns-2)
+    (tie.spec (λ c κs. search needs) (λ c. omega (arith, parts-at c)) (λ c. omega (arith, parts-at c)) (λ c. omega (arith, parts-at c))
+    (λ c. omega (arith, parts-at c)) (λ c. omega (arith, parts-at c)) (λ c. omega (arith, parts-at c)) (λ c. omega (arith, parts-at c))
+    (λ c. omega (arith, parts-at c)) (λ c. omega (arith, parts-at c)) (λ c. omega (arith, parts-at c)) (λ c. omega (arith, parts-at c))
+    (λ c. omega (arith, parts-at c)) (λ c. omega (arith, parts-at (c .before))) returns returns-2)

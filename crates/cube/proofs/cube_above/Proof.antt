@@ -11,5 +11,4 @@ returns c =
     cc (read-back binary32 (start .args .s) (start .good .0 .1), read-back binary32 (start .args .p) (start .good .1 .0 .1))
 
 pub cube-above-spec : {M : Type 1} → statement M
-cube-above-spec =
-    tie.close (tie.spec (λ c κs. search needs) (λ c κs. search needs) (λ c κs. search needs) returns)
+cube-above-spec = tie.close (tie.spec (λ c κs. search needs) (λ c κs. search needs) (λ c κs. search needs) returns)

@@ -13,5 +13,4 @@ returns-2 : tie.Need-returns-2
 returns-2 c = (sig-above binary32 _ _ (c .if1 .left), omega arith)
 
 pub digits-spec : {M : Type 1} → statement M
-digits-spec =
-    tie.close (tie.spec (λ c. search needs) returns returns-2)
+digits-spec = tie.close (tie.spec (λ c. search needs) returns returns-2)

@@ -13,5 +13,4 @@ returns-2 : tie.Need-returns-2
 returns-2 c = omega (arith, exp-is (c .before .args .b % 2 ^ 31 / 2 ^ 23))
 
 pub place-spec : {M : Type 1} → statement M
-place-spec =
-    tie.close (tie.spec (λ c. search needs) returns returns-2)
+place-spec = tie.close (tie.spec (λ c. search needs) returns returns-2)

@@ -11,5 +11,4 @@ returns-2 c =
     let start = c .before in sym (div-eq-of-lt (below-pow (start .args .n) 64 (start .args .k) (start .fits .n .fits) (c .if1 .left)))
 
 pub shifted-down-spec : {M : Type 1} → statement M
-shifted-down-spec =
-    tie.close (tie.spec (λ c. search needs) (λ c. search needs) returns-2)
+shifted-down-spec = tie.close (tie.spec (λ c. search needs) (λ c. search needs) returns-2)

@@ -21,8 +21,7 @@ toSigned-at : (h : ℕ) (x : Float) (s : Bool) (n : ℕ) → HasValue x s n 1 �
 unfolding toSigned
 toSigned-at h nan s n v = absurd v
 toSigned-at h (inf t) s n v = absurd v
-toSigned-at h (fin t m e) s n v =
-    let one : n / 1 ≡ n = omega arith in rw (v .0, same-size m e s t n 1 (lit< tt) v, one)
+toSigned-at h (fin t m e) s n v = let one : n / 1 ≡ n = omega arith in rw (v .0, same-size m e s t n 1 (lit< tt) v, one)
 
 module _ (f : Format) (h m : ℕ) (e : ℤ) where
   pub floor-up : T (fits f (fin false m e)) → toSigned h (floor f (fin false m e)) ≡ pos (min (m * up e / down e) (2 ^ h - 1))

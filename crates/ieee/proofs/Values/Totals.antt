@@ -42,8 +42,7 @@ total-of f true a true b =
       is = λ c. refl;
       total = negℤ-+ℤ (pos a) (pos b);
       plus = λ p q. omega (arith, p tt);
-      placed =
-          λ n l. (omega arith, omega arith);
+      placed = λ n l. (omega arith, omega arith);
     }
 total-of f false a true b =
     elim (decLt a b) [
@@ -52,16 +51,14 @@ total-of f false a true b =
         size = b - a;
         is = λ c. rw (lt-ltb a b h);
         total = sym (minus-ge a b (omega arith));
-        plus =
-            λ p q. omega arith;
+        plus = λ p q. omega arith;
         placed = λ n l. (omega arith, omega arith);
       }
       | no h ↦ record {
         sign = false;
         size = a - b;
         is = λ c. rw (le-ltb a b (omega arith));
-        total =
-            sym (minus-le a b (omega arith));
+        total = sym (minus-le a b (omega arith));
         plus = λ p q. absurd q;
         placed = λ n l. (omega arith, omega arith);
       }

@@ -10,5 +10,4 @@ returns : tie.Need-returns
 returns c = cc (signed-kept w32 (ofBits binary32 (c .before .before .args .b)))
 
 pub to-i32-bits-spec : {M : Type 1} → statement M
-to-i32-bits-spec =
-    tie.close (tie.spec (λ c κs. search needs) (λ c κs. search needs) returns)
+to-i32-bits-spec = tie.close (tie.spec (λ c κs. search needs) (λ c κs. search needs) returns)

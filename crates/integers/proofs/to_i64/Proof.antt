@@ -9,5 +9,4 @@ returns : tie.Need-returns
 returns c = rw (c .to-signed .ensures) (signed-kept w64 (c .before .args .x))
 
 pub to-i64-spec : {M : Type 1} → statement M
-to-i64-spec =
-    tie.close (tie.spec (λ c κs. search needs) returns)
+to-i64-spec = tie.close (tie.spec (λ c κs. search needs) returns)

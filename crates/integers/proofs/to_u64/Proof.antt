@@ -25,5 +25,4 @@ unfolding neg ofBits
 returns-3 c = sym (unsigned-low 64 (c .before .before .args .x) (c .if2 .left))
 
 pub to-u64-spec : {M : Type 1} → statement M
-to-u64-spec =
-    tie.close (tie.spec truncating-f32-to-u64-requires returns (λ c. search needs) returns-3)
+to-u64-spec = tie.close (tie.spec truncating-f32-to-u64-requires returns (λ c. search needs) returns-3)

@@ -31,5 +31,4 @@ returns : tie.Need-returns
 returns c = whole-part (c .args .x) (toBits binary32 (c .args .x)) (is c) (c .pre .0) (c .pre .1)
 
 pub whole-part32-spec : {M : Type 1} → statement M
-whole-part32-spec =
-    tie.close (tie.spec float-to-bits-b (λ c. search needs) sub-result shr-result returns)
+whole-part32-spec = tie.close (tie.spec float-to-bits-b (λ c. search needs) sub-result shr-result returns)

@@ -11,5 +11,4 @@ float-from-bits-y : tie.Need-float-from-bits-y
 float-from-bits-y c = up-to-inf binary64 (0x5fe6eb50c7b537a9 - c .args .b / 2) (omega arith)
 
 pub guess-spec : {M : Type 1} → statement M
-guess-spec =
-    tie.close (tie.spec (λ c. search needs) float-from-bits-y (λ c κs. search needs) (λ c. search needs))
+guess-spec = tie.close (tie.spec (λ c. search needs) float-from-bits-y (λ c κs. search needs) (λ c. search needs))

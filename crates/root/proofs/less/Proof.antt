@@ -19,5 +19,4 @@ returns : tie.Need-returns
 returns c = let a = c .args .a in let b = c .args .b in byte a b (ltb a b) (ltb→lt a b) (nltb→le a b)
 
 pub less-spec : {M : Type 1} → statement M
-less-spec =
-    tie.close (tie.spec (λ c. search needs) returns)
+less-spec = tie.close (tie.spec (λ c. search needs) returns)

@@ -35,5 +35,4 @@ returns c =
     (c .root-scaled .ensures .0 ∙ rw digits (subnormal-root (t % 2 ^ 63 / 2 ^ 52) t (leadingZeros 64 t) (omega arith) (facts start)))
 
 pub root-subnormal-spec : {M : Type 1} → statement M
-root-subnormal-spec =
-    tie.close (tie.spec cast-z sub-z shl-root-scaled sub-root-scaled root-scaled-requires returns)
+root-subnormal-spec = tie.close (tie.spec cast-z sub-z shl-root-scaled sub-root-scaled root-scaled-requires returns)

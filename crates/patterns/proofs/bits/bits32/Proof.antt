@@ -12,5 +12,4 @@ returns : tie.Need-returns
 returns c = differs-bits binary32 (c .before .args .x) (c .if1 .taken)
 
 pub bits32-spec : {M : Type 1} → statement M
-bits32-spec =
-    tie.close (tie.spec float-to-bits-result returns (λ c. search needs))
+bits32-spec = tie.close (tie.spec float-to-bits-result returns (λ c. search needs))

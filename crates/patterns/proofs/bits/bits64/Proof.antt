@@ -12,5 +12,4 @@ returns : tie.Need-returns
 returns c = differs-bits binary64 (c .before .args .x) (c .if1 .taken)
 
 pub bits64-spec : {M : Type 1} → statement M
-bits64-spec =
-    tie.close (tie.spec float-to-bits-result returns (λ c. search needs))
+bits64-spec = tie.close (tie.spec float-to-bits-result returns (λ c. search needs))

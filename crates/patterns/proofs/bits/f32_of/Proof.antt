@@ -13,5 +13,4 @@ returns : tie.Need-returns
 returns c = unfold div ofBits in sym (above-inf binary32 (c .before .args .b) (c .if1 .taken))
 
 pub f32-of-spec : {M : Type 1} → statement M
-f32-of-spec =
-    tie.close (tie.spec float-from-bits-result returns (λ c. search needs))
+f32-of-spec = tie.close (tie.spec float-from-bits-result returns (λ c. search needs))

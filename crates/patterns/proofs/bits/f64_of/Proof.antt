@@ -14,5 +14,4 @@ returns : tie.Need-returns
 returns c = unfold div ofBits in sym (above-inf binary64 (c .before .args .b) (omega (arith, c .if1 .taken)))
 
 pub f64-of-spec : {M : Type 1} → statement M
-f64-of-spec =
-    tie.close (tie.spec float-from-bits-result returns (λ c. search needs))
+f64-of-spec = tie.close (tie.spec float-from-bits-result returns (λ c. search needs))

@@ -14,5 +14,4 @@ unfolding greatest
 returns-2 c = rw (← ne-self, ← c .before .second .ensures, c .if1 .left)
 
 pub greatest64-spec : {M : Type 1} → statement M
-greatest64-spec =
-    tie.close (tie.spec (λ c κs. search needs) returns returns-2)
+greatest64-spec = tie.close (tie.spec (λ c κs. search needs) returns returns-2)

@@ -14,5 +14,4 @@ unfolding least
 returns-2 c = rw (← ne-self, ← c .before .second .ensures, c .if1 .left)
 
 pub least64-spec : {M : Type 1} → statement M
-least64-spec =
-    tie.close (tie.spec (λ c κs. search needs) returns returns-2)
+least64-spec = tie.close (tie.spec (λ c κs. search needs) returns returns-2)

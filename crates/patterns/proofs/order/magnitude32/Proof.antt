@@ -9,5 +9,4 @@ returns : tie.Need-returns
 returns c = let start = c .before .before .before in cc (read-back binary32 (start .args .x) (start .good .0 .1))
 
 pub magnitude32-spec : {M : Type 1} → statement M
-magnitude32-spec =
-    tie.close (tie.spec (λ c κs. search needs) (λ c κs. search needs) (λ c κs. search needs) returns)
+magnitude32-spec = tie.close (tie.spec (λ c κs. search needs) (λ c κs. search needs) (λ c κs. search needs) returns)

@@ -8,5 +8,4 @@ returns : tie.Need-returns
 returns c = sign-cleared binary32 (c .args .b)
 
 pub magnitude32-bits-spec : {M : Type 1} → statement M
-magnitude32-bits-spec =
-    tie.close (tie.spec returns)
+magnitude32-bits-spec = tie.close (tie.spec returns)

@@ -9,5 +9,4 @@ returns : tie.Need-returns
 returns c = let start = c .before .before .before in cc (read-back binary64 (start .args .x) (start .good .0 .1))
 
 pub magnitude64-spec : {M : Type 1} → statement M
-magnitude64-spec =
-    tie.close (tie.spec (λ c κs. search needs) (λ c κs. search needs) (λ c κs. search needs) returns)
+magnitude64-spec = tie.close (tie.spec (λ c κs. search needs) (λ c κs. search needs) (λ c κs. search needs) returns)

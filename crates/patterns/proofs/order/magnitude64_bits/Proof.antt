@@ -15,5 +15,4 @@ returns : tie.Need-returns
 returns c = cleared (c .args .b) _ (omega arith)
 
 pub magnitude64-bits-spec : {M : Type 1} → statement M
-magnitude64-bits-spec =
-    tie.close (tie.spec returns)
+magnitude64-bits-spec = tie.close (tie.spec returns)

@@ -19,5 +19,4 @@ returns c =
     ]
 
 pub second-spec : {M : Type 1} → statement M
-second-spec =
-    tie.close (tie.spec returns)
+second-spec = tie.close (tie.spec returns)

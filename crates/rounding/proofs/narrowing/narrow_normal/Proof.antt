@@ -9,5 +9,4 @@ returns : tie.Need-returns
 returns c = (omega (arith, shortened-normal (c .args .m) (c .pre .0) (c .pre .1)), omega (arith, c .pre .1))
 
 pub narrow-normal-spec : {M : Type 1} → statement M
-narrow-normal-spec =
-    tie.close (tie.spec (λ c. search needs) (λ c. search needs) (λ c. search needs) returns)
+narrow-normal-spec = tie.close (tie.spec (λ c. search needs) (λ c. search needs) (λ c. search needs) returns)

@@ -14,5 +14,4 @@ returns : tie.Need-returns
 returns c = omega (arith, half-digit (c .args .n) (c .args .k) (omega arith))
 
 pub nearest-shift-spec : {M : Type 1} → statement M
-nearest-shift-spec =
-    tie.close (tie.spec (λ c. search needs) (λ c. search needs) add-result returns)
+nearest-shift-spec = tie.close (tie.spec (λ c. search needs) (λ c. search needs) add-result returns)

@@ -21,5 +21,4 @@ returns c =
     (λ w. rw (w .1) (none-size binary32 e t (omega arith) (omega (arith, w .0 .left)) (c .before .before .pre .1))) (c .before .if1 .came)
 
 pub half-size32-spec : {M : Type 1} → statement M
-half-size32-spec =
-    tie.close (tie.spec (λ c. search needs) (λ c. search needs) nearest-shift-requires returns)
+half-size32-spec = tie.close (tie.spec (λ c. search needs) (λ c. search needs) nearest-shift-requires returns)

@@ -7,5 +7,4 @@ returns : tie.Need-returns
 returns c = cc
 
 pub ceiling32-bits-spec : {M : Type 1} → statement M
-ceiling32-bits-spec =
-    tie.close (tie.spec (λ c κs. search needs) (λ c κs. search needs) (λ c κs. search needs) returns)
+ceiling32-bits-spec = tie.close (tie.spec (λ c κs. search needs) (λ c κs. search needs) (λ c κs. search needs) returns)

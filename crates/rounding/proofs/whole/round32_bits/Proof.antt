@@ -7,5 +7,4 @@ returns : tie.Need-returns
 returns c = cc
 
 pub round32-bits-spec : {M : Type 1} → statement M
-round32-bits-spec =
-    tie.close (tie.spec (λ c κs. search needs) (λ c κs. search needs) (λ c κs. search needs) returns)
+round32-bits-spec = tie.close (tie.spec (λ c κs. search needs) (λ c κs. search needs) (λ c κs. search needs) returns)

@@ -11,5 +11,4 @@ returns-2 : tie.Need-returns-2
 returns-2 c = rw (le-leb (2 ^ 63) (c .before .args .b) (c .if1 .left))
 
 pub way-at-spec : {M : Type 1} → statement M
-way-at-spec =
-    tie.close (tie.spec returns returns-2)
+way-at-spec = tie.close (tie.spec returns returns-2)

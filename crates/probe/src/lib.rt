@@ -88,8 +88,8 @@ fn axis(n: u32) -> Axis
     }
 }
 
-// The footprint, where the raster is long enough; else nothing is done, and the answer is 0. The box holds the least and the greatest on the
-// first axis, then on the second.
+// The footprint, where the raster is long enough; else nothing is done, and the answer is 0. The bounds are the least and the greatest on
+// the first axis, then on the second.
 #[no_mangle]
 pub extern "C" fn probe_footprint_raw(
     vertices: &[f32],

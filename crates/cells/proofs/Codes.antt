@@ -42,9 +42,7 @@ integer-refl (negsuc n) = eq-eqb n n refl
 
 pub cell-eq : (a b : Cell) → sameCell a b ≡ true → a ≡ b
 unfolding sameCell
-cell-eq a b h =
-    let e = three-eq sameInteger integer-eq (a .x) (a .y) (a .z) (b .x) (b .y) (b .z) h in
-    λ i. record { x = e .0 i; y = e .1 i; z = e .2 i }
+cell-eq a b h = three-eq sameInteger integer-eq (λ x y z. record { x = x; y = y; z = z }) h
 
 pub cell-refl : (a : Cell) → sameCell a a ≡ true
 unfolding sameCell

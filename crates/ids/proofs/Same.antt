@@ -13,14 +13,14 @@ pub both : (a b : Bool) → a && b ≡ true → (a ≡ true) × (b ≡ true)
 both true b e = (refl, e)
 both false b e = absurd (false≢true e)
 
--- three things each by a test that is equality
+-- three things each by a test that is equality: what is made of them is equal
 module _ {A : Type 0} (test : A → A → Bool) where
-  pub three-eq : ((x y : A) → test x y ≡ true → x ≡ y) → (a b c d e f : A) → test a d && (test b e && test c f) ≡ true
-      → (a ≡ d) × (b ≡ e) × (c ≡ f)
-  three-eq eq a b c d e f h =
+  pub three-eq : {B : Type 0} → ((x y : A) → test x y ≡ true → x ≡ y) → (make : A → A → A → B) → {a b c d e f : A}
+      → test a d && (test b e && test c f) ≡ true → make a b c ≡ make d e f
+  three-eq eq make {a} {b} {c} {d} {e} {f} h =
       let w = both (test a d) (test b e && test c f) h in
       let v = both (test b e) (test c f) (w .1) in
-      (eq a d (w .0), eq b e (v .0), eq c f (v .1))
+      λ i. make (eq a d (w .0) i) (eq b e (v .0) i) (eq c f (v .1) i)
 
   pub three-refl : ((x : A) → test x x ≡ true) → (a b c : A) → test a a && (test b b && test c c) ≡ true
   three-refl same a b c = rw (same a, same b, same c)
@@ -40,9 +40,7 @@ edge-refl e = rw (eqb-refl (e .low), eqb-refl (e .high))
 
 pub face-eq : (f g : Face) → sameFace f g ≡ true → f ≡ g
 unfolding sameFace
-face-eq f g h =
-    let e = three-eq eqb eqb-true (f .low) (f .mid) (f .high) (g .low) (g .mid) (g .high) h in
-    λ i. record { low = e .0 i; mid = e .1 i; high = e .2 i }
+face-eq f g h = three-eq eqb eqb-true (λ a b c. record { low = a; mid = b; high = c }) h
 
 pub face-refl : (f : Face) → sameFace f f ≡ true
 unfolding sameFace

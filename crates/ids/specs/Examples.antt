@@ -10,26 +10,20 @@ use Rattle.ids.specs.EdgeChain.{boundaryFree, overIncident, closedManifo
 use Rattle.ids.specs.FaceNet.{maxAbs, allCancel}
 use Rattle.ids.specs.Pieces.{shareId, pieces}
 
-pub record Example : Type 0 where
-  pub ids : List ℕ
-  pub boundary-free : Bool
-  pub over-incident : Bool
-  pub max-abs : ℕ
-  pub all-cancel : Bool
-  pub manifold : Bool
-  pub coherent : Bool
-  pub piece-count : ℕ
+-- one row: ids, and what is said of them
+pub data Example : Type 0 where
+  says : (ids : List ℕ) (boundary-free over-incident : Bool) (max-abs : ℕ) (all-cancel manifold coherent : Bool) (pieces : ℕ) → Example
 
 unfoldable pub Holds : List Example → Type 0
 Holds [] = Unit {0}
-Holds (e ∷ es) =
-    (boundaryFree (e .ids) ≡ e .boundary-free)
-    × (overIncident (e .ids) ≡ e .over-incident)
-    × (maxAbs (e .ids) ≡ e .max-abs)
-    × (allCancel (e .ids) ≡ e .all-cancel)
-    × (closedManifold (e .ids) ≡ e .manifold)
-    × (windingCoherent (e .ids) ≡ e .coherent)
-    × (pieces shareId (e .ids) ≡ e .piece-count)
+Holds (says ids free crowded largest cancel closed wound count ∷ es) =
+    (boundaryFree ids ≡ free)
+    × (overIncident ids ≡ crowded)
+    × (maxAbs ids ≡ largest)
+    × (allCancel ids ≡ cancel)
+    × (closedManifold ids ≡ closed)
+    × (windingCoherent ids ≡ wound)
+    × (pieces shareId ids ≡ count)
     × Holds es
 
 unfoldable pub tetrahedron : List ℕ
@@ -40,20 +34,6 @@ neighbour = 3 ∷ 4 ∷ 5 ∷ 3 ∷ 5 ∷ 6 ∷ 3 ∷ 6 ∷ 4 ∷ 4 ∷ 6 ∷ 5 
 
 unfoldable pub stranger : List ℕ
 stranger = 7 ∷ 4 ∷ 5 ∷ 7 ∷ 5 ∷ 6 ∷ 7 ∷ 6 ∷ 4 ∷ 4 ∷ 6 ∷ 5 ∷ []
-
--- one row: ids, and what is said of them in the order of the columns above
-abbrev pub says : List ℕ → Bool → Bool → ℕ → Bool → Bool → Bool → ℕ → Example
-says ids free crowded largest cancel closed wound count =
-    record {
-      ids = ids;
-      boundary-free = free;
-      over-incident = crowded;
-      max-abs = largest;
-      all-cancel = cancel;
-      manifold = closed;
-      coherent = wound;
-      piece-count = count;
-    }
 
 unfoldable pub examples : List Example
 examples =

@@ -12,9 +12,7 @@ use Rattle.slots.specs.inner.Slots.{sameCode, codeHash, codeHome}
 
 pub code-eq : (a b : Code) → sameCode a b ≡ true → a ≡ b
 unfolding sameCode
-code-eq a b h =
-    let e = three-eq eqb eqb-true (a .x) (a .y) (a .z) (b .x) (b .y) (b .z) h in
-    λ i. record { x = e .0 i; y = e .1 i; z = e .2 i }
+code-eq a b h = three-eq eqb eqb-true (λ x y z. record { x = x; y = y; z = z }) h
 
 pub code-refl : (a : Code) → sameCode a a ≡ true
 unfolding sameCode

@@ -20,9 +20,7 @@ use Rattle.surfaces.specs.Keys.{areaFor, hasKey, Apart, AllAreas}
 
 pub key-eq : (k l : Key) → sameKey k l ≡ true → k ≡ l
 unfolding sameKey
-key-eq k l h =
-    let e = three-eq sameInteger integer-eq (k .x) (k .y) (k .z) (l .x) (l .y) (l .z) h in
-    λ i. record { x = e .0 i; y = e .1 i; z = e .2 i }
+key-eq k l h = three-eq sameInteger integer-eq (λ x y z. record { x = x; y = y; z = z }) h
 
 pub key-refl : (k : Key) → sameKey k k ≡ true
 unfolding sameKey

@@ -1,31 +1,23 @@
 -- `chain::chain_in` meets its contract: the cleared part is an empty table, and what the table of all uses says is the answer. Assumes
 -- nothing.
-use native.Mathlib.Omega.{arith}
 use borrow.Author.Needs.{needs}
 use Rattle.table.proofs.Words.{leaves}
 use Rattle.chain.proofs.Chain.{emptied-edges}
 use Rattle.chain.proofs.chain_in.Statement.{statement}
 use Rattle.chain.proofs.chain_in.Tie as tie
 
-abbrev cleared : tie.After-gather-chain-arg → tie.After-clear
-cleared c = c .before .before .before
-
-abbrev start : tie.After-clear → tie.Start
-start c = c .before .before .before .before .before
-
 gather-chain-requires : tie.Need-gather-chain-requires
 gather-chain-requires c κs =
-    let k = cleared c in
-    emptied-edges _ _ _ (k .clear .kept .0) _ (start k .pre) (k .before .before .rows .ensures) (k .clear .ensures)
+    let k = c .before .before .before in
+    let sized = k .before .before in
+    emptied-edges _ _ _ (k .clear .kept .0) _ (sized .before .before .before .pre) (sized .rows .ensures) (k .clear .ensures)
 
 returns : tie.Need-returns
 returns c =
     let told = c .before .before .before .before in
     let g = told .before .before .before .before in
-    let k = cleared (g .before) in
-    let said = told .tally-edges .ensures (start k .args .ids .now) (g .gather-chain .ensures) in
-    leaves _ (rw (said .0, said .1)) (omega (arith, start k .pre .long, g .gather-chain .kept, k .clear .kept))
-    (c .before .before .clear2 .ensures)
+    let said = told .tally-edges .ensures _ (g .gather-chain .ensures) in
+    leaves _ (rw (said .0, said .1)) (search needs) (c .before .before .clear2 .ensures)
 
 pub chain-in-spec : {M : Type 1} → statement M
 chain-in-spec =

@@ -11,12 +11,8 @@ use Rattle.chain.proofs.edge_chain.Tie as tie
 returns : tie.Need-returns
 returns c = gives-refusal _ _ _ _ _ (c .before .refusal .result) (c .before .refusal .ensures) (c .if1 .taken)
 
-module _ (c : tie.Else1) where
-  abbrev st : tie.Start
-  st = c .before .before .before .before
-
-  fine : Admits (4 * length (st .args .ids .now)) (st .args .ids .now) (st .args .work .now)
-  fine = admits _ (st .args .ids .now) (st .args .work .now) (c .before .refusal .ensures) (c .if1 .left)
+fine : (c : tie.Else1) → let st = c .before .before .before .before in Admits (4 * length (st .args .ids .now)) (st .args .ids .now) (st .args .work .now)
+fine c = admits _ _ _ (c .before .refusal .ensures) (c .if1 .left)
 
 returns-2 : tie.Need-returns-2
 returns-2 c = let k = c .before .before in answered Answer (fine (k .before .before)) (k .chain-in .ensures)

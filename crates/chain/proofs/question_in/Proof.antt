@@ -2,7 +2,6 @@
 -- nothing.
 use mathlib.Core.Path.{ap, _∙_}
 use mathlib.Core.Bool.{Bool, _&&_}
-use native.Mathlib.Omega.{arith}
 use borrow.Author.Needs.{needs}
 use Rattle.edges.specs.inner.Tests.{edgesOf}
 use Rattle.table.proofs.Words.{leaves}
@@ -10,26 +9,18 @@ use Rattle.chain.proofs.Chain.{emptied-edges}
 use Rattle.chain.proofs.question_in.Statement.{statement}
 use Rattle.chain.proofs.question_in.Tie as tie
 
-abbrev cleared : tie.After-gather-arg → tie.After-clear
-cleared c = c .before .before .before
-
-abbrev start : tie.After-clear → tie.Start
-start c = c .before .before .before .before .before
-
 gather-requires : tie.Need-gather-requires
 gather-requires c κs =
-    let k = cleared c in
-    emptied-edges _ _ _ (k .clear .kept .0) _ (start k .pre) (k .before .before .rows .ensures) (k .clear .ensures)
+    let k = c .before .before .before in
+    let sized = k .before .before in
+    emptied-edges _ _ _ (k .clear .kept .0) _ (sized .before .before .before .pre) (sized .rows .ensures) (k .clear .ensures)
 
 returns : tie.Need-returns
 unfolding edgesOf
 returns c =
     let told = c .before .before .before .before .before in
-    let g = told .before .before .before .before in
-    let k = cleared (g .before) in
-    let said = told .rows-say .ensures (start k .args .ids .now) (g .gather .ensures) in
-    leaves _ (ap (λ (b : Bool). b && told .rows-say .result) (c .enough .ensures) ∙ said)
-    (omega (arith, start k .pre .long, g .gather .kept, k .clear .kept)) (c .before .before .before .clear2 .ensures)
+    let said = told .rows-say .ensures _ (told .before .before .before .before .gather .ensures) in
+    leaves _ (ap (λ (b : Bool). b && told .rows-say .result) (c .enough .ensures) ∙ said) (search needs) (c .before .before .before .clear2 .ensures)
 
 pub question-in-spec : {M : Type 1} → statement M
 question-in-spec =

@@ -78,24 +78,17 @@ module _ (f : ℕ → ℕ) (a b : ℕ) where
   unfolding merged
   merged-down l x = let u : max (f a) (f b) ≡ f a = omega arith in let v : min (f a) (f b) ≡ f b = omega arith in rw (u, v)
 
-  at-a : merged f a b a ≡ min (f a) (f b)
+  -- one of the two
+  at-one : (x : ℕ) → (f x ≢ max (f a) (f b) → f x ≡ min (f a) (f b)) → merged f a b x ≡ min (f a) (f b)
   unfolding merged
-  at-a =
-      elim (ℕ-discrete (f a) (max (f a) (f b))) [
-        | yes e ↦ rw (eq-eqb (f a) (max (f a) (f b)) e)
-        | no ne ↦ rw (ne-eqb (f a) (max (f a) (f b)) ne) (omega arith)
-      ]
-
-  at-b : merged f a b b ≡ min (f a) (f b)
-  unfolding merged
-  at-b =
-      elim (ℕ-discrete (f b) (max (f a) (f b))) [
-        | yes e ↦ rw (eq-eqb (f b) (max (f a) (f b)) e)
-        | no ne ↦ rw (ne-eqb (f b) (max (f a) (f b)) ne) (omega arith)
+  at-one x lesser =
+      elim (ℕ-discrete (f x) (max (f a) (f b))) [
+        | yes e ↦ rw (eq-eqb (f x) (max (f a) (f b)) e)
+        | no ne ↦ rw (ne-eqb (f x) (max (f a) (f b)) ne) (lesser ne)
       ]
 
   pub merged-joins : merged f a b a ≡ merged f a b b
-  merged-joins = at-a ∙ sym at-b
+  merged-joins = at-one a (λ ne. omega arith) ∙ sym (at-one b (λ ne. omega arith))
 
   pub merged-keeps : (x y : ℕ) → f x ≡ f y → merged f a b x ≡ merged f a b y
   unfolding merged

@@ -38,14 +38,11 @@ module _ (c : tie.After-gather-chain-behind) where
   abbrev cleared : tie.After-clear
   cleared = c .before .before .before .before
 
-  abbrev start : tie.Start
-  start = st cleared
-
-  counted : InFront (start .args .at) (start .args .area .now) (c .gather-chain-behind .last .0)
-      (λ t. EdgeTable (sized cleared .rows .result) t (chain (drop (start .args .at) (start .args .area .now))))
+  counted : InFront (st cleared .args .at) (st cleared .args .area .now) (c .gather-chain-behind .last .0)
+      (λ t. EdgeTable (sized cleared .rows .result) t (chain (drop (st cleared .args .at) (st cleared .args .area .now))))
   counted = made-front (λ ids t. EdgeTable (sized cleared .rows .result) t (chain ids)) (emptied cleared) (c .gather-chain-behind .ensures)
 
-  long : length (take (start .args .at) (c .gather-chain-behind .last .0)) ≡ start .args .at
+  long : length (take (st cleared .args .at) (c .gather-chain-behind .last .0)) ≡ st cleared .args .at
   long = front-long (behind-still (behind cleared) (counted .long))
 
 slice-aggregate-tally-edges : tie.Need-slice-aggregate-tally-edges
@@ -55,12 +52,12 @@ tally-edges-requires : tie.Need-tally-edges-requires
 tally-edges-requires c κs =
     let g = c .before .before .before in
     let rows = sized (cleared g) .rows .ensures in
-    record { most = omega (arith, start g .pre .1); fits = omega (arith, start g .pre .2, long g) }
+    record { most = omega (arith, st (cleared g) .pre .1); fits = omega (arith, st (cleared g) .pre .2, long g) }
 
 returns : tie.Need-returns
 returns c =
     let g = c .before .before .before .before in
-    let said = c .tally-edges .ensures (drop (start g .args .at) (start g .args .area .now)) (counted g .front) in
+    let said = c .tally-edges .ensures _ (counted g .front) in
     (said .0, said .1, counted g .same)
 
 pub chain-behind-spec : {M : Type 1} → statement M

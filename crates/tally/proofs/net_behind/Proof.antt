@@ -42,15 +42,12 @@ module _ (c : tie.After-gather-behind) where
   abbrev cleared : tie.After-clear
   cleared = c .before .before .before .before
 
-  abbrev start : tie.Start
-  start = st cleared
+  counted : InFront (st cleared .args .at) (st cleared .args .area .now) (c .gather-behind .last .0)
+      (λ t. FaceTable (drop (st cleared .args .at) (st cleared .args .area .now)) (2 * many (st cleared)) t
+      (faces (drop (st cleared .args .at) (st cleared .args .area .now))))
+  counted = made-front (λ ids t. FaceTable ids (2 * many (st cleared)) t (faces ids)) (emptied cleared) (c .gather-behind .ensures)
 
-  counted : InFront (start .args .at) (start .args .area .now) (c .gather-behind .last .0)
-      (λ t. FaceTable (drop (start .args .at) (start .args .area .now)) (2 * many start) t
-      (faces (drop (start .args .at) (start .args .area .now))))
-  counted = made-front (λ ids t. FaceTable ids (2 * many start) t (faces ids)) (emptied cleared) (c .gather-behind .ensures)
-
-  long : length (take (start .args .at) (c .gather-behind .last .0)) ≡ start .args .at
+  long : length (take (st cleared .args .at) (c .gather-behind .last .0)) ≡ st cleared .args .at
   long = front-long (behind-still (behind cleared) (counted .long))
 
 slice-aggregate-tally-faces : tie.Need-slice-aggregate-tally-faces
@@ -59,12 +56,12 @@ slice-aggregate-tally-faces c = sym (long (c .before .before .before))
 tally-faces-requires : tie.Need-tally-faces-requires
 tally-faces-requires c κs =
     let g = c .before .before .before in
-    record { most = omega (arith, start g .pre .1); fits = omega (arith, fits (start g), long g) }
+    record { most = omega (arith, st (cleared g) .pre .1); fits = omega (arith, fits (st (cleared g)), long g) }
 
 returns : tie.Need-returns
 returns c =
     let g = c .before .before .before .before in
-    let said = c .tally-faces .ensures (drop (start g .args .at) (start g .args .area .now)) (counted g .front) in
+    let said = c .tally-faces .ensures _ (counted g .front) in
     (said .0, said .1, counted g .same)
 
 pub net-behind-spec : {M : Type 1} → statement M

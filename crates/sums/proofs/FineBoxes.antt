@@ -19,9 +19,9 @@ use Rattle.ieee.proofs.Order.Comparison.{le-trans}
 use Rattle.ieee.proofs.Order.Extremes.{least-from, least-left, least-right, greatest-from}
 use Rattle.vertices.specs.Vertices.{vertexCount, coordinate}
 use Rattle.sums.specs.declared.bounds.Bounds.{Bounds}
-use Rattle.sums.specs.Box.{lowest, highest, boxTo, box, boxVolume}
+use Rattle.sums.specs.Box.{lowest, highest, box, boxVolume}
 use Rattle.sums.specs.Fine.{fine, allFine}
-use Rattle.sums.proofs.Boxes.{lowest-number}
+use Rattle.sums.proofs.Boxes.{lowest-number, Each, each-to}
 use Rattle.sums.proofs.Within.{Within, within-le, within-magnitude, within-mul, within-number, within-sub}
 
 -- ---- one coordinate
@@ -54,34 +54,35 @@ coordinate-fine vs axis v h a l = fine-at vs (3 * v + axis) h (omega arith)
 
 -- ---- the bounds
 -- of ∞ and a finite number the least is the number, of -∞ the greatest
-least-first : (x : Float) → T (finite x) → least (inf false) x ≡ x
+pub least-first : (x : Float) → T (finite x) → least (inf false) x ≡ x
 unfolding least isNan lt
 least-first nan p = absurd p
 least-first (inf s) p = absurd p
 least-first (fin s m e) p = refl
 
-greatest-first : (x : Float) → T (finite x) → greatest (inf true) x ≡ x
+pub greatest-first : (x : Float) → T (finite x) → greatest (inf true) x ≡ x
 unfolding greatest isNan lt
 greatest-first nan p = absurd p
 greatest-first (inf s) p = absurd p
 greatest-first (fin s m e) p = refl
 
 module _ (vs : List Float) (h : T (allFine vs)) (axis : ℕ) (a : axis < 3) where
-  lowest-fine : (n : ℕ) → n < vertexCount vs → T (fine (lowest vs axis (suc n)))
-  unfolding lowest
-  lowest-fine zero l =
-      let c = coordinate-fine vs axis 0 h a l in rw (least-first (coordinate vs axis 0) (fine-finite (coordinate vs axis 0) c)) c
-  lowest-fine (suc n) l =
-      least-from (λ z. T (fine z)) (lowest vs axis (suc n)) (coordinate vs axis (suc n)) (lowest-fine n (omega arith))
-      (coordinate-fine vs axis (suc n) h a l)
+  -- e n is what `pick` takes of the first n coordinates
+  picked-fine : (pick : Float → Float → Float) (e : ℕ → Float) → ((P : Float → Type 0) (x y : Float) → P x → P y → P (pick x y))
+      → ((x : Float) → T (finite x) → pick (e 0) x ≡ x) → ((n : ℕ) → e (suc n) ≡ pick (e n) (coordinate vs axis n))
+      → (n : ℕ) → n < vertexCount vs → T (fine (e (suc n)))
+  picked-fine pick e from first next zero l =
+      let c = coordinate-fine vs axis 0 h a l in rw (next 0, first (coordinate vs axis 0) (fine-finite (coordinate vs axis 0) c)) c
+  picked-fine pick e from first next (suc n) l =
+      rw (next (suc n)) (from (λ z. T (fine z)) (e (suc n)) (coordinate vs axis (suc n))
+      (picked-fine pick e from first next n (omega arith)) (coordinate-fine vs axis (suc n) h a l))
 
-  highest-fine : (n : ℕ) → n < vertexCount vs → T (fine (highest vs axis (suc n)))
-  unfolding highest
-  highest-fine zero l =
-      let c = coordinate-fine vs axis 0 h a l in rw (greatest-first (coordinate vs axis 0) (fine-finite (coordinate vs axis 0) c)) c
-  highest-fine (suc n) l =
-      greatest-from (λ z. T (fine z)) (highest vs axis (suc n)) (coordinate vs axis (suc n)) (highest-fine n (omega arith))
-      (coordinate-fine vs axis (suc n) h a l)
+  bounds-fine : (n : ℕ) → n < vertexCount vs → T (fine (lowest vs axis (suc n))) × T (fine (highest vs axis (suc n)))
+  unfolding lowest highest
+  bounds-fine n l = (
+    picked-fine least (lowest vs axis) least-from least-first (λ k. refl) n l,
+    picked-fine greatest (highest vs axis) greatest-from greatest-first (λ k. refl) n l,
+  )
 
   -- no coordinate is below the least
   pub lowest-le : (n v : ℕ) → n ≤ vertexCount vs → v < n → T (le (lowest vs axis n) (coordinate vs axis v))
@@ -98,30 +99,13 @@ module _ (vs : List Float) (h : T (allFine vs)) (axis : ℕ) (a : axis < 3) wher
       ]
 
 -- the six numbers of a box are fine
-pub record FineBox (b : Bounds) : Type 0 where
-  pub xmin : T (fine (b .xmin))
-  pub ymin : T (fine (b .ymin))
-  pub zmin : T (fine (b .zmin))
-  pub xmax : T (fine (b .xmax))
-  pub ymax : T (fine (b .ymax))
-  pub zmax : T (fine (b .zmax))
-
-box-to-fine : (vs : List Float) (n : ℕ) → T (allFine vs) → n < vertexCount vs → FineBox (boxTo vs (suc n))
-unfolding boxTo
-box-to-fine vs n h l =
-    record {
-      xmin = lowest-fine vs h 0 (omega arith) n l;
-      ymin = lowest-fine vs h 1 (omega arith) n l;
-      zmin = lowest-fine vs h 2 (omega arith) n l;
-      xmax = highest-fine vs h 0 (omega arith) n l;
-      ymax = highest-fine vs h 1 (omega arith) n l;
-      zmax = highest-fine vs h 2 (omega arith) n l;
-    }
+abbrev pub FineBox : Bounds → Type 0
+FineBox = Each (λ x. T (fine x))
 
 pub box-fine : (vs : List Float) → T (allFine vs) → 0 < vertexCount vs → FineBox (box vs)
 box-fine vs h l =
     let e : vertexCount vs ≡ suc (vertexCount vs - 1) = omega arith in
-    rw e (box-to-fine vs (vertexCount vs - 1) h (omega arith))
+    rw e (each-to (λ x. T (fine x)) vs (suc (vertexCount vs - 1)) (λ axis a. bounds-fine vs h axis a (vertexCount vs - 1) (omega arith)))
 
 -- ---- its volume
 pub extent-within : (lo hi : Float) → T (fine lo) → T (fine hi) → Within (2 ^ 34) (extent lo hi)

@@ -133,41 +133,22 @@ same-six : (a b c d e f p q r s t u : ℕ)
     → b * f * (r * t) * (c * d * (p * u)) * (a * e * (q * s)) ≡ c * e * (q * u) * (a * f * (r * s)) * (b * d * (p * t))
 same-six a b c d e f p q r s t u = omega arith
 
-module _ (u v : List Float) (p : Octant u) (q : Octant v) where
-  abbrev a : Float
-  a = at u 0
+-- one of three, each turned into what follows from it
+each-turned : {A B C A′ B′ C′ : Type 0} → (A → A′) → (B → B′) → (C → C′) → A ⊎ (B ⊎ C) → A′ ⊎ (B′ ⊎ C′)
+each-turned f g h = ⊎-elim (λ a. inl (f a)) (⊎-elim (λ b. inr (inl (g b))) (λ c. inr (inr (h c))))
 
-  abbrev b : Float
-  b = at u 1
-
-  abbrev c : Float
-  c = at u 2
-
-  abbrev d : Float
-  d = at v 0
-
-  abbrev e : Float
-  e = at v 1
-
-  abbrev f : Float
-  f = at v 2
-
+-- of the corners a b c and d e f
+module _ {a b c d e f : Float} (A : Upto (2 ^ 34) a) (B : Upto (2 ^ 34) b) (C : Upto (2 ^ 34) c) (D : Upto (2 ^ 34) d)
+    (E : Upto (2 ^ 34) e) (F : Upto (2 ^ 34) f) where
   six : ahead b f c e * ahead c d a f * ahead a e b d ≡ ahead c e b f * ahead a f c d * ahead b d a e
   six = same-six (num a) (num b) (num c) (num d) (num e) (num f) (den a) (den b) (den c) (den d) (den e) (den f)
 
-  abbrev Some : Bool → Type 0
-  Some s = Side s 0 (b ⊠ f ⊟ c ⊠ e) ⊎ (Side s 0 (c ⊠ d ⊟ a ⊠ f) ⊎ Side s 0 (a ⊠ e ⊟ b ⊠ d))
-
-  some-side : (s : Bool) → Some s
+  some-side : (s : Bool) → Side s 0 (b ⊠ f ⊟ c ⊠ e) ⊎ (Side s 0 (c ⊠ d ⊟ a ⊠ f) ⊎ Side s 0 (a ⊠ e ⊟ b ⊠ d))
   some-side false =
-      ⊎-elim (λ l. inl (lesser-side b f c e (p .y) (q .z) (p .z) (q .y) l))
-      (⊎-elim (λ l. inr (inl (lesser-side c d a f (p .z) (q .x) (p .x) (q .z) l)))
-      (λ l. inr (inr (lesser-side a e b d (p .x) (q .y) (p .y) (q .x) l))))
+      each-turned (lesser-side b f c e B F C E) (lesser-side c d a f C D A F) (lesser-side a e b d A E B D)
       (one-no-greater (ahead b f c e) (ahead c e b f) (ahead c d a f) (ahead a f c d) (ahead a e b d) (ahead b d a e) six)
   some-side true =
-      ⊎-elim (λ l. inl (greater-side b f c e (p .y) (q .z) (p .z) (q .y) l))
-      (⊎-elim (λ l. inr (inl (greater-side c d a f (p .z) (q .x) (p .x) (q .z) l)))
-      (λ l. inr (inr (greater-side a e b d (p .x) (q .y) (p .y) (q .x) l))))
+      each-turned (greater-side b f c e B F C E) (greater-side c d a f C D A F) (greater-side a e b d A E B D)
       (one-no-greater (ahead c e b f) (ahead b f c e) (ahead a f c d) (ahead c d a f) (ahead b d a e) (ahead a e b d) (sym six))
 
 -- ---- a sum of three numbers within 2^102
@@ -217,6 +198,5 @@ volume-within w u v o p q =
     let Z = component-within (at u 0) (at v 1) (at u 1) (at v 0) (p .x) (q .y) (p .y) (q .x) in
     three-within (at w 0 ⊠ at n 0) (at w 1 ⊠ at n 1) (at w 2 ⊠ at n 2)
     (term-within (at w 0) (at n 0) (o .x) X) (term-within (at w 1) (at n 1) (o .y) Y) (term-within (at w 2) (at n 2) (o .z) Z)
-    (λ s. ⊎-elim (λ h. inl (term-side (at w 0) (at n 0) (o .x) X s h))
-    (⊎-elim (λ h. inr (inl (term-side (at w 1) (at n 1) (o .y) Y s h))) (λ h. inr (inr (term-side (at w 2) (at n 2) (o .z) Z s h))))
-    (some-side u v p q s))
+    (λ s. each-turned (term-side (at w 0) (at n 0) (o .x) X s) (term-side (at w 1) (at n 1) (o .y) Y s)
+    (term-side (at w 2) (at n 2) (o .z) Z s) (some-side (p .x) (p .y) (p .z) (q .x) (q .y) (q .z) s))

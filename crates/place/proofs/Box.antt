@@ -3,32 +3,23 @@ use mathlib.Core.Path.{_≡_, refl}
 use mathlib.Core.List.{List}
 use Prim.Native.Nat.{ℕ, zero, suc, _+_, _*_, _≤_, _<_}
 use native.Mathlib.Omega.{arith}
-use lib.Dec.{lit<}
+use mathlib.Core.Bool.{true, false}
+use lib.Dec.{T, lit<}
 use lib.IntN.{ℤ, _+ℤ_}
 use lib.ListN.{length}
-use lib.Ieee.{Float, binary32}
+use lib.Ieee.{Float, inf, binary32}
+use lib.Ieee.Scale.{finite}
 use Rattle.ieee.specs.Order.{least, greatest}
 use Rattle.ieee.specs.Single.{extent}
 use Rattle.vertices.specs.Vertices.{vertexCount, coordinate}
 use Rattle.sums.specs.declared.bounds.Bounds.{Bounds}
+use Rattle.sums.proofs.FineBoxes.{least-first, greatest-first}
 use Rattle.sums.specs.Box.{lowest, highest, box, boxTo, boxVolume}
 use Rattle.place.specs.Moved.{Moved}
-use Rattle.place.proofs.Shifted.{Shifted, same-sub, least-shifted, greatest-shifted, least-first, greatest-first}
+use Rattle.place.proofs.Shifted.{Shifted, same-sub, least-shifted, greatest-shifted, whole-finite}
 use Rattle.place.proofs.Vertices.{along, coordinate-shifted}
 
 -- ---- the least and the greatest coordinate on an axis
-
--- e n is what `pick` takes of the first n numbers c; e′ and c′ are the same of the moved ones
-picked-shifted : (pick : Float → Float → Float) (d : ℤ) (e e′ c c′ : ℕ → Float) (n : ℕ)
-    → ((x y x′ y′ : Float) → Shifted d x x′ → Shifted d y y′ → Shifted d (pick x y) (pick x′ y′))
-    → ((k : ℕ) → k ≤ n → Shifted d (c k) (c′ k))
-    → e 1 ≡ c 0 → e′ 1 ≡ c′ 0 → ((k : ℕ) → e (suc k) ≡ pick (e k) (c k)) → ((k : ℕ) → e′ (suc k) ≡ pick (e′ k) (c′ k))
-    → Shifted d (e (suc n)) (e′ (suc n))
-picked-shifted pick d e e′ c c′ zero keeps each one one′ next next′ = rw (one, one′) (each 0 (omega arith))
-picked-shifted pick d e e′ c c′ (suc n) keeps each one one′ next next′ =
-    rw (next (suc n), next′ (suc n))
-    (keeps (e (suc n)) (c (suc n)) (e′ (suc n)) (c′ (suc n))
-    (picked-shifted pick d e e′ c c′ n keeps (λ k h. each k (omega arith)) one one′ next next′) (each (suc n) (omega arith)))
 
 module _ (dx dy dz : ℤ) (vs vs′ : List Float) (m : Moved dx dy dz vs vs′) (axis : ℕ) (h : axis < 3) where
   abbrev d : ℤ
@@ -37,23 +28,29 @@ module _ (dx dy dz : ℤ) (vs vs′ : List Float) (m : Moved dx dy dz vs vs′) 
   at : (v : ℕ) → 3 * v + 2 < length vs → Shifted d (coordinate vs axis v) (coordinate vs′ axis v)
   at v l = coordinate-shifted dx dy dz vs vs′ m v axis h l
 
-  lowest-shifted : (n : ℕ) → 3 * suc n ≤ length vs → Shifted d (lowest vs axis (suc n)) (lowest vs′ axis (suc n))
-  unfolding lowest
-  lowest-shifted n l =
+  -- `bound` is what `pick` takes of the first n coordinates, from `start` on
+  picked-shifted : (pick : Float → Float → Float) (start : Float) (bound : List Float → ℕ → Float)
+      → ((x y x′ y′ : Float) → Shifted d x x′ → Shifted d y y′ → Shifted d (pick x y) (pick x′ y′))
+      → ((x : Float) → T (finite x) → pick start x ≡ x) → ((ws : List Float) → bound ws 0 ≡ start)
+      → ((ws : List Float) (n : ℕ) → bound ws (suc n) ≡ pick (bound ws n) (coordinate ws axis n))
+      → (n : ℕ) → 3 * suc n ≤ length vs → Shifted d (bound vs (suc n)) (bound vs′ (suc n))
+  picked-shifted pick start bound keeps first none next zero l =
       let s = at 0 (omega arith) in
-      picked-shifted least d (lowest vs axis) (lowest vs′ axis) (coordinate vs axis) (coordinate vs′ axis) n
-      (λ x y x′ y′ p q. least-shifted d x y x′ y′ p q)
-      (λ k g. at k (omega arith)) (least-first (coordinate vs axis 0) (s .at) (s .first))
-      (least-first (coordinate vs′ axis 0) (s .at +ℤ d) (s .second)) (λ k. refl) (λ k. refl)
+      let one = first (coordinate vs axis 0) (whole-finite (coordinate vs axis 0) (s .at) (s .first)) in
+      let one′ = first (coordinate vs′ axis 0) (whole-finite (coordinate vs′ axis 0) (s .at +ℤ d) (s .second)) in
+      rw (next vs 0, next vs′ 0, none vs, none vs′, one, one′) s
+  picked-shifted pick start bound keeps first none next (suc n) l =
+      rw (next vs (suc n), next vs′ (suc n))
+      (keeps (bound vs (suc n)) (coordinate vs axis (suc n)) (bound vs′ (suc n)) (coordinate vs′ axis (suc n))
+      (picked-shifted pick start bound keeps first none next n (omega arith)) (at (suc n) (omega arith)))
 
-  highest-shifted : (n : ℕ) → 3 * suc n ≤ length vs → Shifted d (highest vs axis (suc n)) (highest vs′ axis (suc n))
-  unfolding highest
-  highest-shifted n l =
-      let s = at 0 (omega arith) in
-      picked-shifted greatest d (highest vs axis) (highest vs′ axis) (coordinate vs axis) (coordinate vs′ axis) n
-      (λ x y x′ y′ p q. greatest-shifted d x y x′ y′ p q)
-      (λ k g. at k (omega arith)) (greatest-first (coordinate vs axis 0) (s .at) (s .first))
-      (greatest-first (coordinate vs′ axis 0) (s .at +ℤ d) (s .second)) (λ k. refl) (λ k. refl)
+  bounds-shifted : (n : ℕ) → 3 * suc n ≤ length vs
+      → Shifted d (lowest vs axis (suc n)) (lowest vs′ axis (suc n)) × Shifted d (highest vs axis (suc n)) (highest vs′ axis (suc n))
+  unfolding lowest highest
+  bounds-shifted n l = (
+    picked-shifted least (inf false) (λ ws. lowest ws axis) (least-shifted d) least-first (λ ws. refl) (λ ws k. refl) n l,
+    picked-shifted greatest (inf true) (λ ws. highest ws axis) (greatest-shifted d) greatest-first (λ ws. refl) (λ ws k. refl) n l,
+  )
 
 -- ---- the box
 
@@ -69,14 +66,10 @@ module _ (dx dy dz : ℤ) (vs vs′ : List Float) (m : Moved dx dy dz vs vs′) 
   to-shifted : (n : ℕ) → 3 * suc n ≤ length vs → BoxShifted dx dy dz (boxTo vs (suc n)) (boxTo vs′ (suc n))
   unfolding boxTo
   to-shifted n l =
-      record {
-        xmin = lowest-shifted dx dy dz vs vs′ m 0 (lit< tt) n l;
-        ymin = lowest-shifted dx dy dz vs vs′ m 1 (lit< tt) n l;
-        zmin = lowest-shifted dx dy dz vs vs′ m 2 (lit< tt) n l;
-        xmax = highest-shifted dx dy dz vs vs′ m 0 (lit< tt) n l;
-        ymax = highest-shifted dx dy dz vs vs′ m 1 (lit< tt) n l;
-        zmax = highest-shifted dx dy dz vs vs′ m 2 (lit< tt) n l;
-      }
+      let x = bounds-shifted dx dy dz vs vs′ m 0 (lit< tt) n l in
+      let y = bounds-shifted dx dy dz vs vs′ m 1 (lit< tt) n l in
+      let z = bounds-shifted dx dy dz vs vs′ m 2 (lit< tt) n l in
+      record { xmin = x .0; ymin = y .0; zmin = z .0; xmax = x .1; ymax = y .1; zmax = z .1 }
 
   -- of one vertex at least
   pub box-shifted : 3 ≤ length vs → BoxShifted dx dy dz (box vs) (box vs′)

@@ -46,24 +46,8 @@ unfolding recordFrom bestOf AgreeBy
 agree-but-prism m Quality.Closed v s aabb p p′ = record { verdict = refl; rest = refl }
 agree-but-prism m Quality.Degenerate v s aabb p p′ = record { verdict = refl; rest = refl }
 agree-but-prism m Quality.OpenShell v s aabb p p′ =
-    record {
-      verdict = refl;
-      rest =
-          record {
-            volume = refl;
-            aabb = refl;
-            surface = refl;
-            top = refl;
-            bottom = refl;
-            side = refl;
-            inclined = refl;
-            largest = refl;
-            smallest = refl;
-            count = refl;
-            profile = refl;
-            bounded = open-bounded v s aabb p′ ∙ sym (open-bounded v s aabb p);
-          };
-    }
+    let bounded = open-bounded v s aabb p′ ∙ sym (open-bounded v s aabb p) in
+    record { verdict = refl; rest = search bounded }
 
 module _ (dx dy dz : ℤ) (vs vs′ : List Float) (m : Moved dx dy dz vs vs′) (some : 9 ≤ length vs) (ids : List ℕ) where
   pub totals-stay : totals vs′ ids ≡ totals vs ids

@@ -8,6 +8,7 @@ use lib.Dec.{T}
 use lib.IntN.{ℤ, pos, natAbs, _+ℤ_}
 use lib.Ieee.{Float, nan, inf, fin, Format, binary32, isNan, lt, sub, ofBits}
 use lib.Ieee.Bits.{is-false}
+use lib.Ieee.Scale.{finite}
 use Rattle.ieee.specs.Magnitude.{magnitude}
 use Rattle.ieee.specs.Order.{least, greatest}
 use Rattle.ieee.specs.WholeNumber.{IsWhole}
@@ -90,15 +91,7 @@ module _ (d : ℤ) (x y x′ y′ : Float) (p : Shifted d x x′) (q : Shifted d
   greatest-shifted =
       rw (whole-not-nan x (p .at) (p .first), whole-not-nan x′ (p .at +ℤ d) (p .second), same-lt d x y x′ y′ p q) (taken (lt x y))
 
--- every whole number is below ∞ and above -∞
-pub least-first : (x : Float) (a : ℤ) → IsWhole x a → least (inf false) x ≡ x
-unfolding least lt isNan
-least-first nan a h = absurd h
-least-first (inf s) a h = absurd h
-least-first (fin s m e) a h = refl
-
-pub greatest-first : (x : Float) (a : ℤ) → IsWhole x a → greatest (inf true) x ≡ x
-unfolding greatest lt isNan
-greatest-first nan a h = absurd h
-greatest-first (inf s) a h = absurd h
-greatest-first (fin s m e) a h = refl
+pub whole-finite : (x : Float) (a : ℤ) → IsWhole x a → T (finite x)
+whole-finite nan a h = absurd h
+whole-finite (inf s) a h = absurd h
+whole-finite (fin s m e) a h = tt

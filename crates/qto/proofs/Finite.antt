@@ -8,6 +8,7 @@ use mathlib.Core.List.{List, [], _∷_}
 use Prim.Native.Nat.{ℕ, _*_, _^_, _≤_}
 use native.Mathlib.Nat.{le-trans, mul-le-mul-right}
 use native.Mathlib.Omega.{arith}
+use borrow.Author.Needs.{needs}
 use lib.Dec.{T, lit<, lit≤}
 use lib.ListN.{length}
 use lib.Ieee.{Float, nan, inf, fin, binary32, binary64, lt, le, ofBits}
@@ -213,20 +214,7 @@ rows-finite vs ids u p = rows-all-finite vs ids u p
 
 zero-finite : FiniteRecord zeroRecord
 unfolding ofBits
-zero-finite =
-    record {
-      volume = tt;
-      aabb = tt;
-      surface = tt;
-      top = tt;
-      bottom = tt;
-      side = tt;
-      inclined = tt;
-      largest = tt;
-      smallest = tt;
-      best = tt;
-      prism = tt;
-    }
+zero-finite = search needs
 
 pub computes-finite : ComputesFinite
 unfolding answerAt

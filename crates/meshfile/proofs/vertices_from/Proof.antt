@@ -9,23 +9,14 @@ use Rattle.meshfile.proofs.vertices_from.Statement.{statement}
 use Rattle.meshfile.proofs.vertices_from.Tie as tie
 
 -- the payload lies within the bytes
-room : (c : tie.After-known-told2)
-    → 6 + c .before .found2 .given .0 .0 ≤ length (c .before .before .before .before .before .args .bytes .now)
-room c = room-of 2 _ _ _ (c .before .before .before .front-of .ensures) (c .before .found2 .given .1)
-
-returns : tie.Need-returns
-unfolding verticesFrom
-returns c = rw (← c .before .before .before .front-of .ensures, c .before .found .given .1)
-
-returns-2 : tie.Need-returns-2
-unfolding verticesFrom
-returns-2 c =
-    let told = c .before .before in
-    rw (← told .before .before .before .front-of .ensures, told .before .found2 .given .1)
-    (rw (rest-is (6 + told .before .found2 .given .0 .0) _) at (c .ids-from .ensures))
+room : (c : tie.After-found2) → 6 + c .found2 .given .0 .0 ≤ length (c .before .before .before .before .args .bytes .now)
+room c = room-of 2 _ _ _ (c .before .before .front-of .ensures) (c .found2 .given .1)
 
 pub vertices-from-spec : {M : Type 1} → statement M
+unfolding verticesFrom
 vertices-from-spec =
     tie.close
-    (tie.spec (λ c κs. search needs) (λ c. search needs) (λ c. search needs) (λ c. omega (arith, room c)) room room (λ c. search needs)
-    (λ c κs. search needs) returns returns-2)
+    (tie.spec (λ c κs. search needs) (λ c. search needs) (λ c. search needs) (λ c. omega (arith, room (c .before))) (λ c. room (c .before))
+    (λ c. room (c .before)) (λ c. search needs) (λ c κs. search needs) (λ c. rw (← c .before .before .before .front-of .ensures, c .before .found .given .1))
+    (λ c. rw (← c .before .before .before .before .before .front-of .ensures, c .before .before .before .found2 .given .1)
+    (rw (rest-is _ _) at (c .ids-from .ensures))))

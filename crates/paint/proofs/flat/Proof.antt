@@ -7,11 +7,9 @@ returns : tie.Need-returns
 returns c =
     λ i. record {
       ax = c .before .before .before .before .before .coordinate .ensures i;
-      ay =
-          c .before .before .before .before .coordinate2 .ensures i;
+      ay = c .before .before .before .before .coordinate2 .ensures i;
       bx = c .before .before .before .coordinate3 .ensures i;
-      by =
-          c .before .before .coordinate4 .ensures i;
+      by = c .before .before .coordinate4 .ensures i;
       cx = c .before .coordinate5 .ensures i;
       cy = c .coordinate6 .ensures i;
     }

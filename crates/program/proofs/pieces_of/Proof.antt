@@ -5,32 +5,21 @@ use borrow.Author.Needs.{needs}
 use Rattle.program.proofs.pieces_of.Statement.{statement}
 use Rattle.program.proofs.pieces_of.Tie as tie
 
-enum-told : tie.Need-enum-told
-enum-told c = search needs
-
--- the ways back, from call to call
-abbrev before-work : tie.After-work → tie.Start
-before-work c = c .before .before .before .before .before
-
 returns : tie.Need-returns
 unfolding countIn
 returns c =
-    let after-work = c .before .before .before .before in
-    let start = before-work after-work in
-    sym (ap countIn (c .before .count .given .1))
-    ∙ pieces-counted _ _ _ _ (start .pre .0)
-    (start .pre .1)
-    (after-work .before .pieces .ensures)
+    let counted = c .before .before .before .before .before in
+    let start = counted .before .before .before .before in
+    sym (ap countIn (c .before .count .given .1)) ∙ pieces-counted _ _ _ _ (start .pre .0) (start .pre .1) (counted .pieces .ensures)
 
 returns-2 : tie.Need-returns-2
 unfolding countIn
 returns-2 c =
-    let after-work = c .before .before .before in
-    let start = before-work after-work in
-    sym (ap countIn (c .enum-told .given .1)) ∙ pieces-counted _ _ _ _
-    (start .pre .0)
-    (start .pre .1) (after-work .before .pieces .ensures)
+    let counted = c .before .before .before .before in
+    let start = counted .before .before .before .before in
+    sym (ap countIn (c .enum-told .given .1)) ∙ pieces-counted _ _ _ _ (start .pre .0) (start .pre .1) (counted .pieces .ensures)
 
 pub pieces-of-spec : {M : Type 1} → statement M
 pieces-of-spec =
-    tie.close (tie.spec (λ c κs. search needs) (λ c. search needs) enum-told (λ c. search needs) returns (λ c. search needs) returns-2)
+    tie.close
+    (tie.spec (λ c κs. search needs) (λ c. search needs) (λ c. search needs) (λ c. search needs) returns (λ c. search needs) returns-2)

@@ -4,31 +4,10 @@ use borrow.Author.Needs.{needs}
 use Rattle.record.proofs.method_number.Statement.{statement}
 use Rattle.record.proofs.method_number.Tie as tie
 
-enum-told : tie.Need-enum-told
-enum-told c = search needs
-
-returns : tie.Need-returns
-unfolding methodNumber
-returns c = rw (c .enum-told .given .1)
-
-returns-2 : tie.Need-returns-2
-unfolding methodNumber
-returns-2 c = rw (c .enum-told2 .given .1)
-
-returns-3 : tie.Need-returns-3
-unfolding methodNumber
-returns-3 c = rw (c .enum-told3 .given .1)
-
-returns-4 : tie.Need-returns-4
-unfolding methodNumber
-returns-4 c = rw (c .enum-told4 .given .1)
-
-returns-5 : tie.Need-returns-5
-unfolding methodNumber
-returns-5 c = rw (c .enum-told5 .given .1)
-
 pub method-number-spec : {M : Type 1} → statement M
+unfolding methodNumber
 method-number-spec =
     tie.close
-    (tie.spec enum-told (λ c. search needs) (λ c. search needs) (λ c. search needs) (λ c. search needs) returns returns-2 returns-3
-    returns-4 returns-5)
+    (tie.spec (λ c. search needs) (λ c. search needs) (λ c. search needs) (λ c. search needs) (λ c. search needs)
+    (λ c. rw (c .enum-told .given .1)) (λ c. rw (c .enum-told2 .given .1)) (λ c. rw (c .enum-told3 .given .1))
+    (λ c. rw (c .enum-told4 .given .1)) (λ c. rw (c .enum-told5 .given .1)))

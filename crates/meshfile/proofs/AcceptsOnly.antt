@@ -116,8 +116,8 @@ module _ (bytes : List ℕ) (below : Below 256 bytes) (p : Parts) (laid : Laid b
       (words-part bytes below 3 (16 + 4 * p .floats) (22 + 4 * p .floats) (22 + 4 * p .floats + 4 * p .ids) (p .ids) (omega arith)
       (omega arith) refl (laid .ids))
 
-  ending : Ends (p .clip) (p .defect) tail
-  ending = ends (p .clip) (p .defect) tail (laid .end)
+  ending : Ends (p .flags .clip) (p .flags .defect) tail
+  ending = ends (p .flags .clip) (p .flags .defect) tail (laid .end)
 
   proper : Proper m
   unfolding contentsAt

@@ -1,5 +1,5 @@
 -- What stands in front is a payload exactly where none of the five tests finds a fault. Assumes nothing.
-use mathlib.Core.Path.{_≡_, refl, sym, _∙_}
+use mathlib.Core.Path.{_≡_, refl, sym}
 use mathlib.Core.Bool.{Bool, true, false, not, cond}
 use mathlib.Core.List.{List}
 use Prim.Native.Nat.{ℕ, _+_, _*_, _-_, _/_, _%_, _≤_, _<_}
@@ -84,9 +84,9 @@ front-is kind n bytes r =
     let head : Header kind n bytes = record { whole = omega (arith, r .room); kind-is = r .kind-is; size = r .size } in
     sym (payload-whole head (r .fits) (r .few) (r .room))
 
--- and as the code meets it: the front found, with what it was found to be
-pub room-of : (kind n : ℕ) (bytes : List ℕ) (k : Front) → k ≡ frontOf kind bytes → k ≡ Front.Payload n → 6 + n ≤ length bytes
-room-of kind n bytes k e h = record-of kind n bytes (sym e ∙ h) .room
+-- the payload lies within the bytes
+pub room-of : (kind : ℕ) (bytes : List ℕ) {n : ℕ} → frontOf kind bytes ≡ Front.Payload n → 6 + n ≤ length bytes
+room-of kind bytes {n} h = record-of kind n bytes h .room
 
 -- what is lent of the bytes behind a place is all behind it
 pub rest-is : (k : ℕ) (bytes : List ℕ) → take (length bytes - k) (drop k bytes) ≡ drop k bytes

@@ -56,11 +56,11 @@ refused bytes vs ids n fault =
 module _ (bytes : List ℕ) (p : Parts) (vs : List Float) (ids : List ℕ) where
   pub filled : 22 + 4 * p .floats + 4 * p .ids ≤ length bytes
       → (w : ℕ) (u : Float) (profile : Profile) (front : List Float) (words′ : List ℕ)
-      → w ≡ u32At bytes 6 → u ≡ ofBits binary32 w → profile ≡ profileAt (p .defect)
+      → w ≡ u32At bytes 6 → u ≡ ofBits binary32 w → profile ≡ profileAt (p .flags .defect)
       → front ≡ floatsOf (wordsIn (take (16 + 4 * p .floats - 16) (drop 16 bytes)))
       → words′ ≡ wordsIn (take (22 + 4 * p .floats + 4 * p .ids - (22 + 4 * p .floats)) (drop (22 + 4 * p .floats) bytes))
       → AreasFilled (contentsAt bytes p) vs ids
-      (record { unit = u; floats = p .floats; ids = p .ids; clip = eqb (p .clip) 1; profile = profile })
+      (record { unit = u; floats = p .floats; ids = p .ids; clip = eqb (p .flags .clip) 1; profile = profile })
       (front ++ drop (p .floats) vs) (words′ ++ drop (p .ids) ids)
   unfolding contentsAt
   filled h w u profile front words′ ew eu ep ef ei =

@@ -9,7 +9,7 @@ use Rattle.meshfile.specs.declared.Front.{Front}
 use Rattle.meshfile.specs.declared.Ending.{Ending}
 use Rattle.meshfile.specs.declared.Layout.{Layout}
 use Rattle.meshfile.specs.declared.Parts.{Parts}
-use Rattle.meshfile.specs.Format.{flagValues, u32At, wordsIn, frontOf, endingOf, ended, idsIn, verticesIn, unitIn, fileOf, Contents}
+use Rattle.meshfile.specs.Format.{u32At, wordsIn, frontOf, endingOf, ended, idsIn, verticesIn, unitIn, fileOf, Contents}
 use Rattle.meshfile.specs.Format.{File}
 use Rattle.meshfile.specs.inner.Steps.{partsBy, idsFrom, verticesFrom, unitFrom, layoutOf, contentsAt, fileAt}
 use Rattle.meshfile.proofs.Fronts.{Record, record-of, four-bytes, whole-words}
@@ -26,7 +26,7 @@ module _ (bytes : List ℕ) where
     pub unit : Record 1 4 bytes
     pub floats : Record 2 (4 * p .floats) (drop 10 bytes)
     pub ids : Record 3 (4 * p .ids) (drop (16 + 4 * p .floats) bytes)
-    pub end : endingOf (drop (22 + 4 * p .floats + 4 * p .ids) bytes) ≡ Ending.Flags (flagValues (p .clip) (p .defect))
+    pub end : endingOf (drop (22 + 4 * p .floats + 4 * p .ids) bytes) ≡ Ending.Flags (p .flags)
 
   pub laid-inside : (p : Parts) → Laid p → 22 + 4 * p .floats + 4 * p .ids ≤ length bytes
   laid-inside p laid =

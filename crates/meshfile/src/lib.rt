@@ -115,8 +115,7 @@ pub enum Ending {
 pub struct Parts {
     pub floats: usize,
     pub ids: usize,
-    pub clip: u32,
-    pub defect: u32,
+    pub flags: FlagValues,
 }
 
 pub enum Layout {
@@ -159,12 +158,7 @@ fn parts_by(floats: usize, ids: usize, end: Ending) -> Layout
 {
     match end {
         Ending::Fault(n) => Layout::Fault(n),
-        Ending::Flags(flags) => Layout::Whole(Parts {
-            floats,
-            ids,
-            clip: flags.clip,
-            defect: flags.defect,
-        }),
+        Ending::Flags(flags) => Layout::Whole(Parts { floats, ids, flags }),
     }
 }
 
@@ -240,8 +234,8 @@ fn fill(bytes: &[u8], vertices: &mut [f32], ids: &mut [u32], p: Parts) -> MeshFi
         unit: floats::f32_of(u32_at(bytes, 6)),
         floats: f,
         ids: i,
-        clip: p.clip == 1,
-        profile: record::profile_of(p.defect),
+        clip: p.flags.clip == 1,
+        profile: record::profile_of(p.flags.defect),
     }
 }
 

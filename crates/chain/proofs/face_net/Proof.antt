@@ -8,10 +8,8 @@ use Rattle.chain.specs.declared.FaceNet.the-variants.{Answer}
 use Rattle.chain.proofs.face_net.Statement.{statement}
 use Rattle.chain.proofs.face_net.Tie as tie
 
-returns : tie.Need-returns
-returns c = gives-refusal _ _ _ _ _ (c .before .refusal .result) (c .before .refusal .ensures) (c .if1 .taken)
-
-fine : (c : tie.Else1) → let st = c .before .before .before .before in Admits (4 * triangleCount (st .args .ids .now)) (st .args .ids .now) (st .args .work .now)
+fine : (c : tie.Else1)
+    → let st = c .before .before .before .before in Admits (4 * triangleCount (st .args .ids .now)) (st .args .ids .now) (st .args .work .now)
 fine c = admits _ _ _ (c .before .refusal .ensures) (c .if1 .left)
 
 returns-2 : tie.Need-returns-2
@@ -20,5 +18,5 @@ returns-2 c = let k = c .before .before in answered Answer (fine (k .before .bef
 pub face-net-spec : {M : Type 1} → statement M
 face-net-spec =
     tie.close
-    (tie.spec (λ c. search needs) (λ c κs. search needs) returns (λ c. fine c .fits) (λ c. fine (c .before) .whole)
-    (λ c κs. fine (c .before) .lends) (λ c. search needs) returns-2)
+    (tie.spec (λ c. search needs) (λ c κs. search needs) (λ c. gives-refusal _ _ _ _ _ _ (c .before .refusal .ensures) (c .if1 .taken))
+    (λ c. fine c .fits) (λ c. fine (c .before) .whole) (λ c κs. fine (c .before) .lends) (λ c. search needs) returns-2)

@@ -20,7 +20,8 @@ unfolding edgesOf
 returns c =
     let told = c .before .before .before .before .before in
     let said = told .rows-say .ensures _ (told .before .before .before .before .gather .ensures) in
-    leaves _ (ap (λ (b : Bool). b && told .rows-say .result) (c .enough .ensures) ∙ said) (search needs) (c .before .before .before .clear2 .ensures)
+    leaves _ (ap (λ (b : Bool). b && told .rows-say .result) (c .enough .ensures) ∙ said) (search needs)
+    (c .before .before .before .clear2 .ensures)
 
 pub question-in-spec : {M : Type 1} → statement M
 question-in-spec =

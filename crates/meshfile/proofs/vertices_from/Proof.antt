@@ -1,22 +1,23 @@
 -- `meshfile::vertices_from` meets its contract: by what stands in front; the part behind it is lent whole. Assumes nothing.
-use Prim.Native.Nat.{_+_, _≤_}
+use mathlib.Core.Path.{_≡_, sym, _∙_}
 use native.Mathlib.Omega.{arith}
 use borrow.Author.Needs.{needs}
-use lib.ListN.{length}
+use Rattle.meshfile.specs.declared.Front.{Front}
+use Rattle.meshfile.specs.Format.{frontOf}
 use Rattle.meshfile.specs.inner.Steps.{verticesFrom}
 use Rattle.meshfile.proofs.Fronts.{room-of, rest-is}
 use Rattle.meshfile.proofs.vertices_from.Statement.{statement}
 use Rattle.meshfile.proofs.vertices_from.Tie as tie
 
--- the payload lies within the bytes
-room : (c : tie.After-found2) → 6 + c .found2 .given .0 .0 ≤ length (c .before .before .before .before .args .bytes .now)
-room c = room-of 2 _ _ _ (c .before .before .front-of .ensures) (c .found2 .given .1)
+-- what stands in front is the payload that was found
+front : (c : tie.After-found2) → frontOf 2 (c .before .before .before .before .args .bytes .now) ≡ Front.Payload (c .found2 .given .0 .0)
+front c = sym (c .before .before .front-of .ensures) ∙ c .found2 .given .1
 
 pub vertices-from-spec : {M : Type 1} → statement M
 unfolding verticesFrom
 vertices-from-spec =
     tie.close
-    (tie.spec (λ c κs. search needs) (λ c. search needs) (λ c. search needs) (λ c. omega (arith, room (c .before))) (λ c. room (c .before))
-    (λ c. room (c .before)) (λ c. search needs) (λ c κs. search needs) (λ c. rw (← c .before .before .before .front-of .ensures, c .before .found .given .1))
-    (λ c. rw (← c .before .before .before .before .before .front-of .ensures, c .before .before .before .found2 .given .1)
-    (rw (rest-is _ _) at (c .ids-from .ensures))))
+    (tie.spec (λ c κs. search needs) (λ c. search needs) (λ c. search needs) (λ c. omega (arith, room-of _ _ (front (c .before))))
+    (λ c. room-of _ _ (front (c .before))) (λ c. room-of _ _ (front (c .before))) (λ c. search needs) (λ c κs. search needs)
+    (λ c. rw (← c .before .before .before .front-of .ensures, c .before .found .given .1))
+    (λ c. rw (front (c .before .before .before)) (rw (rest-is _ _) at (c .ids-from .ensures))))

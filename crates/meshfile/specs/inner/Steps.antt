@@ -14,7 +14,7 @@ use Rattle.meshfile.specs.Reading.{floatsOf, meshFile}
 
 unfoldable pub partsBy : ℕ → ℕ → Ending → Layout
 partsBy f i (Ending.Fault n) = Layout.Fault n
-partsBy f i (Ending.Flags flags) = Layout.Whole (record { floats = f; ids = i; clip = flags .clip; defect = flags .defect })
+partsBy f i (Ending.Flags flags) = Layout.Whole (record { floats = f; ids = i; flags = flags })
 
 unfoldable pub idsFrom : ℕ → Front → List ℕ → Layout
 idsFrom f (Front.Fault n) bytes = Layout.Fault n
@@ -38,8 +38,8 @@ contentsAt bytes p =
       unit = u32At bytes 6;
       vertices = wordsIn (take (4 * p .floats) (drop 16 bytes));
       ids = wordsIn (take (4 * p .ids) (drop (22 + 4 * p .floats) bytes));
-      clip = p .clip;
-      defect = p .defect;
+      clip = p .flags .clip;
+      defect = p .flags .defect;
     }
 
 unfoldable pub fileAt : List ℕ → Layout → File

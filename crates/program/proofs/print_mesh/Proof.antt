@@ -37,8 +37,8 @@ returns-2 c =
     let told = c .before .before .before .before .before in
     let k = told .before .before .before .before .before in
     let m = start k .args .m in
-    rw (← refusal-text _ _ (m .unit) (m .clip) (m .profile) _ _ _ _ _ _ _ (k .compute .ensures) (omega arith) (omega arith) (omega arith) _
-    (told .answer2 .given .1)) (c .before .before .print-refusal .ensures)
+    rw (← refusal-text _ _ (m .unit) (m .clip) (m .profile) _ _ _ _ _ _ _ (k .compute .ensures) (omega arith) (omega arith) (omega arith)
+    _ (told .answer2 .given .1)) (c .before .before .print-refusal .ensures)
 
 pub print-mesh-spec : {M : Type 1} → statement M
 print-mesh-spec =

@@ -35,7 +35,8 @@ returns c =
 returns-2 : tie.Need-returns-2
 returns-2 c =
     let found = c .before .before .before .before .before in
-    rw (← mesh-text _ _ (omega arith) (omega arith) _ _ _ _ (read found .read .ensures) _ (found .found2 .given .1)) (c .print-mesh .ensures)
+    rw (← mesh-text _ _ (omega arith) (omega arith) _ _ _ _ (read found .read .ensures) _ (found .found2 .given .1))
+    (c .print-mesh .ensures)
 
 pub run-spec : {M : Type 1} → statement M
 run-spec =

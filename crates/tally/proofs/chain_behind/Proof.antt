@@ -40,7 +40,8 @@ module _ (c : tie.After-gather-chain-behind) where
 
   counted : InFront (st cleared .args .at) (st cleared .args .area .now) (c .gather-chain-behind .last .0)
       (λ t. EdgeTable (sized cleared .rows .result) t (chain (drop (st cleared .args .at) (st cleared .args .area .now))))
-  counted = made-front (λ ids t. EdgeTable (sized cleared .rows .result) t (chain ids)) (emptied cleared) (c .gather-chain-behind .ensures)
+  counted =
+      made-front (λ ids t. EdgeTable (sized cleared .rows .result) t (chain ids)) (emptied cleared) (c .gather-chain-behind .ensures)
 
   long : length (take (st cleared .args .at) (c .gather-chain-behind .last .0)) ≡ st cleared .args .at
   long = front-long (behind-still (behind cleared) (counted .long))

@@ -9,7 +9,8 @@ use Rattle.chain.proofs.face_net.Statement.{statement}
 use Rattle.chain.proofs.face_net.Tie as tie
 
 fine : (c : tie.Else1)
-    → let st = c .before .before .before .before in Admits (4 * triangleCount (st .args .ids .now)) (st .args .ids .now) (st .args .work .now)
+    → let st = c .before .before .before .before in
+    Admits (4 * triangleCount (st .args .ids .now)) (st .args .ids .now) (st .args .work .now)
 fine c = admits _ _ _ (c .before .refusal .ensures) (c .if1 .left)
 
 returns-2 : tie.Need-returns-2

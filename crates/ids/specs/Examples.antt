@@ -1,7 +1,6 @@
 -- The starred examples of document 01 on lists of ids, in one table with one statement. The tetrahedron is 012 023 031 132; the second of
--- two that share
--- one id has 3, 4, 5 and 6 in the places of 0, 1, 2 and 3. The last row is no starred one: two tetrahedra apart, a triangle that repeats an
--- id, an id left over.
+-- two that share one id has 3, 4, 5 and 6 in the places of 0, 1, 2 and 3. The last row is no starred one: two tetrahedra apart, a triangle
+-- that repeats an id, an id left over.
 use mathlib.Core.Path.{_≡_}
 use mathlib.Core.Bool.{Bool, true, false}
 use mathlib.Core.List.{List, [], _∷_, _++_}

@@ -101,14 +101,16 @@ impl Totals {
         }
     }
 
-    // Takes one triangle's area, volume term and slope.
-    pub fn add(self, pair: Thresholds, f: Facet) -> Totals
+    // Takes one triangle's area, volume term and slope, and hands itself back.
+    pub fn add(mut self, pair: Thresholds, f: Facet) -> Totals
         ensures { λ r. ⌜ r ≡ withFacet pair self f ⌝ }
     {
+        self.surface = self.surface + f.area;
+        self.volume6 = self.volume6 + f.volume;
         let areas = self.areas;
         Totals {
-            surface: self.surface + f.area,
-            volume6: self.volume6 + f.volume,
+            surface: self.surface,
+            volume6: self.volume6,
             areas: areas.on_slope(slope_of(pair, f.nz), f.area32),
         }
     }

@@ -88,33 +88,21 @@ module _ (f : Format) (s : Bool) (a : ℕ) (t : Bool) (b : ℕ) where
   abbrev r : Total f s a (not t) b
   r = total-of f s a (not t) b
 
-  A : a ≤ most
-  A = omega arith
-
-  B : b ≤ most
-  B = omega arith
-
-  N : most ≤ most
-  N = omega arith
-
-  O : 0 ≤ most
-  O = omega arith
-
   difference-below : below (r .sign) (r .size) false 0 ≡ below s a t b
   difference-below =
-      let p = r .placed most N in
-      let l = less most (rank most (r .sign) (r .size)) (rank most s a) (rank most t b) (rank most (not t) b) (p .1) (turned most b t B) in
-      below-rank most (r .size) 0 (p .0) O (r .sign) false
+      let p = r .placed most (omega arith) in
+      let l = less most _ (rank most s a) (rank most t b) (rank most (not t) b) (p .1) (turned most b t (omega arith)) in
+      below-rank most (r .size) 0 (p .0) (omega arith) (r .sign) false
       ∙ both-lt (rank most (r .sign) (r .size)) (most + 0) (rank most s a) (rank most t b) (l .0) (l .1)
-      ∙ sym (below-rank most a b A B s t)
+      ∙ sym (below-rank most a b (omega arith) (omega arith) s t)
 
   difference-above : below false 0 (r .sign) (r .size) ≡ below t b s a
   difference-above =
-      let p = r .placed most N in
-      let l = more most (rank most (r .sign) (r .size)) (rank most s a) (rank most t b) (rank most (not t) b) (p .1) (turned most b t B) in
-      below-rank most 0 (r .size) O (p .0) false (r .sign)
+      let p = r .placed most (omega arith) in
+      let l = more most _ (rank most s a) (rank most t b) (rank most (not t) b) (p .1) (turned most b t (omega arith)) in
+      below-rank most 0 (r .size) (omega arith) (p .0) false (r .sign)
       ∙ both-lt (most + 0) (rank most (r .sign) (r .size)) (rank most t b) (rank most s a) (l .0) (l .1)
-      ∙ sym (below-rank most b a B A t s)
+      ∙ sym (below-rank most b a (omega arith) (omega arith) t s)
 
 -- ---- floats
 module _ (f : Format) (s : Bool) (m : ℕ) (e : ℤ) (t : Bool) (k : ℕ) (d : ℤ) (p : T (fits f (fin s m e))) (q : T (fits f (fin t k d))) where

@@ -3,9 +3,6 @@ use borrow.Author.Needs.{needs}
 use Rattle.patterns.proofs.order.greatest32_bits.Statement.{statement}
 use Rattle.patterns.proofs.order.greatest32_bits.Tie as tie
 
-returns : tie.Need-returns
-returns c = cc
-
 pub greatest32-bits-spec : {M : Type 1} → statement M
 greatest32-bits-spec =
-    tie.close (tie.spec (λ c κs. search needs) (λ c κs. search needs) (λ c κs. search needs) (λ c κs. search needs) returns)
+    tie.close (tie.spec (λ c κs. search needs) (λ c κs. search needs) (λ c κs. search needs) (λ c κs. search needs) (λ c. cc))

@@ -1,7 +1,5 @@
 -- The starred examples hold, by computing. Assumes nothing.
-use mathlib.Core.Path.{_≡_, refl}
-use mathlib.Core.Bool.{Bool}
-use Prim.Native.Nat.{ℕ}
+use mathlib.Core.Path.{refl}
 use Rattle.ids.specs.Triangles.{distinct, overTriangles, triangle}
 use Rattle.ids.specs.Uses.{bit, sumBy, maxBy, counting, uses, signedSum, keys, keysThat, largestSum}
 use Rattle.ids.specs.EdgeChain.{sameEdge, step, around, enough, chain, present, unbalanced, crowded, unpaired, incoherent}
@@ -10,13 +8,63 @@ use Rattle.ids.specs.FaceNet.{sameFace, sortedIds, falls, faceUse, face,
 use Rattle.ids.specs.Pieces.{any, touched, apart, groups, has, shareId, those, solid, solids, pieces}
 use Rattle.ids.specs.Examples.{Holds, tetrahedron, neighbour, stranger, examples}
 
--- a row whose seven statements compute, before others
-row : {a b d e f : Bool} {c g : ℕ} {R : Type 0} → R → (a ≡ a) × (b ≡ b) × (c ≡ c) × (d ≡ d) × (e ≡ e) × (f ≡ f) × (g ≡ g) × R
-row r = (refl, refl, refl, refl, refl, refl, refl, r)
-
 pub examples-hold : Holds examples
 unfolding Holds tetrahedron neighbour stranger examples triangle any touched apart groups has shareId those solid solids pieces
     distinct overTriangles bit sumBy maxBy counting uses signedSum keys keysThat largestSum sameEdge step around enough chain
     present unbalanced crowded unpaired incoherent boundaryFree overIncident properStep aroundProper closedManifold windingCoherent
     sameFace sortedIds falls faceUse face maxAbs allCancel
-examples-hold = row (row (row (row (row (row (row (row tt)))))))
+examples-hold = (
+  refl,
+  refl,
+  refl,
+  refl,
+  refl,
+  refl,
+  refl,
+  (
+    refl,
+    refl,
+    refl,
+    refl,
+    refl,
+    refl,
+    refl,
+    (
+      refl,
+      refl,
+      refl,
+      refl,
+      refl,
+      refl,
+      refl,
+      (
+        refl,
+        refl,
+        refl,
+        refl,
+        refl,
+        refl,
+        refl,
+        (
+          refl,
+          refl,
+          refl,
+          refl,
+          refl,
+          refl,
+          refl,
+          (
+            refl,
+            refl,
+            refl,
+            refl,
+            refl,
+            refl,
+            refl,
+            (refl, refl, refl, refl, refl, refl, refl, (refl, refl, refl, refl, refl, refl, refl, tt)),
+          ),
+        ),
+      ),
+    ),
+  ),
+)

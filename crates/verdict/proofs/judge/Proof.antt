@@ -1,6 +1,9 @@
 -- `verdict::judge` meets its contract: box, then volume, then ids, as the definition has them. Assumes nothing.
-use mathlib.Core.Path.{sym}
+use mathlib.Core.Path.{_≡_, sym}
+use mathlib.Core.Bool.{false}
 use borrow.Author.Needs.{needs}
+use lib.Ieee.{le}
+use Rattle.ieee.specs.Single.{nought}
 use Rattle.verdict.specs.Verdict.{tooLarge, nearZero}
 use Rattle.verdict.proofs.Meaning.{no-box, too-large, within-box}
 use Rattle.verdict.proofs.judge.Statement.{statement}
@@ -9,6 +12,9 @@ use Rattle.verdict.proofs.judge.Tie as tie
 -- where the box has been asked
 abbrev start : tie.After-struct-known → tie.Start
 start c = c .before .before .before .before
+
+some : (c : tie.Else1) → le (start (c .before) .args .s .aabb) nought ≡ false
+some c = c .if1 .left
 
 returns : tie.Need-returns
 returns c =
@@ -20,7 +26,7 @@ unfolding tooLarge
 returns-2 c =
     let sized = c .before .before in
     let a = start (sized .before .before) .args in
-    sym (too-large (a .vertices .now) (a .indices .now) (a .eps) (a .s .volume) (a .s .aabb) (sized .before .if1 .left)
+    sym (too-large (a .vertices .now) (a .indices .now) (a .eps) (a .s .volume) (a .s .aabb) (some (sized .before))
     (rw (sized .magnitude32 .ensures) at (c .if2 .taken)))
 
 returns-3 : tie.Need-returns-3
@@ -30,7 +36,7 @@ returns-3 c =
     let sized = within .before .before in
     let a = start (sized .before .before) .args in
     let is = sized .magnitude32 .ensures in
-    rw (within-box (a .vertices .now) (a .indices .now) (a .eps) (a .s .volume) (a .s .aabb) (sized .before .if1 .left)
+    rw (within-box (a .vertices .now) (a .indices .now) (a .eps) (a .s .volume) (a .s .aabb) (some (sized .before))
     (rw is at (within .if2 .left))) (rw is at (c .before .before .by-chain .ensures))
 
 pub judge-spec : {M : Type 1} → statement M

@@ -1,25 +1,15 @@
--- An id is in range when it is below the number of vertices: 3i + 2 < F and i < F/3 say the same. So the coordinates of a triangle's
--- corners are there. Assumes nothing.
+-- The coordinates of the corners of a triangle in range are there. Assumes nothing.
 use mathlib.Core.Path.{_≡_, refl}
 use mathlib.Core.Bool.{Bool, true, false, _&&_}
-use Prim.Native.Nat.{ℕ, _+_, _*_, _/_, _<_}
+use Prim.Native.Nat.{ℕ, _+_, _*_, _<_}
 use mathlib.Core.List.{List}
 use native.Mathlib.Omega.{arith}
-use native.Mathlib.Decide.{decLt}
 use lib.Dec.{ltb}
 use lib.ListN.{length}
 use lib.Ieee.{Float}
-use borrow.Author.Tests.{lt-ltb, le-ltb, ltb-true}
+use borrow.Author.Tests.{ltb-true}
 use Rattle.ids.specs.Triangles.{Triangle}
-use Rattle.vertices.specs.Vertices.{vertexCount, inRange, cornersInRange}
-
-pub in-range : (vs : List Float) (i : ℕ) → ltb i (vertexCount vs) ≡ inRange vs i
-unfolding inRange
-in-range vs i =
-    elim (decLt i (length vs / 3)) [
-      | yes l ↦ rw (lt-ltb i (length vs / 3) l, lt-ltb (3 * i + 2) (length vs) (omega arith))
-      | no l ↦ rw (le-ltb i (length vs / 3) (omega arith), le-ltb (3 * i + 2) (length vs) (omega arith))
-    ]
+use Rattle.vertices.specs.Vertices.{inRange, cornersInRange}
 
 -- each corner of a triangle in range has its three coordinates
 pub corners-below : (vs : List Float) (t : Triangle) → cornersInRange vs t ≡ true

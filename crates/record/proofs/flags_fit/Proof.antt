@@ -1,5 +1,5 @@
--- `record::flags_fit` meets its contract, by what it means: whichever of the two numbers is small enough, it answers as the definition does.
--- Assumes nothing.
+-- `record::flags_fit` meets its contract, by what it means: whichever of the two numbers is small enough, it answers as the definition
+-- does. Assumes nothing.
 use native.Mathlib.Decide.{decLt}
 use native.Mathlib.Omega.{arith}
 use Prim.Native.Nat.{_≤_, _<_}

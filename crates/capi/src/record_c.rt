@@ -1,4 +1,4 @@
-// The record under the name of the C interface: `compute` with its flags, and the answer as a number and 17 words.
+// The record under the name of the C interface: `compute` with its flags, and the answer as a number and 20 words.
 ghost use mathlib.Core.Path.{_≡_};
 ghost use Rattle.record.specs.Numbers.{prismNumber, prismBits};
 ghost use Rattle.qto.specs.Numbers.{wordsOf, ComputesNumbered};
@@ -31,7 +31,7 @@ fn prism_bits(prism: PrismBound) -> u32
 
 // ---- the record as words
 
-fn record_words(q: MeshQto) -> [u32; 17]
+fn record_words(q: MeshQto) -> [u32; 20]
     ensures { λ r. ⌜ r ≡ wordsOf q ⌝ }
 {
     let quality = q.mesh_quality;
@@ -56,6 +56,9 @@ fn record_words(q: MeshQto) -> [u32; 17]
         prism_number(prism),
         prism_bits(prism),
         q.surface_count,
+        q.triangles_used,
+        q.triangles_out_of_range,
+        q.triangles_sliver,
     ]
 }
 
@@ -70,7 +73,7 @@ pub extern "C" fn mf_compute(
     work: &mut [u32],
     raster: &mut [u8],
     surfaces: &mut [f32],
-    record: &mut [u32; 17],
+    record: &mut [u32; 20],
 ) -> u32
     ensures { λ n. ⌜ ComputesNumbered (now (vertices .entry)) (now (ids .entry)) unit clip defect
         (now (work .entry)) (now (raster .entry)) (now (surfaces .entry)) (now («record» .entry))

@@ -52,7 +52,7 @@ mem-append x (y ∷ l) m = assoc (eqb x y) (mem x l) (mem x m) (mem x (l ++ m)) 
     assoc true b c d h = refl
     assoc false b c d h = h
 
-pub sum-append : (w : ℕ → ℕ) (l m : List ℕ) → sumBy w (l ++ m) ≡ sumBy w l + sumBy w m
+pub sum-append : {K : Type 0} (w : K → ℕ) (l m : List K) → sumBy w (l ++ m) ≡ sumBy w l + sumBy w m
 unfolding sumBy
 sum-append w [] m = omega arith
 sum-append w (x ∷ l) m = omega (arith, sum-append w l m)

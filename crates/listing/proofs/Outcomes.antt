@@ -11,7 +11,7 @@ use lib.Ieee.{Float}
 use Rattle.record.specs.declared.MeshQto.{MeshQto}
 use Rattle.listing.specs.declared.Listed.{Listed}
 use Rattle.listing.specs.Listing.{refusedLine}
-use Rattle.listing.specs.Lists.{textBytes, textAreasShort, listedAs, areaWith, listingFor, Lists, ListsRefusal, ListOne}
+use Rattle.listing.specs.Lists.{headBytes, textBytes, textAreasShort, listedAs, areaWith, listingFor, Lists, ListsRefusal, ListOne}
 use Rattle.listing.specs.Lists.{ListRefusalOne}
 use Rattle.spelling.specs.inner.Steps.{written, PutsText}
 
@@ -21,11 +21,11 @@ neither : (a b : Bool) → a || b ≡ false → (a ≡ false) × (b ≡ false)
 neither true b h = absurd (true≢false h)
 neither false b h = (refl, h)
 
-pub areas-fit : (n s t : ℕ) → textAreasShort n s t ≡ false → (4 * n ≤ s) × (320 + 36 * n ≤ t)
+pub areas-fit : (n s t : ℕ) → textAreasShort n s t ≡ false → (4 * n ≤ s) × (headBytes + 36 * n ≤ t)
 unfolding textBytes
 areas-fit n s t h =
-    let e = neither (ltb s (4 * n)) (ltb t (320 + 36 * n)) h in
-    (ltb-false s (4 * n) (e .0), ltb-false t (320 + 36 * n) (e .1))
+    let e = neither (ltb s (4 * n)) (ltb t (headBytes + 36 * n)) h in
+    (ltb-false s (4 * n) (e .0), ltb-false t (headBytes + 36 * n) (e .1))
 
 -- ---- what comes back
 
@@ -50,15 +50,15 @@ module _ (q : MeshQto) (s : List Float) (pieces : ℕ) (area : List ℕ) (short 
   list-put h r area′ p = let w = when-put _ (listingFor q s pieces) area (sym is ∙ h) r area′ p in record { answers = w .0; text = w .1 }
 
 module _ (n : ℕ) (area : List ℕ) where
-  pub refusal-short : length area < 320 → ListsRefusal n area (Listed.Refused 3) area
+  pub refusal-short : length area < headBytes → ListsRefusal n area (Listed.Refused 3) area
   unfolding textBytes
-  refusal-short h = let w = when-short _ (refusedLine n) area (lt-ltb (length area) 320 h) in record { answers = w .0; text = w .1 }
+  refusal-short h = let w = when-short _ (refusedLine n) area (lt-ltb (length area) headBytes h) in record { answers = w .0; text = w .1 }
 
-  pub refusal-put : 320 ≤ length area → (r : ℕ) (area′ : List ℕ) → PutsText 0 (refusedLine n) area r area′
+  pub refusal-put : headBytes ≤ length area → (r : ℕ) (area′ : List ℕ) → PutsText 0 (refusedLine n) area r area′
       → ListsRefusal n area (Listed.Length r) area′
   unfolding textBytes
   refusal-put h r area′ p =
-      let w = when-put _ (refusedLine n) area (le-ltb (length area) 320 h) r area′ p in record { answers = w .0; text = w .1 }
+      let w = when-put _ (refusedLine n) area (le-ltb (length area) headBytes h) r area′ p in record { answers = w .0; text = w .1 }
 
 -- ---- any two answers that the contract allows are equal, and so is what is left in the area
 

@@ -36,6 +36,9 @@ cubeRecord =
       «volume_best_m3» = f32Of 0x4100_0000;
       «volume_prism_bound_m3» = PrismBound.NotComputed;
       «profile_invalid» = Profile.Valid;
+      «triangles_used» = 12;
+      «triangles_out_of_range» = 0;
+      «triangles_sliver» = 0;
     }
 
 -- four square units towards nx, ny, nz
@@ -75,6 +78,9 @@ cubeText =
     ∷ "best 41000000"
     ∷ "prism none"
     ∷ "pieces 1"
+    ∷ "used 12"
+    ∷ "range 0"
+    ∷ "sliver 0"
     ∷ "surfaces 6"
     ∷ "40800000 bf800000 00000000 00000000"
     ∷ "40800000 00000000 bf800000 00000000"

@@ -1,4 +1,4 @@
--- The listing of document 01, line by line, and the line of a refusal.
+-- The listing of document 01 with 02's counts (A1), line by line, and the line of a refusal.
 use Prim.Native.Nat.{ℕ}
 use mathlib.Core.List.{List, [], _++_, _∷_}
 use Rattle.ids.specs.Uses.{bit}
@@ -33,8 +33,15 @@ unfoldable pub prismText : PrismBound → List ℕ
 prismText PrismBound.NotComputed = codes "none"
 prismText (PrismBound.Bound p) = bits p
 
-unfoldable pub countLines : ℕ → ℕ → List ℕ
-countLines pieces surfaces = line "pieces " (decimal pieces) ++ line "surfaces " (decimal surfaces)
+-- 02's counts of triangles
+unfoldable pub triangleLines : MeshQto → List ℕ
+triangleLines q =
+    line "used " (decimal (q .«triangles_used»))
+    ++ (line "range " (decimal (q .«triangles_out_of_range»))
+    ++ line "sliver " (decimal (q .«triangles_sliver»)))
+
+unfoldable pub countLines : MeshQto → ℕ → List ℕ
+countLines q pieces = line "pieces " (decimal pieces) ++ (triangleLines q ++ line "surfaces " (decimal (q .«surface_count»)))
 
 -- each surface row is area, nx, ny, nz
 unfoldable pub rowLine : PlanarSurface → List ℕ
@@ -50,7 +57,7 @@ headLines q pieces =
     trustLines q
     ++ (numberLines q
     ++ (line "prism " (prismText (q .«volume_prism_bound_m3»))
-    ++ countLines pieces (q .«surface_count»)))
+    ++ countLines q pieces))
 
 -- of a record, its surface rows and the number of pieces
 unfoldable pub listingOf : MeshQto → List PlanarSurface → ℕ → List ℕ

@@ -11,9 +11,12 @@ use Rattle.record.specs.declared.MeshQto.{MeshQto}
 use Rattle.listing.specs.declared.Listed.{Listed}
 use Rattle.listing.specs.Listing.{listingOf, refusedLine}
 
--- how many bytes of text area a listing of n rows asks for
+-- how many bytes of text area a listing of n rows asks for: the lines above the rows have 345 at most
+abbrev pub headBytes : ℕ
+headBytes = 352
+
 unfoldable pub textBytes : ℕ → ℕ
-textBytes n = 320 + 36 * n
+textBytes n = headBytes + 36 * n
 
 -- whether a surface area of s floats or a text area of t bytes is too short for n rows
 abbrev pub textAreasShort : ℕ → ℕ → ℕ → Bool

@@ -1,15 +1,18 @@
-// The listing of document 01 as bytes in a lent area: `list` for a record with its rows and pieces, `list_refusal` for a refusal.
+// The listing of document 01, with 02's counts, as bytes in a lent area: `list` for a record with its rows and pieces, `list_refusal` for a refusal.
 ghost use mathlib.Core.Path.{_≡_};
 ghost use Prim.Native.Nat.{_+_, _*_, _≤_, _<_};
 ghost use lib.ListN.{length};
 ghost use Rattle.rows.specs.Rows.{rowsOf};
 ghost use Rattle.spelling.specs.Text.{line};
 ghost use Rattle.spelling.specs.inner.Steps.{PutsText};
-ghost use Rattle.listing.specs.Listing.{trustLines, numberLines, prismText, countLines, rowLines, headLines};
-ghost use Rattle.listing.specs.Lists.{Lists, ListsRefusal};
+ghost use Rattle.listing.specs.Listing.{trustLines, numberLines, prismText, triangleLines, countLines, rowLines, headLines};
+ghost use Rattle.listing.specs.Lists.{headBytes, Lists, ListsRefusal};
 ghost use Rattle.listing.specs.inner.Steps.{Short};
 use record::MeshQto;
 use volume::PrismBound;
+
+// How many bytes of a text area are for the lines above the rows.
+const HEAD: usize = 352;
 
 // How long the text is, or the number of the refusal.
 pub enum Listed {
@@ -86,24 +89,34 @@ fn prism_line(out: &mut [u8], at: usize, prism: PrismBound) -> usize
     }
 }
 
-fn count_lines(out: &mut [u8], at: usize, pieces: u32, surfaces: u32) -> usize
-    requires { ⌜ at + 38 ≤ length (now out) ⌝ }
-    ensures { λ r. ⌜ PutsText at (countLines pieces surfaces) (now (out .entry)) r (now (out .exit)) × (r ≤ at + 38) ⌝ }
+fn triangle_lines(out: &mut [u8], at: usize, q: MeshQto) -> usize
+    requires { ⌜ at + 51 ≤ length (now out) ⌝ }
+    ensures { λ r. ⌜ PutsText at (triangleLines q) (now (out .entry)) r (now (out .exit)) × (r ≤ at + 51) ⌝ }
+{
+    let a = spelling::count_line(out, at, b"used ", q.triangles_used);
+    let b = spelling::count_line(out, a, b"range ", q.triangles_out_of_range);
+    spelling::count_line(out, b, b"sliver ", q.triangles_sliver)
+}
+
+fn count_lines(out: &mut [u8], at: usize, q: MeshQto, pieces: u32) -> usize
+    requires { ⌜ at + 89 ≤ length (now out) ⌝ }
+    ensures { λ r. ⌜ PutsText at (countLines q pieces) (now (out .entry)) r (now (out .exit)) × (r ≤ at + 89) ⌝ }
 {
     let a = spelling::count_line(out, at, b"pieces ", pieces);
-    spelling::count_line(out, a, b"surfaces ", surfaces)
+    let b = triangle_lines(out, a, q);
+    spelling::count_line(out, b, b"surfaces ", q.surface_count)
 }
 
 // All lines above the rows.
 fn head_lines(out: &mut [u8], q: MeshQto, pieces: u32) -> usize
-    requires { ⌜ 320 ≤ length (now out) ⌝ }
-    ensures { λ r. ⌜ PutsText 0 (headLines q pieces) (now (out .entry)) r (now (out .exit)) × (r ≤ 320) ⌝ }
+    requires { ⌜ headBytes ≤ length (now out) ⌝ }
+    ensures { λ r. ⌜ PutsText 0 (headLines q pieces) (now (out .entry)) r (now (out .exit)) × (r ≤ headBytes) ⌝ }
 {
     let prism = q.volume_prism_bound_m3;
     let a = trust_lines(out, 0, q);
     let b = number_lines(out, a, q);
     let d = prism_line(out, b, prism);
-    count_lines(out, d, pieces, q.surface_count)
+    count_lines(out, d, q, pieces)
 }
 
 // n rows of four floats.
@@ -126,7 +139,7 @@ fn areas_short(n: usize, surfaces: usize, text: usize) -> bool
     requires { ⌜ n < 4294967296 ⌝ }
     ensures { λ r. ⌜ Short n surfaces text r ⌝ }
 {
-    (surfaces < 4 * n) | (text < 320 + 36 * n)
+    (surfaces < 4 * n) | (text < HEAD + 36 * n)
 }
 
 // Of a record, the surface area with its rows, and the number of pieces.
@@ -146,7 +159,7 @@ pub fn list(q: MeshQto, surfaces: &[f32], pieces: u32, text: &mut [u8]) -> Liste
 pub fn list_refusal(n: u8, text: &mut [u8]) -> Listed
     ensures { λ r. ⌜ ListsRefusal n (now (text .entry)) r (now (text .exit)) ⌝ }
 {
-    if text.len() < 320 {
+    if text.len() < HEAD {
         return Listed::Refused(3);
     }
     Listed::Length(spelling::count_line(text, 0, b"refused ", n as u32))

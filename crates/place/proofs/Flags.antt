@@ -41,6 +41,9 @@ marked-open to to′ p p′ q q′ e r =
       smallest = r .smallest;
       count = r .count;
       profile = e;
+      used = r .used;
+      out-of-range = r .out-of-range;
+      sliver = r .sliver;
       bounded = r .bounded;
     }
 

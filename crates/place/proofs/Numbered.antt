@@ -46,6 +46,9 @@ words-by Quality.OpenShell q q′ h h′ r =
       r .count,
       r .profile,
       r .bounded,
+      r .used,
+      r .out-of-range,
+      r .sliver,
     )
 
 words-agree : (q q′ : MeshQto) → AgreeRecords q q′ → owed 0 (wordsOf q′) ≡ owed 0 (wordsOf q)

@@ -10,8 +10,9 @@ use lib.IntN.{ℤ}
 use lib.ListN.{length}
 use lib.Ieee.{Float}
 use Rattle.ids.specs.Triangles.{triangleCount}
-use Rattle.sums.specs.Box.{box, boxVolume}
+use Rattle.sums.specs.Box.{box, origin, boxVolume}
 use Rattle.sums.specs.Totals.{thresholds}
+use Rattle.walk.specs.Counts.{countsOf}
 use Rattle.verdict.specs.declared.Quality.{Quality}
 use Rattle.verdict.specs.Verdict.{byChain, quality}
 use Rattle.volume.specs.declared.Method.{Method}
@@ -25,7 +26,7 @@ use Rattle.qto.specs.Full.{cube, totals, buckets, surfaceRows, surfacesAfter, m
 use Rattle.place.specs.Moved.{Moved, unitEnough}
 use Rattle.place.specs.Agree.{AgreeBy, AgreeRecords}
 use Rattle.place.proofs.Box.{box-shifted, same-box-volume}
-use Rattle.place.proofs.Triangles.{same-totals, same-buckets}
+use Rattle.place.proofs.Triangles.{same-totals, same-buckets, same-counts}
 use Rattle.place.proofs.Weld.{same-welded}
 
 -- an open mesh has a prism bound, trusted or not
@@ -59,6 +60,9 @@ module _ (dx dy dz : ℤ) (vs vs′ : List Float) (m : Moved dx dy dz vs vs′) 
   unfolding buckets
   buckets-stay = same-buckets dx dy dz vs vs′ m (box vs) (box vs′) (box-shifted dx dy dz vs vs′ m (omega arith)) ids (triangleCount ids)
 
+  pub counts-stay : countsOf vs′ (origin (box vs′)) ids ≡ countsOf vs (origin (box vs)) ids
+  counts-stay = same-counts dx dy dz vs vs′ m (box vs) (box vs′) (box-shifted dx dy dz vs vs′ m (omega arith)) ids
+
   module _ (u : Float) where
     pub box-volume-stays : boxVolume (box vs′) (cube u) ≡ boxVolume (box vs) (cube u)
     box-volume-stays = same-box-volume dx dy dz (box vs) (box vs′) (cube u) (box-shifted dx dy dz vs vs′ m (omega arith))
@@ -73,7 +77,7 @@ module _ (dx dy dz : ℤ) (vs vs′ : List Float) (m : Moved dx dy dz vs vs′) 
 
     measures-stay : measures vs′ ids u ≡ measures vs ids u
     unfolding measures
-    measures-stay = rw (totals-stay, rows-stay)
+    measures-stay = rw (totals-stay, rows-stay, counts-stay)
 
     module _ (enough : T (unitEnough u)) (fits : T (unitFits u)) where
       pub verdict-stays : verdict vs′ ids u (measures vs′ ids u .volume) ≡ verdict vs ids u (measures vs ids u .volume)

@@ -21,6 +21,9 @@ pub record AgreeButBest (q q′ : MeshQto) : Type 0 where
   pub smallest : q′ .«smallest_surface_m2» ≡ q .«smallest_surface_m2»
   pub count : q′ .«surface_count» ≡ q .«surface_count»
   pub profile : q′ .«profile_invalid» ≡ q .«profile_invalid»
+  pub used : q′ .«triangles_used» ≡ q .«triangles_used»
+  pub out-of-range : q′ .«triangles_out_of_range» ≡ q .«triangles_out_of_range»
+  pub sliver : q′ .«triangles_sliver» ≡ q .«triangles_sliver»
   -- the bound itself may differ, but it is a number in both or in neither
   pub bounded : prismNumber (q′ .«volume_prism_bound_m3») ≡ prismNumber (q .«volume_prism_bound_m3»)
 

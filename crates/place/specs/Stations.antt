@@ -7,7 +7,8 @@ use lib.IntN.{ℤ}
 use lib.ListN.{length}
 use lib.Ieee.{Float}
 use Rattle.ids.specs.Lent.{cleared}
-use Rattle.sums.specs.Box.{box, boxVolume}
+use Rattle.sums.specs.Box.{box, origin, boxVolume}
+use Rattle.walk.specs.Counts.{countsOf}
 use Rattle.weld.specs.Weld.{epsilonOf, welded}
 use Rattle.refusals.specs.Refusals.{unitFits, checkOf}
 use Rattle.vertices.specs.Areas.{workWords}
@@ -25,6 +26,7 @@ pub record Stations (ids : List ℕ) (u : Float) : Type 0 where
   -- corners are rebased by the box, and all else is made of them
   pub sums : Stays (λ vs. totals vs ids)
   pub rows : Stays (λ vs. surfaceRows vs ids u)
+  pub counts : Stays (λ vs. countsOf vs (origin (box vs)) ids)
   -- the weld's cells show the place; which vertex names one does not
   pub weld : T (unitEnough u) → T (unitFits u) → Stays (λ vs. welded vs ids (epsilonOf distance u))
   pub quality : T (unitEnough u) → T (unitFits u) → Stays (λ vs. verdict vs ids u (measures vs ids u .volume))

@@ -21,6 +21,7 @@ use Rattle.ieee.specs.SameInteger.{sameInteger}
 use Rattle.rows.specs.Rows.{inserted, largest, leastAbove, precedes, scaled, smallest, sorted}
 use Rattle.surfaces.specs.Surfaces.{addArea, normalKey, rows, sameKey, tenths}
 use Rattle.walk.specs.Walk.{bucketsTo, withSurface}
+use Rattle.walk.specs.Counts.{countsOf, howMany, isOutOfRange, isSliver, isUsed}
 use Rattle.verdict.specs.Verdict.{byChain, byFaces, nearZero, quality, tooLarge}
 use Rattle.volume.specs.Best.{bestOf}
 use Rattle.record.specs.Flags.{ifClip, ifInvalid}
@@ -52,7 +53,7 @@ unfolding cubeFile floatsOf cubeRecord recordOf recordBy recordFrom verdict meas
     present unbalanced crowded keysThat keys counting uses signedSum bit sumBy maxBy distinct overTriangles best bestOf buckets
     surfaceRows bucketsTo withSurface tenths normalKey sameKey sameInteger addArea rows precedes inserted sorted scaled largest leastAbove
     smallest least greatest magnitude integral rounded rootRound closestRoot floorRoot digits root add sub mul div lt le eq neg sum
-    round units odd numberSize climb span isNan ofBits ofFields ofInt toSigned
+    round units odd numberSize climb span isNan ofBits ofFields ofInt toSigned countsOf howMany isOutOfRange isSliver isUsed
 cube-record = refl
 
 cube-rows : surfaceRows (floatsOf (cubeFile .vertices)) (cubeFile .ids) (ofBits binary32 (cubeFile .unit)) ≡ cubeRows

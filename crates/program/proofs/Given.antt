@@ -18,7 +18,7 @@ use Rattle.pieces.specs.declared.PieceCount.{PieceCount}
 use Rattle.pieces.specs.Answer.{PiecesGiven}
 use Rattle.listing.specs.declared.Listed.{Listed}
 use Rattle.listing.specs.Listing.{listingOf, refusedLine}
-use Rattle.listing.specs.Lists.{textBytes, textAreasShort, listedAs, areaWith, listingFor, Lists, ListsRefusal}
+use Rattle.listing.specs.Lists.{headBytes, textBytes, textAreasShort, listedAs, areaWith, listingFor, Lists, ListsRefusal}
 use Rattle.program.specs.Program.{Prints}
 
 -- ---- pieces
@@ -45,11 +45,11 @@ listed-prints : (b : Bool) (text area : List ℕ) (r : Listed) (area′ : List �
 unfolding lengthIn listedAs areaWith
 listed-prints b text area r area′ e hr ha = record { answers = rw (hr, e); later = rw (ha, e) }
 
-pub refusal-prints : (n : ℕ) (area : List ℕ) (r : Listed) (area′ : List ℕ) → 320 ≤ length area → ListsRefusal n area r area′
+pub refusal-prints : (n : ℕ) (area : List ℕ) (r : Listed) (area′ : List ℕ) → headBytes ≤ length area → ListsRefusal n area r area′
     → Prints (refusedLine n) area (lengthIn r) area′
 unfolding textBytes
 refusal-prints n area r area′ h given =
-    listed-prints _ (refusedLine n) area r area′ (le-ltb (length area) 320 h) (given .answers) (given .text)
+    listed-prints _ (refusedLine n) area r area′ (le-ltb (length area) headBytes h) (given .answers) (given .text)
 
 -- the flags leave the number of rows alone
 keeps-count : (clip : Bool) (p : Profile) (q : MeshQto) → flagged clip p q .«surface_count» ≡ q .«surface_count»
@@ -60,18 +60,18 @@ keeps-count false Profile.Valid q = refl
 keeps-count false (Profile.Invalid d) q = refl
 
 module _ (clip : Bool) (p : Profile) (q : MeshQto) (s : List Float) (n : ℕ) (area : List ℕ) where
-  not-short : 4 * q .«surface_count» ≤ length s → 320 + 36 * q .«surface_count» ≤ length area
+  not-short : 4 * q .«surface_count» ≤ length s → headBytes + 36 * q .«surface_count» ≤ length area
       → textAreasShort (flagged clip p q .«surface_count») (length s) (length area) ≡ false
   unfolding textBytes
   not-short hs ha =
-      rw (keeps-count clip p q, le-ltb (length s) (4 * q .«surface_count») hs, le-ltb (length area) (320 + 36 * q .«surface_count») ha)
+      rw (keeps-count clip p q, le-ltb (length s) (4 * q .«surface_count») hs, le-ltb (length area) (headBytes + 36 * q .«surface_count») ha)
 
   same-text : listingFor (flagged clip p q) s n ≡ listingOf (flagged clip p q) (rowsOf (take (4 * q .«surface_count») s)) n
   unfolding listingFor
   same-text = ap (λ (k : ℕ). listingOf (flagged clip p q) (rowsOf (take (4 * k) s)) n) (keeps-count clip p q)
 
   pub record-prints : (f : MeshQto) (r : Listed) (area′ : List ℕ) → f ≡ flagged clip p q → 4 * q .«surface_count» ≤ length s
-      → 320 + 36 * q .«surface_count» ≤ length area
+      → headBytes + 36 * q .«surface_count» ≤ length area
       → Lists f s n area r area′ → Prints (listingOf (flagged clip p q) (rowsOf (take (4 * q .«surface_count») s)) n) area
       (lengthIn r) area′
   record-prints f r area′ e hs ha given =

@@ -6,6 +6,7 @@ ghost use Rattle.ids.specs.Pieces.{shareId, pieces as piecesIn};
 ghost use Rattle.rows.specs.Rows.{rowsOf};
 ghost use Rattle.record.specs.Flags.{flagged};
 ghost use Rattle.listing.specs.Listing.{listingOf, refusedLine};
+ghost use Rattle.listing.specs.Lists.{headBytes};
 ghost use Rattle.program.specs.Program.{meshText, textOf, Prints};
 ghost use Rattle.program.specs.Promises.{PrintsFront};
 use listing::Listed;
@@ -17,6 +18,9 @@ use record::MeshQto;
 
 // How many bytes of its input a program keeps. The longest file has one byte less, so these decide about all input (`PrintsFront`).
 pub const KEPT: usize = 12319;
+
+// How many bytes the longest listing asks for: 512 rows.
+pub const TEXT: usize = 18784;
 
 // The number of pieces: with this work area it is never refused.
 fn pieces_of(ids: &[u32], work: &mut [u32]) -> u32
@@ -32,7 +36,7 @@ fn pieces_of(ids: &[u32], work: &mut [u32]) -> u32
 
 // `refused N`.
 fn print_refusal(n: u8, text: &mut [u8]) -> usize
-    requires { ⌜ 320 ≤ length (now text) ⌝ }
+    requires { ⌜ headBytes ≤ length (now text) ⌝ }
     ensures { λ r. ⌜ Prints (refusedLine n) (now (text .entry)) r (now (text .exit)) ⌝ }
 {
     let said = listing::list_refusal(n, text);
@@ -44,7 +48,7 @@ fn print_refusal(n: u8, text: &mut [u8]) -> usize
 
 // The listing of a record with the file's flags.
 fn print_record(q: MeshQto, m: MeshFile, count: u32, surfaces: &[f32], text: &mut [u8]) -> usize
-    requires { ⌜ (4 * q .«surface_count» ≤ length (now surfaces)) × (320 + 36 * q .«surface_count» ≤ length (now text)) ⌝ }
+    requires { ⌜ (4 * q .«surface_count» ≤ length (now surfaces)) × (headBytes + 36 * q .«surface_count» ≤ length (now text)) ⌝ }
     ensures { λ r. ⌜ Prints
         (listingOf (flagged (m .clip) (m .profile) q) (rowsOf (take (4 * q .«surface_count») (now (surfaces .entry)))) count)
         (now (text .entry)) r (now (text .exit)) ⌝ }
@@ -60,7 +64,7 @@ fn print_record(q: MeshQto, m: MeshFile, count: u32, surfaces: &[f32], text: &mu
 
 // The mesh of a file: its listing, or the refusal of document 01's table.
 fn print_mesh(m: MeshFile, vertices: &[f32], ids: &[u32], text: &mut [u8]) -> usize
-    requires { ⌜ (length (now vertices) ≤ 1536) × (length (now ids) ≤ 1536) × (length (now text) ≡ 18752) ⌝ }
+    requires { ⌜ (length (now vertices) ≤ 1536) × (length (now ids) ≤ 1536) × (length (now text) ≡ 18784) ⌝ }
     ensures { λ r. ⌜ Prints (meshText (now (vertices .entry)) (now (ids .entry)) (m .unit) (m .clip) (m .profile))
         (now (text .entry)) r (now (text .exit)) ⌝ }
 {
@@ -76,7 +80,7 @@ fn print_mesh(m: MeshFile, vertices: &[f32], ids: &[u32], text: &mut [u8]) -> us
 }
 
 // What the program prints for the bytes that it has read: the text stands first in the area, and its length comes back.
-pub fn run(bytes: &[u8], text: &mut [u8; 18752]) -> usize
+pub fn run(bytes: &[u8], text: &mut [u8; TEXT]) -> usize
     ensures { λ r. ⌜ Prints (textOf (now (bytes .entry))) (now (text .entry)) r (now (text .exit)) ⌝ }
 {
     let mut vertices = [0f32; 1536];
@@ -89,7 +93,7 @@ pub fn run(bytes: &[u8], text: &mut [u8; 18752]) -> usize
 }
 
 // What the program prints for an input of which it has kept the first n bytes: all of it, or as many as the area holds.
-pub fn run_front(bytes: &[u8; KEPT], n: usize, text: &mut [u8; 18752]) -> usize
+pub fn run_front(bytes: &[u8; KEPT], n: usize, text: &mut [u8; TEXT]) -> usize
     ensures { λ r. ⌜ PrintsFront (now (bytes .entry)) n (now (text .entry)) r (now (text .exit)) ⌝ }
 {
     let all: &[u8] = bytes;

@@ -14,7 +14,9 @@ use Rattle.sums.specs.Totals.{scaledAreas, thresholds, totalsTo}
 use Rattle.rows.specs.declared.PlanarSurface.{PlanarSurface}
 use Rattle.rows.specs.Rows.{flatten, scaled, sorted, largest, smallest}
 use Rattle.surfaces.specs.Surfaces.{Bucket, rows}
+use Rattle.walk.specs.declared.TriangleCounts.{TriangleCounts}
 use Rattle.walk.specs.Walk.{bucketsTo}
+use Rattle.walk.specs.Counts.{countsOf}
 use Rattle.weld.specs.Weld.{epsilonOf}
 use Rattle.verdict.specs.declared.Quality.{Quality}
 use Rattle.verdict.specs.Verdict.{quality}
@@ -57,8 +59,8 @@ surfacesAfter vs ids u s = flatten (surfaceRows vs ids u) ++ drop (4 * length (s
 
 -- ---- what is measured
 
-unfoldable pub measuresFrom : Totals → List PlanarSurface → Float → Measures
-measuresFrom t rs u =
+unfoldable pub measuresFrom : Totals → List PlanarSurface → TriangleCounts → Float → Measures
+measuresFrom t rs c u =
     record {
       volume = volumeOf t u;
       surface = surfaceOf t u;
@@ -66,10 +68,11 @@ measuresFrom t rs u =
       largest = largest rs;
       smallest = smallest rs;
       count = length rs;
+      triangles = c;
     }
 
 unfoldable pub measures : List Float → List ℕ → Float → Measures
-measures vs ids u = measuresFrom (totals vs ids) (surfaceRows vs ids u) u
+measures vs ids u = measuresFrom (totals vs ids) (surfaceRows vs ids u) (countsOf vs (origin (box vs)) ids) u
 
 -- ---- verdict and best volume
 
@@ -104,6 +107,9 @@ recordFrom m aabb q b =
       «volume_best_m3» = b .volume;
       «volume_prism_bound_m3» = b .prism;
       «profile_invalid» = Profile.Valid;
+      «triangles_used» = m .triangles .used;
+      «triangles_out_of_range» = m .triangles .«out_of_range»;
+      «triangles_sliver» = m .triangles .sliver;
     }
 
 unfoldable pub recordBy : List Float → List ℕ → Float → Measures → Quality → MeshQto

@@ -3,6 +3,7 @@ pub mod Full
 pub mod Surfaces
 pub mod Starred
 pub mod Compute
+pub mod Counts
 pub mod Numbers
 pub mod Domain
 pub mod inner

@@ -1,4 +1,4 @@
--- The record as the C interface has it: 17 words, and refusals as numbers. Flag values that are none are refusal 5, tried first.
+-- The record as the C interface has it: 20 words, and refusals as numbers. Flag values that are none are refusal 5, tried first.
 use mathlib.Core.Path.{_≡_}
 use Prim.Native.Nat.{ℕ, _+_}
 use mathlib.Core.Bool.{not, cond}
@@ -18,7 +18,7 @@ use Rattle.vertices.specs.Areas.{workWords, rasterBytes}
 use Rattle.qto.specs.Full.{recordOf, surfacesAfter}
 use Rattle.qto.specs.Compute.{areaAt}
 
--- the 17 words
+-- the 20 words
 unfoldable pub wordsOf : MeshQto → List ℕ
 wordsOf q =
     qualityNumber (q .«mesh_quality»)
@@ -38,6 +38,9 @@ wordsOf q =
     ∷ prismNumber (q .«volume_prism_bound_m3»)
     ∷ prismBits (q .«volume_prism_bound_m3»)
     ∷ q .«surface_count»
+    ∷ q .«triangles_used»
+    ∷ q .«triangles_out_of_range»
+    ∷ q .«triangles_sliver»
     ∷ []
 
 abbrev pub withFlags : ℕ → ℕ → MeshQto → MeshQto

@@ -14,6 +14,7 @@ use refusals::Check;
 use sums::Areas;
 use sums::Bounds;
 use verdict::Sizes;
+use walk::TriangleCounts;
 
 // ---- what is measured
 
@@ -41,6 +42,7 @@ pub struct Measures {
     pub largest: f32,
     pub smallest: f32,
     pub count: usize,
+    pub triangles: TriangleCounts,
 }
 
 // The sums over the mesh, and its surface rows.
@@ -58,7 +60,7 @@ fn measure(
 {
     let square = unit_scale * unit_scale;
     let cube = std::num::f32_to_f64_with_nan(square * unit_scale);
-    let s = walk::walk(
+    let w = walk::walk(
         vertices,
         indices,
         sums::origin(b),
@@ -66,6 +68,8 @@ fn measure(
         index,
         surfaces,
     );
+    let s = w.sums;
+    let triangles = w.counts;
     let n = s.rows;
     let t = s.totals;
     let areas = t.areas;
@@ -77,6 +81,7 @@ fn measure(
         largest: e.largest,
         smallest: e.smallest,
         count: n,
+        triangles,
     }
 }
 
@@ -124,6 +129,9 @@ fn record_by(
         volume_best_m3: best.volume,
         volume_prism_bound_m3: prism,
         profile_invalid: Profile::Valid,
+        triangles_used: m.triangles.used,
+        triangles_out_of_range: m.triangles.out_of_range,
+        triangles_sliver: m.triangles.sliver,
     }
 }
 

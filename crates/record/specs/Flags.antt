@@ -1,4 +1,5 @@
 -- Flags (01): what an unapplied clip and a profile defect do to a record. Its numbers and its quality stay.
+use mathlib.Core.Path.{_≡_}
 use mathlib.Core.Bool.{Bool, true, false}
 use Rattle.volume.specs.declared.Method.{Method}
 use Rattle.record.specs.declared.MeshQto.{MeshQto}
@@ -33,6 +34,9 @@ marked m p q =
       «volume_best_m3» = q .«volume_best_m3»;
       «volume_prism_bound_m3» = q .«volume_prism_bound_m3»;
       «profile_invalid» = p;
+      «triangles_used» = q .«triangles_used»;
+      «triangles_out_of_range» = q .«triangles_out_of_range»;
+      «triangles_sliver» = q .«triangles_sliver»;
     }
 
 -- clip unapplied: not reliable, and mesh_unclipped
@@ -54,3 +58,12 @@ ifInvalid (Profile.Invalid d) q = profileInvalid q d
 
 abbrev pub flagged : Bool → Profile → MeshQto → MeshQto
 flagged clip profile q = ifInvalid profile (ifClip clip q)
+
+-- flags leave the counts of triangles alone (02, A1; `flags-leave-counts`)
+pub record SameCounts (q q′ : MeshQto) : Type 0 where
+  pub used : q′ .«triangles_used» ≡ q .«triangles_used»
+  pub out-of-range : q′ .«triangles_out_of_range» ≡ q .«triangles_out_of_range»
+  pub sliver : q′ .«triangles_sliver» ≡ q .«triangles_sliver»
+
+abbrev pub FlagsLeaveCounts : Type 0
+FlagsLeaveCounts = (clip : Bool) (profile : Profile) (q : MeshQto) → SameCounts q (flagged clip profile q)

@@ -27,4 +27,7 @@ zeroRecord =
       «volume_best_m3» = nought;
       «volume_prism_bound_m3» = PrismBound.Bound nought;
       «profile_invalid» = Profile.Valid;
+      «triangles_used» = 0;
+      «triangles_out_of_range» = 0;
+      «triangles_sliver» = 0;
     }

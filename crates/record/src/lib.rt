@@ -40,6 +40,10 @@ pub struct MeshQto {
     pub volume_best_m3: f32,
     pub volume_prism_bound_m3: PrismBound,
     pub profile_invalid: Profile,
+    // triangles: used, and left out because an id is out of range or because they are slivers
+    pub triangles_used: u32,
+    pub triangles_out_of_range: u32,
+    pub triangles_sliver: u32,
 }
 
 // The record of fewer than 3 ids or 9 floats.
@@ -63,6 +67,9 @@ pub fn zero_record() -> MeshQto
         volume_best_m3: 0.0,
         volume_prism_bound_m3: PrismBound::Bound(0.0),
         profile_invalid: Profile::Valid,
+        triangles_used: 0,
+        triangles_out_of_range: 0,
+        triangles_sliver: 0,
     }
 }
 
@@ -102,6 +109,9 @@ fn marked(method: Method, profile: Profile, q: MeshQto) -> MeshQto
         volume_best_m3: q.volume_best_m3,
         volume_prism_bound_m3: prism,
         profile_invalid: profile,
+        triangles_used: q.triangles_used,
+        triangles_out_of_range: q.triangles_out_of_range,
+        triangles_sliver: q.triangles_sliver,
     }
 }
 

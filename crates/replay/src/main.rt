@@ -110,7 +110,7 @@ fn print_line_of(bytes: &[u8]) {
 // ---- one mesh after the other
 
 fn print_listing(bytes: &[u8]) {
-    let mut text = [0u8; 18752];
+    let mut text = [0u8; program::TEXT];
     let end = program::run(bytes, &mut text);
     io::write_all(STDOUT_FILENO, &text[..end]);
 }

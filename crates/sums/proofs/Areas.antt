@@ -4,19 +4,21 @@ use mathlib.Core.Path.{_≡_}
 use mathlib.Core.List.{List}
 use Prim.Native.Nat.{ℕ, _^_}
 use lib.Dec.{T, lit≤}
-use lib.Ieee.{Float, binary32, binary64, ofBits}
+use mathlib.Core.Bool.{true, not}
+use lib.Ieee.{Float, binary32, binary64, isNan, ofBits}
 use lib.Ieee.Fits.{add-fits}
 use Rattle.ieee.specs.Rounded.{rounded}
 use Rattle.ieee.specs.Double.{_⊞_, _⊠_}
 use Rattle.ids.specs.Triangles.{Triangle}
+use Rattle.vertices.specs.Vertices.{cornersInRange}
 use Rattle.sums.specs.declared.triangle.Facet.{Facet}
 use Rattle.sums.specs.Box.{box, origin}
-use Rattle.sums.specs.Facet.{used, at, dot, corner, normal, size, tetra, half64, facetOf, part}
+use Rattle.sums.specs.Facet.{used, at, dot, corner, normal, size, tetra, half64, facetOf, part, rebasedCorners}
 use Rattle.sums.specs.inner.Plus.{plus}
 use Rattle.sums.specs.Fine.{allFine}
 use Rattle.sums.proofs.Plus.{plus-add, plus-mul-left, plus-root, plus-rounded, plus-square}
 use Rattle.sums.proofs.Roots.{within-root}
-use Rattle.sums.proofs.Small.{Three, Small, dot-three, normal-three, part-has}
+use Rattle.sums.proofs.Small.{Three, Small, dot-three, normal-three, part-has, small-at}
 use Rattle.sums.proofs.VolumeTerm.{volume-within}
 use Rattle.sums.proofs.Within.{Within, power-value, within-mul, within-number, within-rounded}
 
@@ -51,6 +53,13 @@ size-within : (n : List Float) → Three (2 ^ 71) n → Within (2 ^ 72) (size n)
 unfolding size
 size-within n p =
     within-root binary64 72 (lit≤ tt) (dot n n) (add-fits binary64 _ _) (dot-plus (2 ^ 71) n p) (dot-three 71 71 n n (lit≤ tt) p p)
+
+-- so the length of a cross product is a number
+pub size-number : (vs : List Float) (t : Triangle) → T (allFine vs) → cornersInRange vs t ≡ true
+    → T (not (isNan (size (normal (rebasedCorners vs (origin (box vs)) t)))))
+size-number vs t h r =
+    let corners = rebasedCorners vs (origin (box vs)) t in
+    within-number (2 ^ 72) (size (normal corners)) (size-within (normal corners) (normal-three corners (small-at vs t h r)))
 
 half-within : Within (2 ^ 0) half64
 unfolding ofBits

@@ -106,6 +106,15 @@ rebased-octant vs v h l =
           above = sub-sides binary64 x o (X .finite-is) (O .finite-is) .1 (lowest-le vs h axis a (vertexCount vs) v (omega arith) l);
         }
 
+pub small-at : (vs : List Float) (t : Triangle) → T (allFine vs) → cornersInRange vs t ≡ true → Small (rebasedCorners vs (origin (box vs)) t)
+small-at vs t h r =
+    let in-range = corners-are vs t r in
+    record {
+      a = rebased-octant vs (t .a) h (in-range .a);
+      b = rebased-octant vs (t .b) h (in-range .b);
+      c = rebased-octant vs (t .c) h (in-range .c);
+    }
+
 -- what all facets of such corners have, a used one has
 module _ (P : Facet → Type 0) (has : (t : List (List Float)) → Small t → P (facetOf t (normal t) (size (normal t)))) where
   used-has : (t : List (List Float)) (f : Facet) → Small t → partOf t ≡ used f → P f
@@ -124,12 +133,4 @@ module _ (P : Facet → Type 0) (has : (t : List (List Float)) → Small t → P
     where
       go : (b : Bool) → cornersInRange vs t ≡ b → cond b (partOf (rebasedCorners vs (origin (box vs)) t)) outOfRange ≡ used f → P f
       go false r e = let no : _≡_ {A = ℕ} 0 1 = cc in absurd (omega arith)
-      go true r e =
-          let in-range = corners-are vs t r in
-          used-has (rebasedCorners vs (origin (box vs)) t) f
-          (record {
-            a = rebased-octant vs (t .a) h (in-range .a);
-            b = rebased-octant vs (t .b) h (in-range .b);
-            c = rebased-octant vs (t .c) h (in-range .c);
-          })
-          e
+      go true r e = used-has (rebasedCorners vs (origin (box vs)) t) f (small-at vs t h r) e

@@ -88,7 +88,7 @@ fn read_input(bytes: &mut [u8], n: usize) -> Input
 
 // Prints what the first n bytes of an input are worth.
 fn print(bytes: &[u8; program::KEPT], n: usize) {
-    let mut text = [0u8; 18752];
+    let mut text = [0u8; program::TEXT];
     let end = program::run_front(bytes, n, &mut text);
     if !io::write_all(STDOUT_FILENO, &text[..end]) {
         os::fail(b"standard output");

@@ -20,8 +20,10 @@ use Rattle.surfaces.specs.Surfaces.{Bucket, normalKey}
 use Rattle.surfaces.specs.inner.Index.{AddsArea, Ready}
 use Rattle.surfaces.proofs.Gathering.{gathered-none}
 use Rattle.surfaces.proofs.Keys.{length-put-le}
+use Rattle.walk.specs.declared.TriangleCounts.{TriangleCounts}
 use Rattle.walk.specs.Walk.{withSurface, bucketsTo}
 use Rattle.walk.specs.inner.Steps.{Given, trianglesIn, partAt, bucketsOf, State, state, Takes, Taken, Awaits, Underway}
+use Rattle.walk.specs.inner.Counting.{partCounts}
 use Rattle.walk.specs.inner.Walks.{Walks}
 
 -- ---- a part is taken
@@ -126,12 +128,14 @@ module _ (g : Given) where
       }
 
   -- the walk as a whole
-  pub walks : (s : State) → Taken g (trianglesIn g) s → Walks (g .vs) (g .o) (g .pair) (g .ids) (g .area) (s .sums) (s .rows)
-  walks s a =
+  pub walks : (s : State) (c : TriangleCounts) → Taken g (trianglesIn g) s → c ≡ partCounts (g .vs) (g .o) (g .ids)
+      → Walks (g .vs) (g .o) (g .pair) (g .ids) (g .area) (record { sums = s .sums; counts = c }) (s .rows)
+  walks s c a h =
       record {
         totals = a .totals;
         count = a .rows;
         few = omega (arith, a .rows, buckets-le g (trianglesIn g));
         surfaces =
             a .means .filled;
+        counts = h;
       }

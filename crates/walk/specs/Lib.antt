@@ -1,5 +1,6 @@
 -- The sums over all triangles of a mesh.
 pub mod Walk
+pub mod Counts
 pub mod Worth
 pub mod Domain
 pub mod inner

@@ -1,7 +1,9 @@
-// One walk over the triangles: the totals, and a row for each key of a normal. Internal: `qto` asks it.
+// One walk over the triangles: the totals, a row for each key of a normal, and how many triangles were used and left out. Internal: `qto`
+// asks it.
 ghost use Rattle.surfaces.specs.inner.Index.{Ready};
 ghost use Rattle.sums.specs.inner.Prepared.{partBy};
 ghost use Rattle.walk.specs.inner.Steps.{state, Takes};
+ghost use Rattle.walk.specs.inner.Counting.{Countable, CountsPart};
 ghost use Rattle.walk.specs.inner.Walks.{Walkable, Walks};
 use sums::Prepared;
 use sums::Thresholds;
@@ -11,6 +13,19 @@ use sums::Totals;
 pub struct Sums {
     pub totals: Totals,
     pub rows: usize,
+}
+
+// How many triangles were used, and how many left out and why.
+pub struct TriangleCounts {
+    pub used: u32,
+    pub out_of_range: u32,
+    pub sliver: u32,
+}
+
+// What a walk over all triangles gives.
+pub struct Walked {
+    pub sums: Sums,
+    pub counts: TriangleCounts,
 }
 
 // What is prepared of a triangle more: a facet adds its row and its part of the totals.
@@ -41,7 +56,23 @@ fn take(
     }
 }
 
-// The sums of all triangles. The rows stand first in the surface area; the index, 5 words a triangle, is left as it is, since all words are
+// It is counted: used or a sliver. What is neither is out of range, or no triangle.
+fn count(mut c: TriangleCounts, p: Prepared) -> TriangleCounts
+    requires { ⌜ Countable c ⌝ }
+    ensures { λ r. ⌜ CountsPart (partBy p) c r ⌝ }
+{
+    if !p.in_range {
+        return c;
+    }
+    if p.length < 1e-12 {
+        c.sliver += 1;
+    } else {
+        c.used += 1;
+    }
+    c
+}
+
+// The sums and counts of all triangles. The rows stand first in the surface area; the index, 5 words a triangle, is left as it is, since all words are
 // cleared when the verdict is known. In one turn a triangle gets its cross product, the one in front of it its root, and the one in front
 // of that is taken: the three have nothing to do with each other, so that a processor looks for a row while it works at a root.
 pub fn walk(
@@ -51,7 +82,7 @@ pub fn walk(
     pair: Thresholds,
     index: &mut [u32],
     rows: &mut [f32],
-) -> Sums
+) -> Walked
     requires { ⌜ Walkable (now vertices) (now indices) (now index) (now rows) ⌝ }
     ensures { λ r. ⌜ Walks (now (vertices .entry)) origin pair (now (indices .entry)) (now (rows .entry)) r (now (rows .exit)) ⌝ }
 {
@@ -62,16 +93,23 @@ pub fn walk(
         totals: Totals::none(),
         rows: 0,
     };
+    let mut counts = TriangleCounts {
+        used: 0,
+        out_of_range: 0,
+        sliver: 0,
+    };
     let mut held = sums::nothing();
     let mut next = sums::nothing();
     let mut t = 0;
     while t <= m + 1 {
         let p = sums::with_root(next, held);
         let r = sums::cross_at(vertices, indices, origin, t);
+        counts = count(counts, held);
         s = take(pair, s, held, index, rows, m);
         held = p;
         next = r;
         t += 1;
     }
-    s
+    counts.out_of_range = m as u32 - counts.used - counts.sliver;
+    Walked { sums: s, counts }
 }

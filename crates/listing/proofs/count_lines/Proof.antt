@@ -1,18 +1,23 @@
 -- `listing::count_lines` meets its contract: its lines, one behind the other. Assumes nothing.
 use borrow.Author.Needs.{needs}
 use Rattle.spelling.specs.Text.{line}
-use Rattle.listing.specs.Listing.{countLines}
 use Rattle.spelling.proofs.Puts.{puts-both}
+use Rattle.listing.specs.Listing.{countLines}
 use Rattle.listing.proofs.count_lines.Statement.{statement}
 use Rattle.listing.proofs.count_lines.Tie as tie
 
 returns : tie.Need-returns
 unfolding line countLines
 returns c =
-    let y = c .before .before in
-    let x = y .before .before .before .before .before in
-    (puts-both (x .count-line .ensures .0) (y .count-line2 .ensures .0) (search needs), search needs)
+    let z = c .before .before in
+    let y = z .before .before .before .before .before in
+    let x = y .before .before .before .before in (
+      puts-both (x .count-line .ensures .0) (puts-both (y .triangle-lines .ensures .0) (z .count-line2 .ensures .0) (search needs)) (search needs),
+      search needs,
+    )
 
 pub count-lines-spec : {M : Type 1} → statement M
 count-lines-spec =
-    tie.close (tie.spec (λ c. search needs) (λ c κs. search needs) (λ c. search needs) (λ c κs. search needs) (λ c. search needs) returns)
+    tie.close
+    (tie.spec (λ c. search needs) (λ c κs. search needs) (λ c κs. search needs) (λ c. search needs) (λ c κs. search needs)
+    (λ c. search needs) returns)

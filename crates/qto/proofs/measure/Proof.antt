@@ -37,24 +37,24 @@ module _ (c : tie.After-walk) where
         walked = c .walk .ensures;
       }
 
-abbrev at-walk : tie.After-areas → tie.After-walk
-at-walk c = c .before .before .before .before .before .before
+abbrev at-walk : tie.After-s → tie.After-walk
+at-walk c = c .before .before .before .before .before
 
 arrange-requires : tie.Need-arrange-requires
 arrange-requires c κs =
-    let k = at-walk (c .before) in
-    arrangeable (u k) (found k) (4 * k .walk .result .rows - 0) (omega arith) (s k .pre .mesh)
+    let k = at-walk (c .before .before .before .before) in
+    arrangeable (u k) (found k) (4 * k .walk .result .sums .rows - 0) (omega arith) (s k .pre .mesh)
 
 returns : tie.Need-returns
 returns c =
     let after = c .before .before .before .before in
     let last = after .before .before .before .before in
-    let k = at-walk (last .before .before) in
-    let front = 4 * k .walk .result .rows in
+    let k = at-walk (last .before .before .before .before .before) in
+    let front = 4 * k .walk .result .sums .rows in
     let e = last .arrange in
     record {
       is =
-          measured (u k) (found k) (front - 0) (omega arith) (e .result) _ (e .ensures) _ _ _ _ _ (after .narrow .ensures)
+          measured (u k) (found k) (front - 0) (omega arith) (e .result) _ (e .ensures) _ _ _ _ _ (s k .pre .mesh .fine) (after .narrow .ensures)
           (from-origin k .before .f32-to-f64-with-nan .ensures) (c .before .narrow2 .ensures)
           (c .before .before .before .f32-to-f64-with-nan2 .ensures) (c .scaled .ensures);
       few = few (u k) (found k) (s k .pre .mesh .ids-most);

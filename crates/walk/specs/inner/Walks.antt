@@ -12,8 +12,9 @@ use Rattle.sums.specs.Fine.{allFine}
 use Rattle.sums.specs.Totals.{totalsTo}
 use Rattle.rows.specs.Rows.{flatten}
 use Rattle.surfaces.specs.Surfaces.{Bucket, rows}
-use Rattle.walk.specs.declared.Sums.{Sums}
+use Rattle.walk.specs.declared.Walked.{Walked}
 use Rattle.walk.specs.Walk.{bucketsTo}
+use Rattle.walk.specs.inner.Counting.{partCounts}
 
 -- a mesh that has passed the refusals, and room for its rows: t for their index, u for the rows themselves
 pub record Walkable (vs : List Float) (ids t : List ℕ) (u : List Float) : Type 0 where
@@ -27,9 +28,10 @@ pub record Walkable (vs : List Float) (ids t : List ℕ) (u : List Float) : Type
 abbrev pub withRows : List Bucket → List Float → List Float
 withRows bs s = flatten (rows bs) ++ drop (4 * length bs) s
 
--- r are the sums over all triangles, and u is the surface area s with their rows first
-pub record Walks (vs o : List Float) (p : Thresholds) (ids : List ℕ) (s : List Float) (r : Sums) (u : List Float) : Type 0 where
-  pub totals : r .totals ≡ totalsTo vs o p ids (triangleCount ids)
-  pub count : r .rows ≡ length (bucketsTo vs o ids (triangleCount ids))
-  pub few : r .rows ≤ triangleCount ids
+-- r are the sums and counts over all triangles, and u is the surface area s with their rows first
+pub record Walks (vs o : List Float) (p : Thresholds) (ids : List ℕ) (s : List Float) (r : Walked) (u : List Float) : Type 0 where
+  pub totals : r .sums .totals ≡ totalsTo vs o p ids (triangleCount ids)
+  pub count : r .sums .rows ≡ length (bucketsTo vs o ids (triangleCount ids))
+  pub few : r .sums .rows ≤ triangleCount ids
   pub surfaces : u ≡ withRows (bucketsTo vs o ids (triangleCount ids)) s
+  pub counts : r .counts ≡ partCounts vs o ids

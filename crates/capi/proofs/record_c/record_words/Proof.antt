@@ -30,6 +30,9 @@ returns c =
     ∷ c .before .prism-number .ensures i
     ∷ c .prism-bits .ensures i
     ∷ quality .before .args .q .«surface_count»
+    ∷ quality .before .args .q .«triangles_used»
+    ∷ quality .before .args .q .«triangles_out_of_range»
+    ∷ quality .before .args .q .«triangles_sliver»
     ∷ []
 
 pub record-words-spec : {M : Type 1} → statement M

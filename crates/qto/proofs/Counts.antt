@@ -1,0 +1,30 @@
+-- In every full record the three counts of triangles add up: the record carries those of the mesh, and the mesh passed refusal 4. Assumes
+-- nothing.
+use mathlib.Core.Path.{_≡_, refl, sym, _∙_, ap}
+use mathlib.Core.List.{List}
+use Prim.Native.Nat.{ℕ, _+_}
+use lib.ListN.{length}
+use lib.Ieee.{Float}
+use Rattle.ids.specs.Triangles.{triangleCount}
+use Rattle.walk.proofs.Counts.{counts-add-up}
+use Rattle.record.specs.declared.MeshQto.{MeshQto}
+use Rattle.refusals.specs.declared.Check.{Check}
+use Rattle.refusals.specs.Refusals.{Passes}
+use Rattle.refusals.proofs.Checks.{admitted}
+use Rattle.qto.specs.declared.Answer.{Answer}
+use Rattle.qto.specs.Full.{measuresFrom, measures, recordFrom, recordBy, recordOf}
+use Rattle.qto.specs.Compute.{answerAt}
+use Rattle.qto.specs.Counts.{FullCounts}
+
+counts-of-mesh : (vs : List Float) (ids : List ℕ) (u : Float) → Passes vs ids u
+    → recordOf vs ids u .«triangles_used» + recordOf vs ids u .«triangles_out_of_range» + recordOf vs ids u .«triangles_sliver»
+    ≡ triangleCount ids
+unfolding recordOf recordBy recordFrom measures measuresFrom
+counts-of-mesh vs ids u p = counts-add-up vs ids (p .fine)
+
+pub full-counts : FullCounts
+unfolding answerAt
+full-counts vs ids u w r s a w′ r′ s′ q c e k =
+    let full : answerAt Check.Full (recordOf vs ids u) ≡ Answer.Record q = ap (λ (x : Check). answerAt x (recordOf vs ids u)) (sym k) ∙ sym (c .answers) ∙ e in
+    let same : recordOf vs ids u ≡ q = cc in
+    rw (← same) (counts-of-mesh vs ids u (admitted vs ids u (length w) (length r) (length s) Check.Full refl (sym k) .mesh))

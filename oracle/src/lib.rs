@@ -2,12 +2,13 @@
 //!
 //! `mesh::qto` is the original's own text, unchanged, compiled from where the build script found it. Everything else
 //! here is ours: what document 01 adds to it (refusals, flags in one call, pieces, the exact form of the one
-//! exception), the program's file format, the listing, and the meshes to try.
+//! exception) and document 02 (the counts of triangles), the program's file format, the listing, and the meshes to try.
 
 #[allow(dead_code, clippy::all)]
 pub mod mesh;
 
 pub mod compute;
+pub mod counts;
 pub mod exception;
 pub mod file;
 pub mod floats;

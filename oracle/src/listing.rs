@@ -1,4 +1,4 @@
-//! The listing (01, 'The program `takeoff`'): what the program prints for a file.
+//! The listing (01, 'The program `takeoff`', and 02, A1): what the program prints for a file.
 
 use crate::file::{self, MeshFile};
 use crate::mesh::qto::probe;
@@ -72,6 +72,9 @@ pub fn text(record: &Record, pieces: u32) -> String {
     line("best", &hex(record.best));
     line("prism", &record.prism.map_or("none".to_string(), hex));
     line("pieces", &pieces.to_string());
+    line("used", &record.counts.used.to_string());
+    line("range", &record.counts.range.to_string());
+    line("sliver", &record.counts.sliver.to_string());
     line("surfaces", &record.rows.len().to_string());
     for row in &record.rows {
         line(&hex(row[0]), &format!("{} {} {}", hex(row[1]), hex(row[2]), hex(row[3])));

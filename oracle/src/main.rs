@@ -20,7 +20,7 @@ oracle: the unchanged Rust original, asked in document 01's words
                                exception are named on standard error
   oracle meshes SEED COUNT     writes COUNT meshes in that framing, of every kind in turn
   oracle kinds                 names the kinds, in the order in which 'meshes' takes them
-  oracle reach SEED COUNT      counts what those meshes reach: verdicts, methods, refusals, branches
+  oracle reach SEED COUNT      counts what those meshes reach: verdicts, methods, refusals, branches, triangles left out
   oracle answer                standard input: one file of the program's format, without a length before it; prints its
                                listing or 'refused N', as the program does
   oracle stored                writes the meshes that the crate 'replay' holds (crates/replay/data/meshes), in the framing
@@ -36,8 +36,9 @@ Against the program:
   oracle program N BIN ..      N files through the program BIN, called with the words behind it, a process a file: meshes of
                                every kind in turn, those by hand of 'stored', and files that are empty, full, far too long or
                                written in parts. Output byte for byte, status and an empty standard error; meshes near the
-                               one exception are counted and compared by document 01's exact form; last line 'A agree, D
-                               differ'. MOWFROST_WORKERS: so many processes at a time, by default 2
+                               one exception are counted and compared by document 01's exact form; the lines used, range and
+                               sliver, and pieces, are by a plain reference; last line 'A agree, D differ'.
+                               MOWFROST_WORKERS: so many processes at a time, by default 2
   oracle file NUMBER           writes the file of that number as 'program' sends it
 
 Against the port (x86-64; first, at the root of the repository: rt staticlib capi and rt staticlib probe. For another machine
@@ -61,13 +62,14 @@ MOWFROST_PORT names a folder with a libcapi.a and a libprobe.a of its kind when 
                                turn, over areas that are exact, one short, longer and far too short: refusals, all words
                                of the record, every row and every place of the areas, and that the mesh is as it was; floats
                                by their bits, with NaNs of all sorts wherever one has to stay, which are counted; meshes
-                               near the one exception are counted and compared by document 01's exact form; last line 'A
-                               agree, D differ'
+                               near the one exception are counted and compared by document 01's exact form; words 17 to 19,
+                               how many triangles are used, out of range and slivers, are compared with a plain reference,
+                               and the meshes that have some of each are counted; last line 'A agree, D differ'
   oracle moves N               demand 3 on N pairs of every kind in turn, a whole-number mesh and the same moved by whole
                                numbers, over areas as for 'compute' that hold the same before both calls: the two answers,
                                all words of the record, every place of the areas, and that whatever has to stay did; of two
                                open shells best volume, method, trust and bound may differ, and how often they do is counted;
-                               last line 'A agree, D differ'
+                               so are pairs with an id out of range and with slivers; last line 'A agree, D differ'
   oracle speed compute         milliseconds a record, at an eighth of the most triangles up to all; nanoseconds for small
   oracle speed                 compute and each id routine beside the original on the meshes whose ratios are bounded, with
                                the bound; then how the time grows from a quarter of the most triangles to all

@@ -115,7 +115,7 @@ mod linked {
         }))
     }
 
-    /// A line a kind, one for all kinds, the NaNs that stayed, then the sums.
+    /// A line a kind, one for all kinds, the NaNs that stayed, what the counts were of, then the sums.
     pub fn compute(n: u64) -> io::Result<ExitCode> {
         use compute::compare::{all, Count, PORT};
         let line = |on: &str, count: &Count| reached(on, count.agree, count.differ, &count.reached());
@@ -124,7 +124,7 @@ mod linked {
             show(&mut out, &line(on, &count), &[&count.shown[..], &count.noted].concat())?;
             sums.join(&count);
         }
-        show(&mut out, &line("all kinds", &sums), &[sums.stayed.told()])?;
+        show(&mut out, &line("all kinds", &sums), &[sums.stayed.told(), sums.counted.told()])?;
         end(&mut out, sums.agree, sums.differ)
     }
 
@@ -137,7 +137,8 @@ mod linked {
             show(&mut out, &line(on, &count), &count.shown)?;
             all.join(&count);
         }
-        show(&mut out, &line("all kinds", &all), &[all.stayed.told()])?;
+        let met = format!("counts, the same in both places: pairs with a full record {}", all.met.told());
+        show(&mut out, &line("all kinds", &all), &[all.stayed.told(), met])?;
         end(&mut out, all.agree, all.differ)
     }
 

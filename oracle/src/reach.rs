@@ -1,7 +1,8 @@
-//! What a run of meshes reaches: each verdict, method, refusal and branch of document 01's rules, counted. The road
+//! What a run of meshes reaches: each verdict, method, refusal and branch of document 01's rules, and what A1 counts, counted. The road
 //! through 'Verdict' is walked here once more, by 01's words over the original's own leaves; it must end at the
 //! original's verdict.
 
+use crate::counts::{lengths, Counts, SHORTEST};
 use crate::file::{self, MeshFile};
 use crate::mesh::qto::probe;
 use crate::record::{compute, Answer, Exception, Lent, Record};
@@ -69,6 +70,21 @@ pub const WANTED: &[&str] = &[
     "inclined",
     "more than one piece",
     "no piece",
+    "triangles: all used",
+    "triangles: none used",
+    "triangles: used, out of range and slivers",
+    "triangles: out of range and slivers alone",
+    "out of range: the first corner alone",
+    "out of range: the second corner alone",
+    "out of range: the third corner alone",
+    "out of range: all corners",
+    "out of range: with a repeated id",
+    "sliver: a length of 0",
+    "sliver: a length of 0, no id repeated",
+    "sliver: a length above 0",
+    "sliver: a length a step under 1e-12",
+    "used: a length of 1e-12",
+    "used: a length a step above 1e-12",
 ];
 
 impl Reach {
@@ -114,6 +130,7 @@ impl Reach {
                 }
                 self.numbers(&record);
                 self.shape(&mesh);
+                self.triangles(&mesh, record.counts);
                 let verdict = self.verdict(&mesh, record.volume, record.aabb);
                 assert_eq!(verdict, record.quality, "document 01's road does not end at the original's verdict");
                 if verdict == "open_shell" {
@@ -171,6 +188,33 @@ impl Reach {
         self.at_if(!mesh.ids.len().is_multiple_of(3), "leftover ids");
         self.at_if(!mesh.vertices.len().is_multiple_of(3), "leftover floats");
         self.at_if(mesh.ids.len() < 9, "fewer than 9 ids");
+    }
+
+    /// What A1 counts: at least one triangle of each sort.
+    fn triangles(&mut self, mesh: &MeshFile, Counts { used, range, sliver }: Counts) {
+        self.at_if(range == 0 && sliver == 0, "triangles: all used");
+        self.at_if(used == 0, "triangles: none used");
+        self.at_if(used > 0 && range > 0 && sliver > 0, "triangles: used, out of range and slivers");
+        self.at_if(used == 0 && range > 0 && sliver > 0, "triangles: out of range and slivers alone");
+        let whole = mesh.vertices.len() / 3;
+        let out: Vec<[bool; 3]> =
+            mesh.ids.chunks_exact(3).map(|t| [t[0], t[1], t[2]].map(|id| id as usize >= whole)).collect();
+        self.at_if(out.contains(&[true, false, false]), "out of range: the first corner alone");
+        self.at_if(out.contains(&[false, true, false]), "out of range: the second corner alone");
+        self.at_if(out.contains(&[false, false, true]), "out of range: the third corner alone");
+        self.at_if(out.contains(&[true; 3]), "out of range: all corners");
+        let repeated = |t: &[u32]| t[0] == t[1] || t[1] == t[2] || t[2] == t[0];
+        let triples = || mesh.ids.chunks_exact(3).zip(lengths(&mesh.vertices, &mesh.ids));
+        let mut some = |test: &dyn Fn(&[u32], Option<f64>) -> bool, what: &'static str| {
+            self.at_if(triples().any(|(t, length)| test(t, length)), what);
+        };
+        some(&|t, length| length.is_none() && repeated(t), "out of range: with a repeated id");
+        some(&|_, length| length == Some(0.0), "sliver: a length of 0");
+        some(&|t, length| length == Some(0.0) && !repeated(t), "sliver: a length of 0, no id repeated");
+        some(&|_, length| length.is_some_and(|x| x > 0.0 && x < SHORTEST), "sliver: a length above 0");
+        some(&|_, length| length == Some(SHORTEST.next_down()), "sliver: a length a step under 1e-12");
+        some(&|_, length| length == Some(SHORTEST), "used: a length of 1e-12");
+        some(&|_, length| length == Some(SHORTEST.next_up()), "used: a length a step above 1e-12");
     }
 
     /// 'Verdict', in its order.

@@ -1,6 +1,7 @@
-//! The record as document 01 promises it: the original's answer, with the refusals, the flags and the exact form of
-//! the one exception around it.
+//! The record as documents 01 and 02 promise it: the original's answer, with the refusals, the flags and the exact form of
+//! the one exception around it, and beside it A1's counts, which the original does not have.
 
+use crate::counts::{counts, Counts};
 use crate::exception::{cube_exceeds, is_near};
 use crate::file::{Flags, MeshFile};
 use crate::mesh::{qto, ProductMesh};
@@ -50,6 +51,8 @@ pub struct Record {
     pub best: f32,
     /// None is 'not computed'; the original has NaN there.
     pub prism: Option<f32>,
+    /// Not the original's: by the plain reference.
+    pub counts: Counts,
     /// area, nx, ny, nz
     pub rows: Vec<[f32; 4]>,
 }
@@ -92,12 +95,21 @@ pub fn compute(mesh: &MeshFile, lent: Lent) -> Answer {
     let exception = settle_exception(&mut answer);
     let product = ProductMesh { clip_unapplied: mesh.flags.clip, profile_invalid: mesh.flags.profile() };
     qto::apply_product_flags(&mut answer, &product);
-    Answer::Record(Record::of(answer), exception)
+    Answer::Record(Record::of(answer, counted(&mesh.vertices, &mesh.ids)), exception)
+}
+
+/// A zero record counts nothing.
+fn counted(vertices: &[f32], ids: &[u32]) -> Counts {
+    if ids.len() < 3 || vertices.len() < 9 {
+        Counts::default()
+    } else {
+        counts(vertices, ids)
+    }
 }
 
 /// The original's answer without flags and refusals, for callers that ask about the original alone.
 pub fn original(vertices: &[f32], ids: &[u32], unit: f32) -> Record {
-    Record::of(qto::compute(vertices, ids, unit))
+    Record::of(qto::compute(vertices, ids, unit), counted(vertices, ids))
 }
 
 /// Best volume of an open shell once more, by document 01's words with 8s³ > p² in `powf`'s place.
@@ -124,7 +136,7 @@ fn settle_exception(answer: &mut qto::MeshQto) -> Exception {
 }
 
 impl Record {
-    fn of(answer: qto::MeshQto) -> Record {
+    fn of(answer: qto::MeshQto, counts: Counts) -> Record {
         Record {
             quality: answer.mesh_quality,
             reliable: answer.volume_reliable,
@@ -141,6 +153,7 @@ impl Record {
             smallest: answer.smallest_surface_m2,
             best: answer.volume_best_m3,
             prism: Some(answer.volume_prism_bound_m3).filter(|p| !p.is_nan()),
+            counts,
             rows: answer.surfaces.iter().map(|s| [s.area_m2, s.nx, s.ny, s.nz]).collect(),
         }
     }

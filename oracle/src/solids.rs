@@ -10,6 +10,11 @@ pub struct Shape {
     pub ids: Vec<u32>,
 }
 
+/// 2 to the power of an exponent in f32's range.
+pub const fn two_to(exponent: i32) -> f32 {
+    f32::from_bits(((127 + exponent) as u32) << 23)
+}
+
 /// Document 01's cube: vertex id = x + 2y + 4z for corners of 0 and 1.
 const CUBE: [[u32; 3]; 12] = [
     [0, 2, 3],
@@ -63,6 +68,26 @@ impl Shape {
         for [a, b, c] in [[0, 2, 1], [0, 1, 3], [0, 3, 2], [1, 2, 3]] {
             shape.triangle(a, b, c);
         }
+        shape
+    }
+
+    /// A triangle with its first corner at the origin whose cross product has, in f64, the length 1e-12 or that of a neighbour, a
+    /// step under it (-1) or above (1). 1e-12 has 53 binary digits, and a product of two f32 has 48 at most; the difference of two
+    /// products has them all, and both products are exact. With a corner below zero beside it the length is another: corners
+    /// are rebased.
+    pub fn at_limit(step: i32) -> Shape {
+        let (c, d) = match step {
+            -1 => (528.0, 979_327.0),
+            0 => (21_487.0, 24_065.0),
+            1 => (15_646.0, 33_049.0),
+            _ => panic!("1e-12 or a neighbour"),
+        };
+        // 9,223,373 · 2^-63 · 1 - c · 2^-68 · d · 2^-24
+        let mut shape = Shape::default();
+        let a = shape.vertex(0.0, 0.0, 0.0);
+        let b = shape.vertex(9_223_373.0 * two_to(-63), c * two_to(-68), 0.0);
+        let c = shape.vertex(d * two_to(-24), 1.0, 0.0);
+        shape.triangle(a, b, c);
         shape
     }
 
@@ -168,6 +193,12 @@ impl Shape {
 
     pub fn scaled(mut self, by: [f32; 3]) -> Shape {
         self.vertices.iter_mut().enumerate().for_each(|(i, v)| *v *= by[i % 3]);
+        self
+    }
+
+    /// The axes in another order: x becomes y, y becomes z, z becomes x, so many times.
+    pub fn rolled(mut self, times: usize) -> Shape {
+        self.vertices.chunks_exact_mut(3).for_each(|vertex| vertex.rotate_right(times % 3));
         self
     }
 

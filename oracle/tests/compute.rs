@@ -7,6 +7,7 @@ use mowfrost_oracle::compute::compare::{is_zero_record, on_chance, on_large, on_
 use mowfrost_oracle::compute::meshes::{by_chance, kinds, large, limits};
 use mowfrost_oracle::compute::nans::{Stayed, ENDS};
 use mowfrost_oracle::compute::split::{bad_places, is_bad, split_badly};
+use mowfrost_oracle::counts::{counts, lengths, Counts, SHORTEST};
 use mowfrost_oracle::file::{Flags, MeshFile};
 use mowfrost_oracle::record::{original, Lent, Record, FARTHEST, MOST, RASTER_BYTES};
 
@@ -60,6 +61,11 @@ fn the_right_way_agrees_and_reaches_everything() {
         chance.reached()
     );
     assert!(chance.near > 100 && chance.otherwise > 0, "{}", chance.reached());
+    let (counted, told) = (&chance.counted, chance.counted.told());
+    assert_eq!((counted.full, counted.zero), (chance.tally.verdicts.iter().sum(), chance.tally.zero));
+    assert!(counted.met.all_used > 5_000 && counted.met.range > 1_000 && counted.met.sliver > 1_000, "{told}");
+    assert!(counted.met.both > 200 && counted.met.none_used > 500, "{told}");
+    assert!(counted.limit.iter().all(|&times| times > 10), "{told}");
     let Stayed { refused, zero, behind, vertices } = chance.stayed;
     for nans in [refused, zero, behind, vertices] {
         assert!(nans.signalling > 10_000 && nans.quiet > 10_000, "{}", chance.stayed.told());
@@ -276,6 +282,106 @@ fn a_wrong_record_is_found() {
     assert!(Way { mesh: dropped, ..RIGHT }.found(), "triangles out of range dropped before the chain");
     let first = |mesh: &mut MeshFile| mesh.ids.iter_mut().skip(3).for_each(|id| *id = 0);
     assert!(Way { mesh: first, ..RIGHT }.found(), "the first triangle alone");
+}
+
+/// The counts of a full record by another length of each triple, or by another limit.
+fn by(mesh: &MeshFile, record: &mut Record, length: impl Fn(&[u32], Option<f64>) -> Option<f64>, limit: f64) {
+    if !is_zero_record(mesh) {
+        let triples = mesh.ids.chunks_exact(3).zip(lengths(&mesh.vertices, &mesh.ids));
+        let lengths: Vec<_> = triples.map(|(t, right)| length(t, right)).collect();
+        let range = lengths.iter().filter(|length| length.is_none()).count() as u32;
+        let used = lengths.iter().flatten().filter(|length| **length >= limit).count() as u32;
+        record.counts = Counts { used, range, sliver: lengths.len() as u32 - range - used };
+    }
+}
+
+fn in_range(mesh: &MeshFile, ids: &[u32]) -> bool {
+    ids.iter().all(|&id| (id as usize) < mesh.vertices.len() / 3)
+}
+
+/// Out of range, and taken for in range all the same.
+fn passed(right: Option<f64>, all_the_same: bool) -> Option<f64> {
+    right.or(all_the_same.then_some(1.0))
+}
+
+/// The length of a triangle's cross product by its corners as they are; they are in range.
+fn length_as_given(mesh: &MeshFile, t: &[u32]) -> f64 {
+    let [a, b, c] = [t[0], t[1], t[2]].map(|id| [0, 1, 2].map(|axis| mesh.vertices[3 * id as usize + axis] as f64));
+    let (u, v) = ([0, 1, 2].map(|i| b[i] - a[i]), [0, 1, 2].map(|i| c[i] - a[i]));
+    let n = [u[1] * v[2] - u[2] * v[1], u[2] * v[0] - u[0] * v[2], u[0] * v[1] - u[1] * v[0]];
+    n.iter().map(|x| x * x).sum::<f64>().sqrt()
+}
+
+/// Counts of triangles by another rule than 02's, in a port that is right in all else.
+#[test]
+fn wrong_counts_are_found() {
+    let found = |record: fn(&MeshFile, &mut Record)| Way { record, ..RIGHT }.found();
+    assert!(!found(|mesh, record| by(mesh, record, |_, right| right, SHORTEST)), "02's rule");
+    assert!(found(|mesh, record| by(mesh, record, |_, right| right, SHORTEST.next_up())), "1e-12 itself is a sliver");
+    assert!(found(|mesh, record| by(mesh, record, |_, right| right, SHORTEST.next_down())), "a step under is used");
+    assert!(found(|mesh, record| by(mesh, record, |_, right| right, 1e-6)), "a square for its root");
+    let narrow = |mesh: &MeshFile, record: &mut Record| {
+        by(mesh, record, |_, right| right.map(|length| length as f32 as f64), 1e-12f32 as f64);
+    };
+    assert!(found(narrow), "in f32");
+    let sum = |mesh: &MeshFile, record: &mut Record| by(mesh, record, |_, right| right, 0.0);
+    assert!(found(sum), "no sliver");
+    let sliver_first = |mesh: &MeshFile, record: &mut Record| {
+        let repeated = |t: &[u32]| t[0] == t[1] || t[1] == t[2] || t[2] == t[0];
+        by(mesh, record, |t, right| if repeated(t) { Some(0.0) } else { right }, SHORTEST);
+    };
+    assert!(found(sliver_first), "a repeated id is a sliver, out of range or not");
+    let as_given = |mesh: &MeshFile, record: &mut Record| {
+        by(mesh, record, |t, right| right.map(|_| length_as_given(mesh, t)), SHORTEST);
+    };
+    assert!(found(as_given), "corners that are not rebased");
+    let blind: [fn(&MeshFile, &mut Record); 3] = [
+        |mesh, record| by(mesh, record, |t, right| passed(right, in_range(mesh, &t[1..])), SHORTEST),
+        |mesh, record| by(mesh, record, |t, right| passed(right, in_range(mesh, &[t[0], t[2]])), SHORTEST),
+        |mesh, record| by(mesh, record, |t, right| passed(right, in_range(mesh, &t[..2])), SHORTEST),
+    ];
+    for (corner, record) in blind.into_iter().enumerate() {
+        assert!(found(record), "corner {corner} is not asked");
+    }
+    let cut = |mesh: &MeshFile, record: &mut Record| {
+        let begun = |t: &[u32]| t.iter().all(|&id| 3 * (id as usize) < mesh.vertices.len());
+        by(mesh, record, |t, right| passed(right, begun(t)), SHORTEST);
+    };
+    assert!(found(cut), "a vertex cut short is in range");
+    let wraps = |mesh: &MeshFile, record: &mut Record| {
+        let small = |id: u32| (id.wrapping_mul(3).wrapping_add(2) as usize) < mesh.vertices.len();
+        by(mesh, record, |t, right| passed(right, t.iter().all(|&id| small(id))), SHORTEST);
+    };
+    assert!(found(wraps), "in 32 bits");
+    let zero = |mesh: &MeshFile, record: &mut Record| {
+        if is_zero_record(mesh) {
+            record.counts.used = mesh.ids.len() as u32 / 3;
+        }
+    };
+    assert!(found(zero), "used triangles of a zero record");
+    let zero = |mesh: &MeshFile, record: &mut Record| {
+        if is_zero_record(mesh) {
+            record.counts = counts(&mesh.vertices, &mesh.ids);
+        }
+    };
+    assert!(found(zero), "the counts of a zero record");
+    let flags = |mesh: &MeshFile, record: &mut Record| {
+        if mesh.flags != Flags::default() {
+            record.counts = Counts::default();
+        }
+    };
+    assert!(found(flags), "no counts beside flags");
+    let leftover = |mesh: &MeshFile, record: &mut Record| {
+        if !is_zero_record(mesh) {
+            record.counts.range += !mesh.ids.len().is_multiple_of(3) as u32;
+        }
+    };
+    assert!(found(leftover), "leftover ids are a triangle out of range");
+    let words = |words: fn(&mut [u32; WORDS])| Way { words, ..RIGHT }.found();
+    assert!(words(|words| words.swap(18, 19)), "a sliver counted as out of range, and the other way round");
+    assert!(words(|words| (words[18], words[19]) = (words[18] + words[19], 0)), "a sliver counted as out of range");
+    assert!(words(|words| words[17] += words[18].min(1)), "one out of range counted as used too");
+    assert!(words(|words| words[17] = words[17].min(255)), "counts in a byte");
 }
 
 #[test]

@@ -1,6 +1,7 @@
-//! Document 01's checked examples that speak of meshes or ids, and its cube to the letter: on the Rust, but for refusals
-//! and pieces, which 000 does not have; there the oracle's own form of document 01's words is run.
+//! Document 01's checked examples that speak of meshes or ids, and its cube to the letter, with 02's three lines (A1): on the Rust, but
+//! for refusals, pieces and counts, which 000 does not have; there the oracle's own form of the documents' words is run.
 
+use mowfrost_oracle::counts::Counts;
 use mowfrost_oracle::exception::{cube_exceeds, is_near};
 use mowfrost_oracle::file::{write, Flags, MeshFile, DEFECTS};
 use mowfrost_oracle::listing::listing;
@@ -34,7 +35,7 @@ fn cube() -> MeshFile {
 fn the_cube_gives_document_01s_listing() {
     let expected = "quality closed\nreliable 1\nmethod mesh\nprofile none\nvolume 41000000\naabb 41000000\n\
         surface 41c00000\ntop 40800000\nbottom 40800000\nside 41800000\ninclined 00000000\nlargest 40800000\n\
-        smallest 40800000\nbest 41000000\nprism none\npieces 1\nsurfaces 6\n\
+        smallest 40800000\nbest 41000000\nprism none\npieces 1\nused 12\nrange 0\nsliver 0\nsurfaces 6\n\
         40800000 bf800000 00000000 00000000\n40800000 00000000 bf800000 00000000\n\
         40800000 00000000 00000000 bf800000\n40800000 00000000 00000000 3f800000\n\
         40800000 00000000 3f800000 00000000\n40800000 3f800000 00000000 00000000\n";
@@ -117,7 +118,7 @@ fn eight_floats_or_two_ids_give_the_zero_record() {
     let two = record(&plain(1.0, &[1.0; 9], &[0, 1]));
     for zero in [eight, two] {
         assert_eq!((zero.quality, zero.method, zero.reliable), ("degenerate", "prism_fallback", false));
-        assert_eq!((zero.prism, zero.rows.len()), (Some(0.0), 0));
+        assert_eq!((zero.prism, zero.rows.len(), zero.counts), (Some(0.0), 0, Counts::default()));
         let numbers = [zero.volume, zero.aabb, zero.surface, zero.top, zero.bottom, zero.side, zero.inclined];
         assert!(numbers.iter().chain(&[zero.largest, zero.smallest, zero.best]).all(|n| n.to_bits() == 0));
     }
@@ -127,7 +128,7 @@ fn eight_floats_or_two_ids_give_the_zero_record() {
 fn pieces_are_counted_beside_a_zero_record() {
     let text = listing(&write(&plain(f32::NAN, &[1.0; 8], &ids("012 345 3")), false)).0;
     assert!(text.starts_with("quality degenerate\nreliable 0\nmethod prism_fallback\nprofile none\nvolume 00000000\n"));
-    assert!(text.ends_with("best 00000000\nprism 00000000\npieces 2\nsurfaces 0\n"));
+    assert!(text.ends_with("best 00000000\nprism 00000000\npieces 2\nused 0\nrange 0\nsliver 0\nsurfaces 0\n"));
 }
 
 #[test]

@@ -53,6 +53,9 @@ fn nor_in_the_original_and_everything_is_reached() {
     assert!(one > 0 && two > 200 && three > 800 && four == 0 && five > 200, "{}", count.reached());
     assert!(count.tally.zero > 200 && count.tally.verdicts.iter().all(|&times| times > 300), "{}", count.reached());
     assert!(count.free.iter().all(|&times| times > 3), "{}", count.reached());
+    assert_eq!(count.met.meshes, count.tally.verdicts.iter().sum());
+    let counted = [count.met.all_used, count.met.range, count.met.sliver, count.met.both, count.met.none_used];
+    assert!(counted.iter().all(|&times| times > 50), "{}", count.met.told());
     for nans in [count.stayed.refused, count.stayed.zero, count.stayed.behind] {
         assert!(nans.signalling > 1_000 && nans.quiet > 1_000, "{}", count.stayed.told());
     }
@@ -115,7 +118,22 @@ fn is_far(mesh: &MeshFile) -> bool {
 
 #[test]
 fn planted_faults_are_found() {
-    let faults: [(&str, Fault); 17] = [
+    let faults: [(&str, Fault); 20] = [
+        ("a sliver more far out", &|mesh, given| {
+            if given.is_full(mesh) && is_far(mesh) && given.record[17] > 0 {
+                (given.record[17], given.record[19]) = (given.record[17] - 1, given.record[19] + 1);
+            }
+        }),
+        ("out of range by a vertex below zero", &|mesh, given| {
+            if given.is_full(mesh) && first_x(mesh) < 0.0 && given.record[17] > 0 {
+                (given.record[17], given.record[18]) = (given.record[17] - 1, given.record[18] + 1);
+            }
+        }),
+        ("a sliver of an open shell counted as used far out", &|mesh, given| {
+            if given.came_to(mesh) == "open" && is_far(mesh) {
+                (given.record[17], given.record[19]) = (given.record[17] + given.record[19], 0);
+            }
+        }),
         ("a box corner for the box", &|mesh, given| {
             if given.is_full(mesh) {
                 given.record[5] = mesh.vertices.iter().step_by(3).copied().fold(f32::INFINITY, f32::min).to_bits();

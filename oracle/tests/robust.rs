@@ -42,14 +42,14 @@ fn what_is_read_is_written_again() {
 /// The text is document 01's: a refusal of a number that a file can get, or a listing with all its lines.
 fn is_an_answer(text: &str) -> bool {
     let names = "quality reliable method profile volume aabb surface top bottom side inclined largest smallest best \
-                 prism pieces surfaces";
+                 prism pieces used range sliver surfaces";
     if let Some(refusal) = text.strip_prefix("refused ") {
         return ["2\n", "4\n", "5\n", "6\n"].contains(&refusal);
     }
     let lines: Vec<&str> = text.lines().collect();
     let named = names.split_whitespace().zip(&lines).all(|(name, line)| line.split(' ').next() == Some(name));
-    let rows = lines.get(16).and_then(|l| l.strip_prefix("surfaces ")).and_then(|n| n.parse().ok());
-    named && text.ends_with('\n') && rows == Some(lines.len() - 17)
+    let rows = lines.get(19).and_then(|l| l.strip_prefix("surfaces ")).and_then(|n| n.parse().ok());
+    named && text.ends_with('\n') && rows == Some(lines.len() - 20)
 }
 
 #[test]

@@ -5,8 +5,9 @@ use crate::file::MeshFile;
 use crate::random::Random;
 use crate::record::{Lent, MOST, RASTER_BYTES};
 
-/// The words of a record.
-pub const WORDS: usize = 17;
+/// The words of a record, and of them the number of rows.
+pub const WORDS: usize = 20;
+pub const ROWS: usize = 16;
 
 /// The slices of one call. Floats are in bits: there a NaN is a word like any other.
 pub struct Areas<'a> {
@@ -300,7 +301,7 @@ mod tests {
         found("surface -1", |all| all.surfaces.now[RIM - 1] = 0);
         found("surface 3", |all| all.surfaces.now[RIM + 3] = 0);
         found("record -1", |all| all.record.now[RIM - 1] = 0);
-        found("record 17", |all| all.record.now[RIM + WORDS] = 0);
+        found("record 20", |all| all.record.now[RIM + WORDS] = 0);
         let mut found = |place: &str, spoil: fn(&mut Lending)| {
             let found = left(spoil).changed;
             assert!(found.len() == 1 && found[0].starts_with(&format!("{place} is ")), "{place}: {found:?}");

@@ -1,10 +1,12 @@
 //! `oracle compute N`: refusals, every word of the record, every row, every place of the three lent areas, and that the mesh that was
-//! passed is as it was. Floats are compared by their bits, a NaN's too, and the NaNs that had to stay are counted.
+//! passed is as it was. Floats are compared by their bits, a NaN's too, and the NaNs that had to stay are counted. The last three
+//! words, A1's counts, are held to the plain reference; all others are the original's.
 
 use super::areas::{Areas, Fronts, Lending, WORDS};
 use super::capi;
 use super::meshes::{by_chance, kinds, large, limits};
 use super::nans::Stayed;
+use crate::counts::{lengths, Met, SHORTEST};
 use crate::file::{MeshFile, DEFECTS};
 use crate::random::Random;
 use crate::record::{compute, Answer, Exception, Lent, Record};
@@ -64,6 +66,7 @@ pub struct Count {
     /// What the calls that agree came to, and the NaNs that they left.
     pub tally: Tally,
     pub stayed: Stayed,
+    pub counted: Counted,
     /// Meshes near the one exception, and those of them where `powf` answers otherwise.
     pub near: u64,
     pub otherwise: u64,
@@ -71,6 +74,45 @@ pub struct Count {
     pub shown: Vec<String>,
     /// The first where `powf` answers otherwise.
     pub noted: Vec<String>,
+}
+
+/// How far A1's counts were held to the plain reference.
+#[derive(Default)]
+pub struct Counted {
+    /// The calls that agree with a full and with a zero record.
+    pub full: u64,
+    pub zero: u64,
+    /// The meshes that have a full record.
+    pub met: Met,
+    /// Those with a length that is a step under 1e-12, just that, and a step above.
+    pub limit: [u64; 3],
+}
+
+impl Counted {
+    fn meet(&mut self, mesh: &MeshFile, record: &Record) {
+        self.met.add(record.counts);
+        let steps = [SHORTEST.next_down(), SHORTEST, SHORTEST.next_up()];
+        for (step, times) in steps.into_iter().zip(&mut self.limit) {
+            *times += lengths(&mesh.vertices, &mesh.ids).any(|length| length == Some(step)) as u64;
+        }
+    }
+
+    fn join(&mut self, other: &Counted) {
+        (self.full, self.zero) = (self.full + other.full, self.zero + other.zero);
+        self.met.join(&other.met);
+        (0..3).for_each(|i| self.limit[i] += other.limit[i]);
+    }
+
+    pub fn told(&self) -> String {
+        let [under, just, above] = self.limit;
+        format!(
+            "counts, by the plain reference: in {} full and {} zero records. Meshes with a full record {}; with a length a step \
+             under 1e-12 {under}, just that {just}, a step above {above}",
+            self.full,
+            self.zero,
+            self.met.told()
+        )
+    }
 }
 
 const SHOWN: usize = 5;
@@ -107,6 +149,9 @@ pub fn words(record: &Record) -> [u32; WORDS] {
         is_number,
         bound,
         record.rows.len() as u32,
+        record.counts.used,
+        record.counts.range,
+        record.counts.sliver,
     ]
 }
 
@@ -206,6 +251,9 @@ impl Count {
         let exact = Lent::exactly(mesh.vertices.len(), mesh.ids.len());
         let answer = compute(mesh, exact);
         self.note(mesh, &answer);
+        if let (Answer::Record(record, _), false) = (&answer, is_zero_record(mesh)) {
+            self.counted.meet(mesh, record);
+        }
         let promise = Promise::of(mesh, &answer);
         lending.elsewhere(random);
         let call = Call { mesh, clip: mesh.flags.clip as u32, defect: mesh.flags.defect as u32 };
@@ -239,6 +287,11 @@ impl Count {
         }
         self.agree += 1;
         self.tally.add(right.answer, right.zero_record, right.record.first().copied().unwrap_or(0));
+        match right.answer {
+            0 if right.zero_record => self.counted.zero += 1,
+            0 => self.counted.full += 1,
+            _ => {}
+        }
         let (surfaces, vertices) = (lending.nans_behind(lent, right.rows.len()), lending.nans_passed());
         self.stayed.add(right.answer, right.zero_record, surfaces, vertices);
     }
@@ -287,11 +340,17 @@ impl Count {
         (self.near, self.otherwise) = (self.near + other.near, self.otherwise + other.otherwise);
         self.tally.join(&other.tally);
         self.stayed.join(&other.stayed);
+        self.counted.join(&other.counted);
     }
 
-    /// What the calls that agree came to, and how the meshes stand to the one exception.
+    /// What the calls that agree came to, how the meshes stand to the one exception, and how many leave triangles out.
     pub fn reached(&self) -> String {
-        self.tally.told(&[("near the exception", self.near), ("where powf answers otherwise", self.otherwise)])
+        self.tally.told(&[
+            ("near the exception", self.near),
+            ("where powf answers otherwise", self.otherwise),
+            ("meshes with an id out of range", self.counted.met.range),
+            ("meshes with a sliver", self.counted.met.sliver),
+        ])
     }
 }
 

@@ -83,19 +83,64 @@ pub fn zero_record(random: &mut Random) -> Vec<u8> {
 
 // ---- numbers
 
-/// Triangles whose cross product's length is about 1e-12.
+/// Triangles whose cross product's length is about 1e-12, just that, a step beside it, or 0; some beside ids out of range. At a
+/// corner of the box, where the length is that of the given corners, and elsewhere, where the rebase rounds it.
 pub fn slivers(random: &mut Random) -> Vec<u8> {
-    let mut shape = if random.once_in(2) { solid(random) } else { Shape::default() };
+    let mut shape = match random.below(4) {
+        0 | 1 => Shape::default(),
+        2 => Shape::cuboid([0.0; 3], [random.within(1, 9) as f32; 3]),
+        _ => solid(random),
+    };
     for _ in 0..random.within(1, 6) {
-        let long = random.pick(&[1e-6f32, 1e-3, 1.0, 1e3]);
-        let across = 1e-12 / long * random.pick(&[0.5f32, 0.999, 1.0, 1.001, 2.0]);
-        let a = shape.vertex(0.0, 0.0, 0.0);
-        let b = shape.vertex(long, 0.0, 0.0);
-        let c = if random.once_in(2) { shape.vertex(0.0, across, 0.0) } else { shape.vertex(long / 2.0, 0.0, across) };
-        shape.triangle(a, b, c);
+        let sliver = match random.below(4) {
+            0 | 1 => near_limit(random),
+            2 => Shape::at_limit(random.within(-1, 1) as i32).rolled(random.below(3)),
+            _ => in_a_line(random),
+        };
+        shape = shape.with(if random.once_in(2) { sliver } else { sliver.flipped() });
     }
+    for _ in 0..random.pick(&[0, 0, 1, 3]) {
+        out_of_range(random, &mut shape);
+    }
+    let shape = if random.once_in(2) { shape } else { shape.shuffled(random) };
     let unit = unit(random);
     filed_at(random, unit, shape)
+}
+
+fn near_limit(random: &mut Random) -> Shape {
+    let long = random.pick(&[1e-6f32, 1e-3, 1.0, 1e3]);
+    let across = 1e-12 / long * random.pick(&[0.5f32, 0.999, 1.0, 1.001, 2.0]);
+    let mut shape = Shape::default();
+    let a = shape.vertex(0.0, 0.0, 0.0);
+    let b = shape.vertex(long, 0.0, 0.0);
+    let c = if random.once_in(2) { shape.vertex(0.0, across, 0.0) } else { shape.vertex(long / 2.0, 0.0, across) };
+    shape.triangle(a, b, c);
+    shape
+}
+
+/// Three corners in a line, or two or three of them in one place.
+fn in_a_line(random: &mut Random) -> Shape {
+    let mut shape = Shape::default();
+    let step = [0; 3].map(|_| random.within(0, 3) as f32);
+    let [a, b, c] =
+        random.pick(&[[0.0, 1.0, 2.0], [3.0, 1.0, 2.0], [1.0, 1.0, 4.0], [2.0, 2.0, 2.0]]).map(|times: f32| {
+            let [x, y, z] = step.map(|x| times * x);
+            shape.vertex(x, y, z)
+        });
+    shape.triangle(a, b, c);
+    shape
+}
+
+/// One triangle more, with an id out of range at one corner, or now and then at more; the others may be one id.
+fn out_of_range(random: &mut Random, shape: &mut Shape) {
+    let count = (shape.vertices.len() / 3) as u32;
+    let mut corners = [0; 3].map(|_| random.below(count as usize) as u32);
+    let far = random.pick(&[count, count, count + 1, 0x5555_5555, 0xaaaa_aaab, u32::MAX]);
+    corners[random.below(3)] = far;
+    if random.once_in(4) {
+        corners[random.below(3)] = far;
+    }
+    shape.ids.extend(corners);
 }
 
 pub fn negative_zero(random: &mut Random) -> Vec<u8> {

@@ -1,10 +1,12 @@
 //! `oracle moves N`: what comes back from two calls, every word of their records, and every place of the three lent areas and
-//! of the rims around them. What each call has to leave is also held to what was there before, so that both cannot spoil it alike.
+//! of the rims around them; A1's counts are words like others, whatever the verdict. What each call has to leave is also held to
+//! what was there before, so that both cannot spoil it alike.
 
 use super::meshes::{kinds, pair, Pair};
-use crate::compute::areas::{Left, Lending, Written, WORDS};
+use crate::compute::areas::{Left, Lending, Written, ROWS, WORDS};
 use crate::compute::compare::{is_zero_record, Call, Port, Tally};
 use crate::compute::nans::{Nans, Stayed};
+use crate::counts::{Counts, Met};
 use crate::file::MeshFile;
 use crate::random::Random;
 use crate::record::Lent;
@@ -23,6 +25,8 @@ pub struct Count {
     /// What the pairs that agree came to, and the NaNs that they left.
     pub tally: Tally,
     pub stayed: Stayed,
+    /// What A1's counts are in the full records of the pairs that agree, by what came back.
+    pub met: Met,
     /// Of the open pairs that agree: in how many best volume, method, trust and bound differ.
     pub free: [u64; 4],
     /// The first that differ, for a look.
@@ -47,7 +51,7 @@ fn written(answer: u32, mesh: &MeshFile, record: &[u32; WORDS]) -> Written {
         return Written { record: WORDS, ..Written::default() };
     }
     let Lent { work, raster, .. } = Lent::exactly(mesh.vertices.len(), mesh.ids.len());
-    Written { record: WORDS, work, raster, surfaces: 4 * record[WORDS - 1] as usize }
+    Written { record: WORDS, work, raster, surfaces: 4 * record[ROWS] as usize }
 }
 
 impl Outcome {
@@ -80,6 +84,9 @@ impl Count {
         self.agree += 1;
         let (one, other) = (here.left.record(), there.left.record());
         self.tally.add(here.answer, is_zero_record(&pair.here), one[0]);
+        if here.answer == 0 && !is_zero_record(&pair.here) {
+            self.met.add(Counts { used: one[17], range: one[18], sliver: one[19] });
+        }
         for (outcome, mesh) in [(&here, &pair.here), (&there, &pair.there)] {
             self.stayed.add(outcome.answer, is_zero_record(mesh), outcome.nans, Nans::default());
         }
@@ -106,6 +113,7 @@ impl Count {
         (self.agree, self.differ) = (self.agree + other.agree, self.differ + other.differ);
         self.tally.join(&other.tally);
         self.stayed.join(&other.stayed);
+        self.met.join(&other.met);
         (0..4).for_each(|i| self.free[i] += other.free[i]);
     }
 
@@ -117,6 +125,8 @@ impl Count {
             ("open with another method", method),
             ("open with another trust", trust),
             ("open with another bound", bound),
+            ("with an id out of range", self.met.range),
+            ("with a sliver", self.met.sliver),
         ])
     }
 }

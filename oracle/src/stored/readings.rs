@@ -4,16 +4,11 @@ use super::examples::{corners, ids, of, tilted, CLOSED, DEGENERATE, OPEN, PRISM}
 use super::List;
 use crate::file::MeshFile;
 use crate::record::{plain, LEAST_UNIT};
-use crate::solids::Shape;
+use crate::solids::{two_to, Shape};
 
 /// A shape of these corners and triangles.
 pub fn shape(corners: &[[f32; 3]], triangles: &str) -> Shape {
     Shape { vertices: corners.concat(), ids: ids(triangles) }
-}
-
-/// 2 to the power of an exponent in f32's range.
-pub const fn two_to(exponent: i32) -> f32 {
-    f32::from_bits(((127 + exponent) as u32) << 23)
 }
 
 /// The inputs of docs/DIFFERENCES.md that are meshes of a program's file, by their numbers there.

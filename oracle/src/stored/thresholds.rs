@@ -1,9 +1,9 @@
 //! Each threshold of document 01 from both sides: of verdict, best volume, slope, keys, weld and raster.
 
 use super::examples::{of, CLOSED, DEGENERATE, OPEN, PRISM};
-use super::readings::{shape, two_to};
+use super::readings::shape;
 use super::List;
-use crate::solids::Shape;
+use crate::solids::{two_to, Shape};
 
 /// A level rectangle; walked one way it looks up.
 fn plate(to: &mut Shape, low: [f32; 2], size: [f32; 2], z: f32, up: bool) {

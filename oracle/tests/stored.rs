@@ -1,5 +1,6 @@
 //! The meshes that `replay` holds: they reach everything, say what they were made for, and are the ones that are stored.
 
+use mowfrost_oracle::counts::Counts;
 use mowfrost_oracle::file::{read, MeshFile, MOST};
 use mowfrost_oracle::frames;
 use mowfrost_oracle::listing::{listing, replayed};
@@ -133,6 +134,67 @@ fn thresholds_are_met_exactly() {
     assert_eq!(heights("nz of 0.45, a half in the key once rounded"), [-0.5, 0.5]);
 }
 
+/// What A1 counts, by hand: used, out of range, sliver.
+#[test]
+fn triangles_are_counted() {
+    let counted = |name: &str| {
+        let Counts { used, range, sliver } = record(name).counts;
+        [used, range, sliver]
+    };
+    let corners = ["a1: one id out of range, the first: 013 812", "a1: one id out of range, the second: 013 182"];
+    for (name, counts) in [
+        ("the cube", [12, 0, 0]),
+        ("the cube, its last vertex cut short", [6, 6, 0]),
+        ("every id out of range", [0, 4, 0]),
+        ("9 floats and 3 ids", [1, 0, 0]),
+        ("nine zeros: 000 000 000", [0, 0, 3]),
+        ("d9: no rows", [0, 0, 1]),
+        ("d3: a cross product of 1e-12", [0, 0, 1]),
+        ("d3: a cross product of 1.0000001e-12", [1, 0, 0]),
+        ("1,536 ids, all distinct, three in range", [1, 511, 0]),
+        ("a1: a sliver beside a used triangle: 013 004", [1, 0, 1]),
+        (corners[0], [1, 1, 0]),
+        (corners[1], [1, 1, 0]),
+        ("a1: one id out of range, the third: 013 128", [1, 1, 0]),
+        ("a1: one of each: 013 128 004", [1, 1, 1]),
+        ("a1: one of each, moved", [1, 1, 1]),
+        ("a1: out of range, and with a repeated id: 013 088 880 808 888", [1, 4, 0]),
+        ("a1: one of each and a leftover id: 013 128 004 8", [1, 1, 1]),
+        ("a1: one of each and two leftover ids: 013 128 004 01", [1, 1, 1]),
+        ("a1: all left out: 128 004", [0, 1, 1]),
+        ("a1: all slivers: 004 040 400 444", [0, 0, 4]),
+        ("a1: both in a closed shell: 021 013 032 123 088 004", [4, 1, 1]),
+        ("a1: both in a closed shell, clip 1, defect 0", [4, 1, 1]),
+        ("a1: both in a closed shell, clip 0, defect 3", [4, 1, 1]),
+        ("a1: both in a closed shell, clip 1, defect 4", [4, 1, 1]),
+        ("a1: the cube with two wrong ids: 028 001", [10, 1, 1]),
+        ("a1: the last vertex cut short by a float: 013 127", [1, 1, 0]),
+        ("a1: in a line, no id repeated: 012 013", [1, 0, 1]),
+        ("a1: a length of a step under 1e-12", [0, 0, 1]),
+        ("a1: a length of 1e-12", [1, 0, 0]),
+        ("a1: a length of a step above 1e-12", [1, 0, 0]),
+        ("a1: a length of a step under 1e-12, twice, in a cube", [12, 0, 2]),
+        ("a1: a length of 1e-12, twice, in a cube", [14, 0, 0]),
+        ("a1: a length of a step above 1e-12, twice, in a cube", [14, 0, 0]),
+        ("a1: a length above 1e-12, rebased under it", [12, 0, 1]),
+        ("a1: a length under 1e-12, rebased above it", [13, 0, 0]),
+        ("8 floats", [0, 0, 0]),
+        ("2 ids", [0, 0, 0]),
+        ("8 floats and 1,536 ids", [0, 0, 0]),
+        ("a1: a zero record, 8 floats and bad ids", [0, 0, 0]),
+        ("a1: a zero record, 2 ids out of range, flags", [0, 0, 0]),
+    ] {
+        assert_eq!(counted(name), counts, "{name}");
+    }
+    // three lines of the text, in decimal, between the pieces and the rows
+    let stored = STORED.iter().find(|stored| stored.name.starts_with("1,536 ids, all distinct")).expect("there is one");
+    let text = listing(&stored.bytes).0;
+    assert_eq!(
+        text.lines().skip(15).take(5).collect::<Vec<_>>().join(", "),
+        "pieces 512, used 1, range 511, sliver 0, surfaces 1"
+    );
+}
+
 #[test]
 fn lengths_go_to_the_limit() {
     let whole: Vec<MeshFile> = STORED.iter().filter_map(|stored| read(&stored.bytes).ok()).collect();
@@ -143,7 +205,7 @@ fn lengths_go_to_the_limit() {
     assert!(STORED.iter().any(|stored| stored.bytes.len() == FULL + 1) && STORED[0].bytes.len() == 262);
     let rows = |n: usize| {
         let text = |stored: &Stored| listing(&stored.bytes).0;
-        STORED.iter().filter(|stored| text(stored).lines().count() > 17 + n).count()
+        STORED.iter().filter(|stored| text(stored).lines().count() > 20 + n).count()
     };
     assert!(rows(64) > 4 && rows(200) > 1, "{} and {}", rows(64), rows(200));
 }

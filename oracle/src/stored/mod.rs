@@ -1,8 +1,10 @@
 //! The meshes that the crate `replay` holds, so that the gate has some of the Rust's answers without the Rust: those made
-//! by hand for document 01's examples, limits and orders, then of each kind the smallest and the one that reaches most.
+//! by hand for document 01's examples, limits and orders and for what A1 counts, then of each kind the smallest and the one
+//! that reaches most.
 
 pub mod examples;
 mod faults;
+mod left_out;
 mod limits;
 mod places;
 pub mod readings;
@@ -53,6 +55,7 @@ pub fn by_hand() -> Vec<Stored> {
     readings::mistakes(&mut list);
     faults::faults(&mut list);
     places::places(&mut list);
+    left_out::left_out(&mut list);
     list.0
 }
 

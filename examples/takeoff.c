@@ -1,5 +1,5 @@
-/* The takeoff of a cube from C: its record in words, then how each sort of bad input is refused. What everything means
- * stands in include/mowfrost.h; how this is compiled and run, in examples/README.md. */
+/* The takeoff of a cube from C: its record in words, what is left out where ids are wrong, and how each sort of bad input
+ * is refused. What everything means stands in include/mowfrost.h; how this is compiled and run, in examples/README.md. */
 #include <mowfrost.h>
 
 #include <math.h>
@@ -56,7 +56,16 @@ static void print_record(void)
         printf("  %g m2 facing %g %g %g\n", row[0], row[1], row[2], row[3]);
 }
 
-/* An answer in words. A refusal leaves the record, which held 17 times 77, as it was. */
+/* What was left out and why; nothing where nothing was. */
+static void print_left_out(const char *what)
+{
+    unsigned used = record[17], out_of_range = record[18], slivers = record[19];
+    if (out_of_range + slivers > 0)
+        printf("%s: %u of %u triangles left out: out of range %u, slivers %u\n", what, out_of_range + slivers,
+               used + out_of_range + slivers, out_of_range, slivers);
+}
+
+/* An answer in words. A refusal leaves the record, which held 77 in every word, as it was. */
 static void print_answer(const char *what, uint32_t answer)
 {
     int kept = 1;
@@ -78,7 +87,16 @@ int main(void)
         return 1;
     }
     print_record();
+    print_left_out("the cube");
     printf("pieces: %u\n", (unsigned)mf_pieces(ids, LENGTH(ids), work, LENGTH(work)));
+
+    /* The last id of the first triangle names no vertex: there are eight. And the second triangle has no area. */
+    uint32_t wrong[LENGTH(ids)];
+    memcpy(wrong, ids, sizeof wrong);
+    wrong[2] = 8;
+    wrong[4] = wrong[3];
+    if (ask(vertices, wrong, LENGTH(wrong), 1.0f, 0, LENGTH(work)) == 0)
+        print_left_out("the cube with two wrong ids");
 
     float spoilt[LENGTH(vertices)];
     memcpy(spoilt, vertices, sizeof spoilt);

@@ -82,19 +82,25 @@ uint32_t mf_pieces(const uint32_t *ids, size_t ids_len, uint32_t *work, size_t w
  *    3  profile: the defect as it was passed
  *    4  the volume of the mesh, with its sign
  *    5  the volume of its box
- *    6  the area of all triangles, and by slope: 7 top, 8 bottom, 9 side, 10 inclined
+ *    6  the area of all triangles used, and by slope: 7 top, 8 bottom, 9 side, 10 inclined
  *   11  the area of the largest surface
  *   12  of the smallest above 1e-6, 0 if there is none
  *   13  the best volume
  *   14  1 where the prism bound was computed, else 0
  *   15  the prism bound, 0 where it was not computed
  *   16  surfaces: the number of rows in the surface area
+ *   17  used: the number of triangles that sums and surfaces are made of. The others are left out:
+ *   18  out of range: the number of those with an id that names no vertex, where 3 * id + 2 is vertices_len or more
+ *   19  slivers: the number of those with all ids in range and next to no area: in model units, and in f64, the cross
+ *       product of two sides is shorter than 1e-12
+ *
+ * Words 17 to 19 add up to ids_len / 3, with 3 ids and 9 vertex floats or more. The flags change none of them.
  *
  * With 3 ids and 9 vertex floats or more, areas of MF_WORK_WORDS, MF_RASTER_BYTES and MF_SURFACE_FLOATS elements are
  * asked for. A record leaves 0 in so many work words and raster bytes, and its rows at the front of the surface area,
  * four floats each: area, nx, ny, nz, by falling area, then by rising nx, ny, nz. With fewer ids or floats no area is
  * asked for and none is touched: words 0 and 2 are 2, word 3 is the defect, word 14 is 1, all others are 0. */
-#define MF_RECORD_WORDS 17
+#define MF_RECORD_WORDS 20
 #define MF_RASTER_BYTES 65536u
 #define MF_WORK_WORDS(vertices_len, ids_len) (5 * (ids_len) + 4 * ((ids_len) / 3) + 8 * ((vertices_len) / 3))
 #define MF_SURFACE_FLOATS(ids_len) (4 * ((ids_len) / 3))

@@ -12,7 +12,8 @@ DESCRIPTION = "Shows a listing of takeoff in square and cubic metres and in word
 
 EPILOG = """\
 Each number is the shortest decimal that names the same f32. m2 and m3 are square and cubic metres. The volume of an
-open shell depends on where it is measured from, also where the listing says 'reliable 1'.
+open shell depends on where it is measured from, also where the listing says 'reliable 1'. Triangles that were left
+out are counted, with the reason; nothing is said of them where none was.
 
 example:
   takeoff foot.mesh | show_listing.py
@@ -117,6 +118,20 @@ def profile(value: str) -> str:
     return "no defect recorded" if value == "none" else f"{value}: {PROFILES[value]}"
 
 
+def left_out(values: dict[str, str]) -> list[tuple[str, str]]:
+    """How many triangles were left out, and why; nothing where none was."""
+    used, out_of_range, slivers = (int(values[name]) for name in ("used", "range", "sliver"))
+    left = out_of_range + slivers
+    total = used + left
+    of_all = f"{left} of {total} triangle{'' if total == 1 else 's'}, in no area and not in the signed volume"
+    lines = [
+        (left, "Left out", of_all),
+        (out_of_range, "  out of range", f"{out_of_range} with an id that names no vertex"),
+        (slivers, "  slivers", f"{slivers} with no area, or next to none"),
+    ]
+    return [(name, text) for number_of, name, text in lines if number_of > 0]
+
+
 def heading(values: dict[str, str]) -> list[tuple[str, str]]:
     """What a person asks first."""
     too = [("", OPEN_TOO)] if values["quality"] == "open_shell" else []
@@ -127,6 +142,7 @@ def heading(values: dict[str, str]) -> list[tuple[str, str]]:
         ("  method", method(values)),
         ("  profile", profile(values["profile"])),
         ("Pieces", values["pieces"]),
+        *left_out(values),
     ]
 
 

@@ -1,4 +1,4 @@
-"""Reads the listing that `takeoff` prints (document 01, 'The program `takeoff`'), or says which line makes it none."""
+"""Reads the listing that `takeoff` prints (docs/FORMAT.md, 'The listing'), or says which line makes it none."""
 
 from __future__ import annotations
 
@@ -79,6 +79,9 @@ FIELDS: dict[str, Check] = {
     "best": bits,
     "prism": bits_or_none,
     "pieces": count,
+    "used": count,
+    "range": count,
+    "sliver": count,
     "surfaces": count,
 }
 

@@ -6,7 +6,7 @@ import unittest
 
 import show_listing
 from mowfrost.listing import NotAListing
-from tests.common import CUBE_LISTING, Case, run
+from tests.common import CUBE_LISTING, ROOT, Case, run
 
 TOOL = "show_listing.py"
 
@@ -56,6 +56,9 @@ smallest 00000000
 best 00000000
 prism 00000000
 pieces 2
+used 0
+range 0
+sliver 0
 surfaces 0
 """
 
@@ -80,7 +83,7 @@ Smallest surface: none above 0.000001 m2
 Surfaces: none
 """
 
-# An open shell, turned inside out, with numbers that are no neat decimals.
+# An open shell, turned inside out, with numbers that are no neat decimals, and some triangles left out.
 OPEN = """\
 quality open_shell
 reliable 1
@@ -98,6 +101,9 @@ smallest 3dcccccd
 best 41000000
 prism 41000001
 pieces 1
+used 11
+range 2
+sliver 1
 surfaces 2
 3eaaaaab bf666666 becccccd 00000000
 3dcccccd 00000000 00000000 bf800000
@@ -110,6 +116,9 @@ Best volume:      8 m3, reliable only in that it keeps within its bounds
   method:         mesh_open: the volume summed over the open mesh, which keeps within its bounds
   profile:        no defect recorded
 Pieces:           1
+Left out:         3 of 14 triangles, in no area and not in the signed volume
+  out of range:   2 with an id that names no vertex
+  slivers:        1 with no area, or next to none
 
 Signed volume:    -8 m3 (negative: on the whole the faces look inwards)
 Box volume:       3.4028235e+38 m3
@@ -171,17 +180,26 @@ BROKEN = {
     changed("prism none", "prism nan"): "line 15: prism: 'nan' is not eight hex digits in lower case",
     changed("pieces 1", "pieces one"): "line 16: pieces: 'one' is not a count",
     changed("pieces 1", "pieces 01"): "line 16: pieces: '01' is not a count",
-    changed("surfaces 6", "surfaces 7"): "line 24: the listing ends after 6 of 7 rows",
-    changed("surfaces 6", "surfaces 5"): "line 23: the listing has ended, yet here is '40800000 3f800000 00000000 "
+    changed("used 12\nrange 0\nsliver 0\n", ""): "line 17: 'used' belongs here, not 'surfaces 6'",
+    changed("range 0\n", ""): "line 18: 'range' belongs here, not 'sliver 0'",
+    changed("sliver 0\n", ""): "line 19: 'sliver' belongs here, not 'surfaces 6'",
+    changed("range 0\nsliver 0", "sliver 0\nrange 0"): "line 18: 'range' belongs here, not 'sliver 0'",
+    changed("pieces 1\nused 12\n", "used 12\npieces 1\n"): "line 16: 'pieces' belongs here, not 'used 12'",
+    changed("used 12", "used 0000000c"): "line 17: used: '0000000c' is not a count",
+    changed("used 12", "used -1"): "line 17: used: '-1' is not a count",
+    changed("range 0", "range none"): "line 18: range: 'none' is not a count",
+    changed("sliver 0", "sliver"): "line 19: sliver: '' is not a count",
+    changed("surfaces 6", "surfaces 7"): "line 27: the listing ends after 6 of 7 rows",
+    changed("surfaces 6", "surfaces 5"): "line 26: the listing has ended, yet here is '40800000 3f800000 00000000 "
     "00000000'",
-    changed("surfaces 6", "surfaces 9999999999"): "line 24: the listing ends after 6 of 9999999999 rows",
-    changed(" 3f800000 00000000\n", " 3f800000\n"): "line 22: a row of four numbers belongs here, not "
+    changed("surfaces 6", "surfaces 9999999999"): "line 27: the listing ends after 6 of 9999999999 rows",
+    changed(" 3f800000 00000000\n", " 3f800000\n"): "line 25: a row of four numbers belongs here, not "
     "'40800000 00000000 3f800000'",
-    changed("00000000 3f800000\n", "00000000 3f80000\n"): "line 21: row: '3f80000' is not eight hex digits in lower "
+    changed("00000000 3f800000\n", "00000000 3f80000\n"): "line 24: row: '3f80000' is not eight hex digits in lower "
     "case",
-    CUBE_LISTING + "bye\n": "line 24: the listing has ended, yet here is 'bye'",
-    CUBE_LISTING + "\n": "line 24: the listing has ended, yet here is ''",
-    CUBE_LISTING + CUBE_LISTING: "line 24: the listing has ended, yet here is 'quality closed'",
+    CUBE_LISTING + "bye\n": "line 27: the listing has ended, yet here is 'bye'",
+    CUBE_LISTING + "\n": "line 27: the listing has ended, yet here is ''",
+    CUBE_LISTING + CUBE_LISTING: "line 27: the listing has ended, yet here is 'quality closed'",
     "refused\n": "line 1: 'refused' is not 'refused' and a number",
     "refused six\n": "line 1: 'refused six' is not 'refused' and a number",
     "refused 5 6\n": "line 1: 'refused 5 6' is not 'refused' and a number",
@@ -205,6 +223,33 @@ class Words(unittest.TestCase):
 
     def test_open_shell(self) -> None:
         self.check(OPEN, OPEN_WORDS)
+
+    def test_left_out(self) -> None:
+        out_of_range = "  out of range:   {} with an id that names no vertex\n"
+        sliver = "  slivers:        {} with no area, or next to none\n"
+        for counts, of_all, why in (
+            ((12, 0, 0), "", ""),
+            ((0, 0, 0), "", ""),
+            ((9, 3, 0), "3 of 12 triangles", out_of_range.format(3)),
+            ((9, 0, 3), "3 of 12 triangles", sliver.format(3)),
+            ((1, 511, 20), "531 of 532 triangles", out_of_range.format(511) + sliver.format(20)),
+            ((0, 1, 0), "1 of 1 triangle", out_of_range.format(1)),
+        ):
+            listing = changed("used 12\nrange 0\nsliver 0\n", "used {}\nrange {}\nsliver {}\n".format(*counts))
+            left_out = f"Left out:         {of_all}, in no area and not in the signed volume\n{why}" if why else ""
+            pieces = "Pieces:           1\n"
+            self.check(listing, CUBE_WORDS.replace(pieces, pieces + left_out))
+
+    def test_the_format_shows_what_is_said(self) -> None:
+        """docs/FORMAT.md: its five lines, and the words for them."""
+        lines = "pieces 1\nused 10\nrange 1\nsliver 1\nsurfaces 5\n"
+        listing = CUBE_LISTING[: CUBE_LISTING.rindex("40800000")].replace(
+            "pieces 1\nused 12\nrange 0\nsliver 0\nsurfaces 6\n", lines
+        )
+        words = show_listing.words(listing.encode())
+        text = (ROOT / "docs" / "FORMAT.md").read_text()
+        self.assertIn(f"```\n{lines}```\n", text)
+        self.assertIn(f"```\n{words[words.index('Pieces:'):words.index('Signed')].strip()}\n```\n", text)
 
     def test_degenerate_says_why(self) -> None:
         for change, why in (

@@ -135,6 +135,14 @@ class Answers(unittest.TestCase):
         self.assertEqual(takeoff(given=CUBE_BYTES), (0, CUBE_LISTING, ""))
         self.assertEqual(takeoff("-", given=CUBE_BYTES), (0, CUBE_LISTING, ""))
 
+    def test_left_out(self) -> None:
+        """The first triangle, 023, with an id out of range, and the second, 031, with one twice."""
+        ids = 118
+        wrong = CUBE_BYTES[: ids + 8] + b"\x08\x00\x00\x00\x00\x00\x00\x00\x00\x00\x00\x00" + CUBE_BYTES[ids + 20 :]
+        status, out, err = takeoff(given=wrong)
+        self.assertEqual((status, err), (0, ""))
+        self.assertEqual(out.splitlines()[15:20], ["pieces 1", "used 10", "range 1", "sliver 1", "surfaces 5"])
+
     def test_refusals(self) -> None:
         unit = CUBE_BYTES[:6] + b"\x00\x00\x88\x41" + CUBE_BYTES[10:]
         nan = CUBE_BYTES[:16] + b"\x01\x00\x80\x7f" + CUBE_BYTES[20:]

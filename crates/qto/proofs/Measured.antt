@@ -73,11 +73,11 @@ module _
         subst (λ (q : Thresholds). Walks vs (origin (box vs)) q ids s r w) (found .is-pair)
         (subst (λ (q : List Float). Walks vs q p ids s r w) (found .is-origin ∙ ap origin (found .is-box)) (found .walked))
 
-    totalled : r .sums .totals ≡ totals vs ids
+    totalled : r .totals ≡ totals vs ids
     unfolding totals
     totalled = walks .totals
 
-    counted : r .sums .rows ≡ length (buckets vs ids)
+    counted : r .rows ≡ length (buckets vs ids)
     unfolding buckets
     counted = walks .count
 
@@ -89,13 +89,13 @@ module _
     asked : T (allFine vs) → r .counts ≡ countsOf vs (origin (box vs)) ids
     asked fine = walks .counts ∙ counts-are vs ids fine
 
-    long : length (flatten (rows (buckets vs ids))) ≡ 4 * r .sums .rows
+    long : length (flatten (rows (buckets vs ids))) ≡ 4 * r .rows
     long = length-flatten (rows (buckets vs ids)) ∙ ap (λ (k : ℕ). 4 * k) (length-rows (buckets vs ids) ∙ sym counted)
 
-    pub few : length ids ≤ mostEntries → r .sums .rows ≤ 32768
+    pub few : length ids ≤ mostEntries → r .rows ≤ 32768
     few h = omega (arith, h, walks .few)
 
-    count-rows : r .sums .rows ≡ length (surfaceRows vs ids u)
+    count-rows : r .rows ≡ length (surfaceRows vs ids u)
     unfolding surfaceRows
     count-rows =
         sym
@@ -103,7 +103,7 @@ module _
         ∙ length-rows (buckets vs ids) ∙ sym counted)
 
     -- the first k floats, four a row, are the rows
-    module _ (k : ℕ) (is-front : k ≡ 4 * r .sums .rows) where
+    module _ (k : ℕ) (is-front : k ≡ 4 * r .rows) where
       front : take k w ≡ flatten (rows (buckets vs ids))
       front = ap (take k) whole ∙ take-at (flatten (rows (buckets vs ids))) (drop (4 * length (buckets vs ids)) s) k (long ∙ sym is-front)
 
@@ -119,7 +119,7 @@ module _
       unfolding surfaceRows
       arranged-rows = ap (λ (l : List PlanarSurface). sorted (scaled (square u) l)) front-rows
 
-      front-length : length (take k w) ≡ 4 * r .sums .rows
+      front-length : length (take k w) ≡ 4 * r .rows
       front-length = ap length front ∙ long
 
       front-plain : T (unitFits u) → T (allFine vs) → T (allPlain (scaled (square u) (rowsOf (take k w))))
@@ -128,14 +128,14 @@ module _
           subst (λ (l : List PlanarSurface). T (allPlain (scaled (square u) l))) (sym front-rows)
           (buckets-plain vs ids (square u) (triangleCount ids) fine (unit-square u h))
 
-      pub arrangeable : Passes vs ids u → Arrangeable (take k w) (r .sums .rows) (square u)
+      pub arrangeable : Passes vs ids u → Arrangeable (take k w) (r .rows) (square u)
       arrangeable h = record { few = few (h .ids-most); floats = front-length; plain = front-plain (h .unit) (h .fine) }
 
       -- what the code makes of the sums and of the rows when these are in order: x before y, which stands behind the rows
       module _ (e : Extremes) (x : List Float) (arranged : Arranged (take k w) (square u) e x) where
         pub measured : (volume surface c q : Float) (areas : Areas) → T (allFine vs) → volume
-            ≡ rounded binary32 (r .sums .totals .volume6 ⧄ ofBits binary64 0x4018_0000_0000_0000 ⊠ c) → c ≡ cube u
-            → surface ≡ rounded binary32 (r .sums .totals .surface ⊠ q) → q ≡ square u → areas ≡ scaledAreas (square u) (r .sums .totals .areas)
+            ≡ rounded binary32 (r .totals .volume6 ⧄ ofBits binary64 0x4018_0000_0000_0000 ⊠ c) → c ≡ cube u
+            → surface ≡ rounded binary32 (r .totals .surface ⊠ q) → q ≡ square u → areas ≡ scaledAreas (square u) (r .totals .areas)
             → _≡_ {A = Measures}
             (record {
               volume = volume;
@@ -143,7 +143,7 @@ module _
               areas = areas;
               largest = e .largest;
               smallest = e .smallest;
-              count = r .sums .rows;
+              count = r .rows;
               triangles = r .counts;
             })
             (measures vs ids u)
@@ -151,6 +151,6 @@ module _
         measured volume surface c q areas fine hv hc hs hq ha =
             rw (arranged .largest-is, arranged .smallest-is, hv, hc, hs, hq, ha, arranged-rows, count-rows, totalled, asked fine)
 
-        pub rows-after : (y : List Float) → y ≡ drop (4 * r .sums .rows) w → x ++ y ≡ surfacesAfter vs ids u s
+        pub rows-after : (y : List Float) → y ≡ drop (4 * r .rows) w → x ++ y ≡ surfacesAfter vs ids u s
         unfolding surfacesAfter
         rows-after y hy = rw (arranged .later, hy ∙ ap (λ (n : ℕ). drop n w) (sym is-front), back, arranged-rows)

@@ -68,10 +68,9 @@ fn measure(
         index,
         surfaces,
     );
-    let s = w.sums;
+    let n = w.rows;
+    let t = w.totals;
     let triangles = w.counts;
-    let n = s.rows;
-    let t = s.totals;
     let areas = t.areas;
     let e = arrange(&mut surfaces[0..4 * n], n, square);
     Measures {

@@ -1,6 +1,6 @@
 -- One triangle more; what the rows are worth; no sum overflows.
-mod Turns
 mod Counting
+mod Turns
 pub mod Counts
 pub mod Worth
 pub mod Finite

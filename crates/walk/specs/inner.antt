@@ -1,4 +1,4 @@
 -- What only the contracts of this crate's own functions speak of: nobody has to believe it.
-pub mod Steps
 pub mod Counting
+pub mod Steps
 pub mod Walks

@@ -1,18 +1,18 @@
 // One walk over the triangles: the totals, a row for each key of a normal, and how many triangles were used and left out. Internal: `qto`
 // asks it.
-ghost use Rattle.surfaces.specs.inner.Index.{Ready};
 ghost use Rattle.sums.specs.inner.Prepared.{partBy};
-ghost use Rattle.walk.specs.inner.Steps.{state, Takes};
-ghost use Rattle.walk.specs.inner.Counting.{Countable, CountsPart};
+ghost use Rattle.walk.specs.inner.Steps.{state, Takeable, Takes};
 ghost use Rattle.walk.specs.inner.Walks.{Walkable, Walks};
 use sums::Prepared;
 use sums::Thresholds;
 use sums::Totals;
 
-// What the triangles done so far add up to, and how many rows they have.
+// What the triangles done so far add up to, how many rows they have, and how many were used and were slivers.
 pub struct Sums {
     pub totals: Totals,
     pub rows: usize,
+    pub used: u32,
+    pub sliver: u32,
 }
 
 // How many triangles were used, and how many left out and why.
@@ -22,22 +22,24 @@ pub struct TriangleCounts {
     pub sliver: u32,
 }
 
-// What a walk over all triangles gives.
+// What all triangles add up to.
 pub struct Walked {
-    pub sums: Sums,
+    pub totals: Totals,
+    pub rows: usize,
     pub counts: TriangleCounts,
 }
 
-// What is prepared of a triangle more: a facet adds its row and its part of the totals.
+// What is prepared of a triangle more: a facet adds its row and its part of the totals. It is counted as used or as a sliver; what is
+// neither is out of range, or no triangle.
 fn take(
     pair: Thresholds,
-    s: Sums,
+    mut s: Sums,
     p: Prepared,
     index: &mut [u32],
     rows: &mut [f32],
     m: usize,
 ) -> Sums
-    requires { ⌜ Ready m (s .rows) (now index) (now rows) ⌝ }
+    requires { ⌜ Takeable m s (now index) (now rows) ⌝ }
     ensures { λ r. ⌜ Takes m pair (partBy p) (state (now (index .entry)) (now (rows .entry)) s)
         (state (now (index .exit)) (now (rows .exit)) r) ⌝ }
 {
@@ -45,31 +47,19 @@ fn take(
         return s;
     }
     if p.length < 1e-12 {
+        s.sliver += 1;
         return s;
     }
+    let used = s.used + 1;
     let f = sums::facet_by(p);
     let totals = s.totals;
     let n = surfaces::put_normal(index, rows, m, s.rows, f.nx, f.ny, f.nz, f.area32);
     Sums {
         totals: totals.add(pair, f),
         rows: n,
+        used,
+        sliver: s.sliver,
     }
-}
-
-// It is counted: used or a sliver. What is neither is out of range, or no triangle.
-fn count(mut c: TriangleCounts, p: Prepared) -> TriangleCounts
-    requires { ⌜ Countable c ⌝ }
-    ensures { λ r. ⌜ CountsPart (partBy p) c r ⌝ }
-{
-    if !p.in_range {
-        return c;
-    }
-    if p.length < 1e-12 {
-        c.sliver += 1;
-    } else {
-        c.used += 1;
-    }
-    c
 }
 
 // The sums and counts of all triangles. The rows stand first in the surface area; the index, 5 words a triangle, is left as it is, since all words are
@@ -92,10 +82,7 @@ pub fn walk(
     let mut s = Sums {
         totals: Totals::none(),
         rows: 0,
-    };
-    let mut counts = TriangleCounts {
         used: 0,
-        out_of_range: 0,
         sliver: 0,
     };
     let mut held = sums::nothing();
@@ -104,12 +91,21 @@ pub fn walk(
     while t <= m + 1 {
         let p = sums::with_root(next, held);
         let r = sums::cross_at(vertices, indices, origin, t);
-        counts = count(counts, held);
         s = take(pair, s, held, index, rows, m);
         held = p;
         next = r;
         t += 1;
     }
-    counts.out_of_range = m as u32 - counts.used - counts.sliver;
-    Walked { sums: s, counts }
+    let totals = s.totals;
+    let out_of_range = m as u32 - s.used - s.sliver;
+    let counts = TriangleCounts {
+        used: s.used,
+        out_of_range,
+        sliver: s.sliver,
+    };
+    Walked {
+        totals,
+        rows: s.rows,
+        counts,
+    }
 }

@@ -37,20 +37,20 @@ module _ (c : tie.After-walk) where
         walked = c .walk .ensures;
       }
 
-abbrev at-walk : tie.After-s → tie.After-walk
+abbrev at-walk : tie.After-t → tie.After-walk
 at-walk c = c .before .before .before .before .before
 
 arrange-requires : tie.Need-arrange-requires
 arrange-requires c κs =
-    let k = at-walk (c .before .before .before .before) in
-    arrangeable (u k) (found k) (4 * k .walk .result .sums .rows - 0) (omega arith) (s k .pre .mesh)
+    let k = at-walk (c .before .before .before) in
+    arrangeable (u k) (found k) (4 * k .walk .result .rows - 0) (omega arith) (s k .pre .mesh)
 
 returns : tie.Need-returns
 returns c =
     let after = c .before .before .before .before in
     let last = after .before .before .before .before in
-    let k = at-walk (last .before .before .before .before .before) in
-    let front = 4 * k .walk .result .sums .rows in
+    let k = at-walk (last .before .before .before .before) in
+    let front = 4 * k .walk .result .rows in
     let e = last .arrange in
     record {
       is =

@@ -30,8 +30,8 @@ withRows bs s = flatten (rows bs) ++ drop (4 * length bs) s
 
 -- r are the sums and counts over all triangles, and u is the surface area s with their rows first
 pub record Walks (vs o : List Float) (p : Thresholds) (ids : List ℕ) (s : List Float) (r : Walked) (u : List Float) : Type 0 where
-  pub totals : r .sums .totals ≡ totalsTo vs o p ids (triangleCount ids)
-  pub count : r .sums .rows ≡ length (bucketsTo vs o ids (triangleCount ids))
-  pub few : r .sums .rows ≤ triangleCount ids
+  pub totals : r .totals ≡ totalsTo vs o p ids (triangleCount ids)
+  pub count : r .rows ≡ length (bucketsTo vs o ids (triangleCount ids))
+  pub few : r .rows ≤ triangleCount ids
   pub surfaces : u ≡ withRows (bucketsTo vs o ids (triangleCount ids)) s
   pub counts : r .counts ≡ partCounts vs o ids

@@ -1,4 +1,4 @@
--- The order of the flags; document 01's numbers for the defects name them.
+-- The order of the flags; what they leave alone; document 01's numbers for the defects name them.
 mod Order
 pub mod Numbers
-pub mod Flags
+pub mod Kept

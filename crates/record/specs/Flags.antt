@@ -1,5 +1,4 @@
 -- Flags (01): what an unapplied clip and a profile defect do to a record. Its numbers and its quality stay.
-use mathlib.Core.Path.{_≡_}
 use mathlib.Core.Bool.{Bool, true, false}
 use Rattle.volume.specs.declared.Method.{Method}
 use Rattle.record.specs.declared.MeshQto.{MeshQto}
@@ -58,12 +57,3 @@ ifInvalid (Profile.Invalid d) q = profileInvalid q d
 
 abbrev pub flagged : Bool → Profile → MeshQto → MeshQto
 flagged clip profile q = ifInvalid profile (ifClip clip q)
-
--- flags leave the counts of triangles alone (02, A1; `flags-leave-counts`)
-pub record SameCounts (q q′ : MeshQto) : Type 0 where
-  pub used : q′ .«triangles_used» ≡ q .«triangles_used»
-  pub out-of-range : q′ .«triangles_out_of_range» ≡ q .«triangles_out_of_range»
-  pub sliver : q′ .«triangles_sliver» ≡ q .«triangles_sliver»
-
-abbrev pub FlagsLeaveCounts : Type 0
-FlagsLeaveCounts = (clip : Bool) (profile : Profile) (q : MeshQto) → SameCounts q (flagged clip profile q)

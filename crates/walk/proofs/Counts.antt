@@ -16,7 +16,8 @@ use Rattle.sums.specs.Fine.{allFine}
 use Rattle.sums.specs.Totals.{withPart}
 use Rattle.sums.proofs.Areas.{size-number}
 use Rattle.walk.specs.Walk.{withSurface}
-use Rattle.walk.specs.Counts.{isOutOfRange, isSliver, isUsed, crossLength, howMany, countsOf, CountsAddUp, CountedAsItAdds}
+use Rattle.walk.specs.Counts.{isOutOfRange, isSliver, isUsed, crossLength, howMany, countsOf}
+use Rattle.walk.specs.Counted.{CountsAddUp, CountedAsItAdds, UsedWhereItAdds}
 use Rattle.walk.specs.inner.Counting.{isFacet, isThin, isNone, partCounts}
 use Rattle.walk.proofs.Counting.{one-of-three, same-sums, three-make-all, triangles-length}
 
@@ -47,7 +48,7 @@ module _ (vs : List Float) (fine : T (allFine vs)) (t : Triangle) where
       go true false h k = record { used = rw (h, long-enough h, k); out-of-range = rw (h, k); sliver = rw (h, k) }
       go true true h k = record { used = rw (h, long-enough h, k); out-of-range = rw (h, k); sliver = rw (h, k) }
 
-  pub counted-as-it-adds : CountedAsItAdds vs t
+  counted-as-it-adds : CountedAsItAdds vs t
   unfolding isUsed part partOf withPart withSurface
   counted-as-it-adds = go (cornersInRange vs t) (lt (crossLength vs o t) shortest) refl refl
     where
@@ -65,6 +66,9 @@ module _ (vs : List Float) (fine : T (allFine vs)) (t : Triangle) where
             no-total = λ y p s. rw (h, k);
             no-surface = λ y bs. rw (h, k);
           }
+
+pub used-where-it-adds : UsedWhereItAdds
+used-where-it-adds vs fine t = counted-as-it-adds vs fine t
 
 -- ---- the counts
 

@@ -1,6 +1,7 @@
 -- The sums over all triangles of a mesh.
 pub mod Walk
 pub mod Counts
+pub mod Counted
 pub mod Worth
 pub mod Domain
 pub mod inner

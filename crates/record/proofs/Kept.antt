@@ -2,7 +2,8 @@
 use mathlib.Core.Path.{refl}
 use mathlib.Core.Bool.{true, false}
 use Rattle.record.specs.declared.Profile.{Profile}
-use Rattle.record.specs.Flags.{marked, ifClip, ifInvalid, FlagsLeaveCounts}
+use Rattle.record.specs.Flags.{marked, ifClip, ifInvalid}
+use Rattle.record.specs.Kept.{FlagsLeaveCounts}
 
 pub flags-leave-counts : FlagsLeaveCounts
 unfolding marked ifClip ifInvalid

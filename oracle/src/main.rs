@@ -70,7 +70,8 @@ MOWFROST_PORT names a folder with a libcapi.a and a libprobe.a of its kind when 
                                all words of the record, every place of the areas, and that whatever has to stay did; of two
                                open shells best volume, method, trust and bound may differ, and how often they do is counted;
                                so are pairs with an id out of range and with slivers; last line 'A agree, D differ'
-  oracle speed compute         milliseconds a record, at an eighth of the most triangles up to all; nanoseconds for small
+  oracle speed compute         milliseconds a record, at an eighth of the most triangles up to all; nanoseconds for small;
+                               beside the original alone and with the plain counts of triangles behind it
   oracle speed                 compute and each id routine beside the original on the meshes whose ratios are bounded, with
                                the bound; then how the time grows from a quarter of the most triangles to all
   oracle repeat ROUTINE MESH TRIANGLES TIMES

@@ -45,6 +45,7 @@ pub fn run(run: Run) -> io::Result<ExitCode> {
 }
 
 mod linked {
+    use mowfrost_oracle::compute::speed::Row;
     use mowfrost_oracle::floats::compare::{on_all_32, on_chance, on_edges, Count};
     use mowfrost_oracle::floats::helpers::{Width, HELPERS};
     use mowfrost_oracle::{compute, floats, ids, moves, raster, speed, weld};
@@ -237,13 +238,24 @@ mod linked {
     }
 
     pub fn speed_compute() -> io::Result<ExitCode> {
-        let ms = compute::speed::rows().map(|row| (row.on, row.triangles, 1e3 * row.port, 1e3 * row.rust));
-        race("triangles", ms)?;
+        records("mesh", "ms", 1e3, 3, compute::speed::rows())?;
+        println!();
+        records("small mesh", "ns", 1e9, 0, compute::speed::small())
+    }
+
+    /// The original alone, and with the plain counts behind it.
+    fn records(of: &str, unit: &str, by: f64, digits: usize, rows: impl Iterator<Item = Row>) -> io::Result<ExitCode> {
         let mut out = io::stdout().lock();
-        writeln!(out, "\n| small mesh | triangles | port, ns | Rust, ns | ratio |\n|---|---|---|---|---|")?;
-        for row in compute::speed::small() {
-            let (on, triangles, ratio) = (row.on, row.triangles, row.port / row.rust);
-            writeln!(out, "| {on} | {triangles} | {:.0} | {:.0} | {ratio:.2} |", 1e9 * row.port, 1e9 * row.rust)?;
+        writeln!(
+            out,
+            "| {of} | triangles | port, {unit} | Rust, {unit} | ratio | Rust, then counts, {unit} | ratio |"
+        )?;
+        writeln!(out, "|---|---|---|---|---|---|---|")?;
+        for row in rows {
+            let (on, triangles, counted) = (row.on, row.triangles, row.rust + row.counts);
+            let [port, rust, both] = [row.port, row.rust, counted].map(|t| format!("{:.digits$}", by * t));
+            let (alone, with) = (row.port / row.rust, row.port / counted);
+            writeln!(out, "| {on} | {triangles} | {port} | {rust} | {alone:.2} | {both} | {with:.2} |")?;
         }
         Ok(ExitCode::SUCCESS)
     }

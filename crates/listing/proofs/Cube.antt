@@ -4,7 +4,8 @@ use lib.Ieee.{toBits, ofBits}
 use Rattle.ids.specs.Uses.{bit}
 use Rattle.record.specs.Names.{qualityName, methodName, profileName}
 use Rattle.spelling.specs.Text.{glyph, hex, bits, decimalIn, line}
-use Rattle.listing.specs.Listing.{trustLines, numberLines, prismText, triangleLines, countLines, rowLine, rowLines, headLines, listingOf}
+use Rattle.listing.specs.Listing.{trustLines, numberLines, prismText, triangleLines, countLines, headLines}
+use Rattle.listing.specs.Listing.{rowLine, rowLines, listingOf}
 use Rattle.listing.specs.Cube.{cubeRecord, cubeRows, endedLines, cubeText, CubeLines}
 
 pub cube-lines : CubeLines

@@ -1,4 +1,5 @@
-// The listing of document 01, with 02's counts, as bytes in a lent area: `list` for a record with its rows and pieces, `list_refusal` for a refusal.
+// The listing of document 01, with 02's counts, as bytes in a lent area: `list` for a record with its rows and pieces, `list_refusal` for
+// a refusal.
 ghost use mathlib.Core.Path.{_≡_};
 ghost use Prim.Native.Nat.{_+_, _*_, _≤_, _<_};
 ghost use lib.ListN.{length};

@@ -64,7 +64,8 @@ module _ (clip : Bool) (p : Profile) (q : MeshQto) (s : List Float) (n : ℕ) (a
       → textAreasShort (flagged clip p q .«surface_count») (length s) (length area) ≡ false
   unfolding textBytes
   not-short hs ha =
-      rw (keeps-count clip p q, le-ltb (length s) (4 * q .«surface_count») hs, le-ltb (length area) (headBytes + 36 * q .«surface_count») ha)
+      let n = q .«surface_count» in
+      rw (keeps-count clip p q, le-ltb (length s) (4 * n) hs, le-ltb (length area) (headBytes + 36 * n) ha)
 
   same-text : listingFor (flagged clip p q) s n ≡ listingOf (flagged clip p q) (rowsOf (take (4 * q .«surface_count») s)) n
   unfolding listingFor

@@ -25,6 +25,7 @@ counts-of-mesh vs ids u p = counts-add-up vs ids (p .fine)
 pub full-counts : FullCounts
 unfolding answerAt
 full-counts vs ids u w r s a w′ r′ s′ q c e k =
-    let full : answerAt Check.Full (recordOf vs ids u) ≡ Answer.Record q = ap (λ (x : Check). answerAt x (recordOf vs ids u)) (sym k) ∙ sym (c .answers) ∙ e in
+    let full : answerAt Check.Full (recordOf vs ids u) ≡ Answer.Record q =
+    ap (λ (x : Check). answerAt x (recordOf vs ids u)) (sym k) ∙ sym (c .answers) ∙ e in
     let same : recordOf vs ids u ≡ q = cc in
     rw (← same) (counts-of-mesh vs ids u (admitted vs ids u (length w) (length r) (length s) Check.Full refl (sym k) .mesh))

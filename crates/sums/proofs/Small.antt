@@ -106,7 +106,8 @@ rebased-octant vs v h l =
           above = sub-sides binary64 x o (X .finite-is) (O .finite-is) .1 (lowest-le vs h axis a (vertexCount vs) v (omega arith) l);
         }
 
-pub small-at : (vs : List Float) (t : Triangle) → T (allFine vs) → cornersInRange vs t ≡ true → Small (rebasedCorners vs (origin (box vs)) t)
+pub small-at : (vs : List Float) (t : Triangle) → T (allFine vs) → cornersInRange vs t ≡ true
+    → Small (rebasedCorners vs (origin (box vs)) t)
 small-at vs t h r =
     let in-range = corners-are vs t r in
     record {

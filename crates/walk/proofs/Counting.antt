@@ -27,7 +27,8 @@ same-sums f g e [] = refl
 same-sums f g e (k ∷ l) = rw (e k, same-sums f g e l)
 
 -- three that make one of each element make the length of a list
-pub three-make-all : {K : Type 0} (f g h : K → ℕ) → ((k : K) → f k + g k + h k ≡ 1) → (l : List K) → sumBy f l + sumBy g l + sumBy h l ≡ length l
+pub three-make-all : {K : Type 0} (f g h : K → ℕ) → ((k : K) → f k + g k + h k ≡ 1) → (l : List K)
+    → sumBy f l + sumBy g l + sumBy h l ≡ length l
 unfolding sumBy
 three-make-all f g h one [] = refl
 three-make-all f g h one (k ∷ l) = omega (arith, one k, three-make-all f g h one l)
@@ -35,7 +36,8 @@ three-make-all f g h one (k ∷ l) = omega (arith, one k, three-make-all f g h o
 numbers-length : (ids : List ℕ) (n : ℕ) → length (overNumbers (λ k. triangle ids k ∷ []) n) ≡ n
 unfolding overNumbers
 numbers-length ids zero = refl
-numbers-length ids (suc n) = length-append (overNumbers (λ k. triangle ids k ∷ []) n) (triangle ids n ∷ []) ∙ omega (arith, numbers-length ids n)
+numbers-length ids (suc n) =
+    length-append (overNumbers (λ k. triangle ids k ∷ []) n) (triangle ids n ∷ []) ∙ omega (arith, numbers-length ids n)
 
 pub triangles-length : (ids : List ℕ) → length (overTriangles (λ t. t ∷ []) ids) ≡ triangleCount ids
 triangles-length ids = ap length (by-number (λ t. t ∷ []) ids) ∙ numbers-length ids (triangleCount ids)

@@ -62,9 +62,10 @@ fn take(
     }
 }
 
-// The sums and counts of all triangles. The rows stand first in the surface area; the index, 5 words a triangle, is left as it is, since all words are
-// cleared when the verdict is known. In one turn a triangle gets its cross product, the one in front of it its root, and the one in front
-// of that is taken: the three have nothing to do with each other, so that a processor looks for a row while it works at a root.
+// The sums and counts of all triangles. The rows stand first in the surface area; the index, 5 words a triangle, is left as it is, since
+// all words are cleared when the verdict is known. In one turn a triangle gets its cross product, the one in front of it its root, and the
+// one in front of that is taken: the three have nothing to do with each other, so that a processor looks for a row while it works at a
+// root. What is neither used nor a sliver in the end was out of range.
 pub fn walk(
     vertices: &[f32],
     indices: &[u32],

@@ -1,9 +1,11 @@
-//! `oracle speed compute`: how long a record takes, and how long the original's, in one process.
+//! `oracle speed compute`: how long a record takes, how long the original's, and how long the plain counts of triangles that
+//! the original has not, in one process.
 
 use super::areas::{Areas, WORDS};
 use super::capi;
 use super::compare::Call;
 use super::shapes::SHAPES;
+use crate::counts::counts;
 use crate::file::MeshFile;
 use crate::linked::bits;
 use crate::mesh::qto;
@@ -24,6 +26,8 @@ pub struct Row {
     /// Seconds a call.
     pub port: f64,
     pub rust: f64,
+    /// The counts of A1 alone, by the plain reference.
+    pub counts: f64,
 }
 
 /// Each shape at an eighth of its most triangles, a quarter, a half and all: how the time grows.
@@ -49,12 +53,14 @@ pub fn small() -> impl Iterator<Item = Row> {
     .map(|(on, shape)| race(on, shape))
 }
 
-/// The best of several turns, port and original one after the other.
+/// The best of several turns, port, original and plain counts one after the other.
 pub fn race(on: &'static str, shape: Shape) -> Row {
     let mesh = plain(1.0, &shape.vertices, &shape.ids);
     let mut port = lent_port(&mesh);
     let rust = |mesh: &MeshFile| qto::compute(&mesh.vertices, &mesh.ids, mesh.unit);
-    let mut row = Row { on, triangles: shape.triangles(), port: f64::INFINITY, rust: f64::INFINITY };
+    let plain = |mesh: &MeshFile| counts(&mesh.vertices, &mesh.ids);
+    let triangles = shape.triangles();
+    let mut row = Row { on, triangles, port: f64::INFINITY, rust: f64::INFINITY, counts: f64::INFINITY };
     let once = time(1, &mesh, &mut port).min(time(1, &mesh, rust));
     let calls = (TURN / once).ceil() as usize;
     let begun = Instant::now();
@@ -62,6 +68,7 @@ pub fn race(on: &'static str, shape: Shape) -> Row {
     while turns < TURNS || begun.elapsed().as_secs_f64() < ENOUGH {
         row.port = row.port.min(time(calls, &mesh, &mut port));
         row.rust = row.rust.min(time(calls, &mesh, rust));
+        row.counts = row.counts.min(time(calls, &mesh, plain));
         turns += 1;
     }
     row

@@ -11,10 +11,9 @@ unfolding line countLines
 returns c =
     let z = c .before .before in
     let y = z .before .before .before .before .before in
-    let x = y .before .before .before .before in (
-      puts-both (x .count-line .ensures .0) (puts-both (y .triangle-lines .ensures .0) (z .count-line2 .ensures .0) (search needs)) (search needs),
-      search needs,
-    )
+    let x = y .before .before .before .before in
+    let behind = puts-both (y .triangle-lines .ensures .0) (z .count-line2 .ensures .0) (search needs) in
+    (puts-both (x .count-line .ensures .0) behind (search needs), search needs)
 
 pub count-lines-spec : {M : Type 1} → statement M
 count-lines-spec =

@@ -54,8 +54,8 @@ returns c =
     let e = last .arrange in
     record {
       is =
-          measured (u k) (found k) (front - 0) (omega arith) (e .result) _ (e .ensures) _ _ _ _ _ (s k .pre .mesh .fine) (after .narrow .ensures)
-          (from-origin k .before .f32-to-f64-with-nan .ensures) (c .before .narrow2 .ensures)
+          measured (u k) (found k) (front - 0) (omega arith) (e .result) _ (e .ensures) _ _ _ _ _ (s k .pre .mesh .fine)
+          (after .narrow .ensures) (from-origin k .before .f32-to-f64-with-nan .ensures) (c .before .narrow2 .ensures)
           (c .before .before .before .f32-to-f64-with-nan2 .ensures) (c .scaled .ensures);
       few = few (u k) (found k) (s k .pre .mesh .ids-most);
       later = rows-after (u k) (found k) (front - 0) (omega arith) (e .result) _ (e .ensures) _ (post-is 0 front (area k) (omega arith));

@@ -104,5 +104,5 @@ pub walk-spec : {M : Type 1} → statement M
 walk-spec =
     tie.close
     (tie.spec Inv-loop μ-loop (λ c κs. search needs) (λ c κs. search needs) (λ c κs. search needs) (λ c κs. search needs) loop-holds
-    (λ c. search needs) with-root-requires cross-at-requires take-requires add-t (λ c. search needs) loop-again cast-out-of-range sub-out-of-range sub-out-of-range-2
-    (λ c. search needs) (λ c. search needs) returns)
+    (λ c. search needs) with-root-requires cross-at-requires take-requires add-t (λ c. search needs) loop-again cast-out-of-range
+    sub-out-of-range sub-out-of-range-2 (λ c. search needs) (λ c. search needs) returns)

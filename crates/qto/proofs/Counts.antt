@@ -7,7 +7,6 @@ use lib.ListN.{length}
 use lib.Ieee.{Float}
 use Rattle.ids.specs.Triangles.{triangleCount}
 use Rattle.walk.proofs.Counts.{counts-add-up}
-use Rattle.record.specs.declared.MeshQto.{MeshQto}
 use Rattle.refusals.specs.declared.Check.{Check}
 use Rattle.refusals.specs.Refusals.{Passes}
 use Rattle.refusals.proofs.Checks.{admitted}

@@ -29,7 +29,6 @@ use Rattle.rows.proofs.Areas.{length-scaled}
 use Rattle.rows.proofs.Order.{length-sorted}
 use Rattle.surfaces.specs.Surfaces.{rows}
 use Rattle.surfaces.proofs.Keys.{length-rows}
-use Rattle.walk.specs.declared.TriangleCounts.{TriangleCounts}
 use Rattle.walk.specs.declared.Walked.{Walked}
 use Rattle.walk.specs.Counts.{countsOf}
 use Rattle.walk.specs.inner.Walks.{Walks}

@@ -1,19 +1,16 @@
 -- The walk counts each triangle once: what it counts by parts, triangle by triangle, is how many have such a part, and together that is all
 -- of them. Assumes nothing.
-use mathlib.Core.Path.{_≡_, refl, sym, _∙_, ap, subst}
-use Prim.Native.Nat.{ℕ, zero, suc, _+_, _-_, _≤_, _<_}
-use mathlib.Core.Bool.{Bool, true, false}
+use mathlib.Core.Path.{_≡_, refl, _∙_, ap}
+use Prim.Native.Nat.{ℕ, zero, suc, _+_, _-_, _≤_}
+use mathlib.Core.Bool.{Bool}
 use native.Mathlib.Omega.{arith}
 use mathlib.Core.List.{List, [], _∷_}
 use lib.ListN.{length, length-append}
-use lib.Ieee.{Float, lt}
-use Rattle.ids.specs.Triangles.{Triangle, triangle, overTriangles, overNumbers, triangleCount}
+use Rattle.ids.specs.Triangles.{triangle, overTriangles, overNumbers, triangleCount}
 use Rattle.ids.specs.Uses.{bit, sumBy}
 use Rattle.ids.proofs.Groups.{sum-append}
 use Rattle.ids.proofs.Numbered.{by-number}
-use Rattle.sums.specs.declared.triangle.Prepared.{Prepared}
-use Rattle.sums.specs.Facet.{Part, outOfRange, sliver, used, part, shortest}
-use Rattle.sums.specs.inner.Prepared.{partBy}
+use Rattle.sums.specs.Facet.{Part, outOfRange, sliver, used, part}
 use Rattle.walk.specs.declared.TriangleCounts.{TriangleCounts}
 use Rattle.walk.specs.Counts.{howMany}
 use Rattle.walk.specs.inner.Steps.{Given, trianglesIn, partAt, partsOf}

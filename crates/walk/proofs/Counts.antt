@@ -2,7 +2,7 @@
 -- and a triangle is counted as used where it adds to the sums. Assumes nothing.
 use mathlib.Core.Path.{_≡_, refl, _∙_, ap}
 use Prim.Native.Nat.{ℕ, _+_}
-use mathlib.Core.Bool.{Bool, true, false, not, _&&_, cond}
+use mathlib.Core.Bool.{Bool, true, false, not}
 use mathlib.Core.List.{List}
 use lib.Dec.{T}
 use lib.Ieee.{Float, isNan, lt, le, ofBits}
@@ -11,7 +11,7 @@ use Rattle.ids.specs.Triangles.{Triangle}
 use Rattle.ids.specs.Uses.{bit}
 use Rattle.vertices.specs.Vertices.{cornersInRange}
 use Rattle.sums.specs.Box.{box, origin}
-use Rattle.sums.specs.Facet.{Part, outOfRange, sliver, used, facetOf, normal, part, partOf, rebasedCorners, shortest, size}
+use Rattle.sums.specs.Facet.{part, partOf, shortest}
 use Rattle.sums.specs.Fine.{allFine}
 use Rattle.sums.specs.Totals.{withPart}
 use Rattle.sums.proofs.Areas.{size-number}

@@ -1,10 +1,8 @@
 -- Triangles counted by their parts, as the walk counts them: whatever the origin is, each is one of three.
 use Prim.Native.Nat.{ℕ}
 use mathlib.Core.Bool.{Bool, true, false}
-use mathlib.Core.List.{List, [], _∷_}
+use mathlib.Core.List.{List}
 use lib.Ieee.{Float}
-use Rattle.ids.specs.Triangles.{triangle, overNumbers}
-use Rattle.ids.specs.Uses.{bit, sumBy}
 use Rattle.sums.specs.Facet.{Part, outOfRange, sliver, used, part}
 use Rattle.walk.specs.declared.TriangleCounts.{TriangleCounts}
 use Rattle.walk.specs.Counts.{howMany}
@@ -31,7 +29,3 @@ partCounts vs o ids =
       «out_of_range» = howMany (λ t. isNone (part vs o t)) ids;
       sliver = howMany (λ t. isThin (part vs o t)) ids;
     }
-
--- among the first n
-abbrev pub partsThat : (Part → Bool) → List Float → List Float → List ℕ → ℕ → ℕ
-partsThat test vs o ids n = sumBy (λ t. bit (test (part vs o t))) (overNumbers (λ k. triangle ids k ∷ []) n)

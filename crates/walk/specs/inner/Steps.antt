@@ -2,11 +2,11 @@
 use mathlib.Core.Path.{_≡_}
 use Prim.Native.Nat.{ℕ, zero, suc, _+_, _-_, _≤_, _<_}
 use mathlib.Core.Bool.{Bool}
-use mathlib.Core.List.{List}
+use mathlib.Core.List.{List, [], _∷_}
 use lib.ListN.{length}
 use lib.Ieee.{Float}
-use Rattle.ids.specs.Triangles.{triangle, triangleCount}
-use Rattle.ids.specs.Uses.{bit}
+use Rattle.ids.specs.Triangles.{triangle, triangleCount, overNumbers}
+use Rattle.ids.specs.Uses.{bit, sumBy}
 use Rattle.sums.specs.declared.totals.Thresholds.{Thresholds}
 use Rattle.sums.specs.declared.triangle.Prepared.{Prepared}
 use Rattle.sums.specs.Facet.{Part, outOfRange, part}
@@ -16,7 +16,7 @@ use Rattle.surfaces.specs.Surfaces.{Bucket}
 use Rattle.surfaces.specs.inner.Index.{Gathered, Ready}
 use Rattle.walk.specs.declared.Sums.{Sums}
 use Rattle.walk.specs.Walk.{withSurface, bucketsTo}
-use Rattle.walk.specs.inner.Counting.{isFacet, isThin, partsThat}
+use Rattle.walk.specs.inner.Counting.{isFacet, isThin}
 
 -- ---- what is given, and what changes
 
@@ -40,6 +40,10 @@ partAt g n = part (g .vs) (g .o) (triangle (g .ids) n)
 abbrev pub bucketsOf : Given → ℕ → List Bucket
 bucketsOf g n = bucketsTo (g .vs) (g .o) (g .ids) n
 
+-- how many of the first n parts pass a test
+abbrev pub partsOf : (Part → Bool) → Given → ℕ → ℕ
+partsOf test g n = sumBy (λ t. bit (test (part (g .vs) (g .o) t))) (overNumbers (λ k. triangle (g .ids) k ∷ []) n)
+
 -- the index, the surface area and the sums
 pub record State : Type 0 where
   pub index : List ℕ
@@ -48,9 +52,6 @@ pub record State : Type 0 where
 
 abbrev pub state : List ℕ → List Float → Sums → State
 state t u s = record { index = t; rows = u; sums = s }
-
-abbrev pub partsOf : (Part → Bool) → Given → ℕ → ℕ
-partsOf test g n = partsThat test (g .vs) (g .o) (g .ids) n
 
 -- ---- one triangle
 

@@ -83,7 +83,7 @@ fn at_the_limit_it_is_exact() {
     assert_eq!(SHORTEST.to_bits(), 0x3d71_9799_812d_ea11);
 }
 
-/// Of a mesh with eight floats behind its last vertex but one: what is asked of an id, and when.
+/// Of a mesh with three vertices and two floats left over: what is asked of an id, and when.
 #[test]
 fn the_range_is_asked_first_and_by_floats() {
     let vertices = [0.0, 0.0, 0.0, 1.0, 0.0, 0.0, 0.0, 1.0, 0.0, 0.0, 0.0];

@@ -1,6 +1,7 @@
 -- What document 01 says of lists of ids: their triangles, the edge chain, the face net and the pieces, and what an id routine refuses and
 -- leaves in its lent area.
 pub mod Triangles
+pub mod Reversed
 pub mod Uses
 pub mod EdgeChain
 pub mod FaceNet

@@ -10,6 +10,7 @@ pub mod Root
 pub mod Integer
 pub mod SameInteger
 pub mod WholeNumber
+pub mod Number
 pub mod Nearest
 pub mod Cube
 pub mod Answers

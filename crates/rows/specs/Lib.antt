@@ -2,4 +2,5 @@
 pub mod Rows
 pub mod Plain
 pub mod Sorting
+pub mod Opposite
 pub mod inner

@@ -15,3 +15,9 @@ pub mod Groups
 pub mod Shared
 pub mod Classes
 pub mod Solids
+pub mod Reversed
+pub mod Alike
+pub mod Opposite
+pub mod Walks
+pub mod Joined
+pub mod ReversedAlike

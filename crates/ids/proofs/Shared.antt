@@ -1,13 +1,14 @@
 -- Two triangles share an id where a corner of the one has the id of a corner of the other; so sharing goes both ways, and turning both over
 -- leaves it. Assumes nothing.
-use mathlib.Core.Path.{_≡_, sym}
-use mathlib.Core.Bool.{true}
+use mathlib.Core.Path.{_≡_, sym, ap}
+use mathlib.Core.Bool.{Bool, true, _||_, or-comm}
 use Prim.Native.Nat.{ℕ, zero, suc, _<_}
 use native.Mathlib.Omega.{arith}
 use borrow.Author.Tests.{eq-eqb, eqb-true}
 use lib.Dec.{eqb}
 use Rattle.ids.specs.Triangles.{Triangle}
 use Rattle.ids.specs.Pieces.{has, shareId}
+use Rattle.ids.specs.Reversed.{turnedTriangle}
 use Rattle.ids.proofs.Groups.{or-cases, or-left, or-right}
 
 -- the id at corner k
@@ -45,3 +46,14 @@ pub share-both : (s t : Triangle) → shareId s t ≡ true → shareId t s ≡ t
 share-both s t h = let r = corner-share s t h in share-corner t s (r .1) (r .0) (sym (r .4))
 
 -- ---- triangles turned over
+
+has-turned : (t : Triangle) (x : ℕ) → has (turnedTriangle t) x ≡ has t x
+unfolding has
+has-turned t x = ap (λ (p : Bool). eqb x (t .a) || p) (or-comm (eqb x (t .c)) (eqb x (t .b)))
+
+-- turned over, two triangles share an id where they did
+pub share-turned : (s t : Triangle) → shareId (turnedTriangle s) (turnedTriangle t) ≡ shareId s t
+unfolding shareId
+share-turned s t =
+    rw (has-turned t (s .a), has-turned t (s .b), has-turned t (s .c))
+    (ap (λ (p : Bool). has t (s .a) || p) (or-comm (has t (s .c)) (has t (s .b))))

@@ -1,12 +1,14 @@
--- How large a signed sum can be: at most as large as there are uses, and a face's at most as large as there are ids. Assumes nothing.
+-- What two lists of uses put together say of a key; and how large a signed sum can be: at most as large as there are uses, and a face's at
+-- most as large as there are ids. Assumes nothing.
+use mathlib.Core.Path.{_≡_, refl, sym, ap, _∙_}
 use mathlib.Core.Bool.{Bool, true, false, cond}
-use mathlib.Core.List.{List, [], _∷_}
+use mathlib.Core.List.{List, [], _∷_, _++_}
 use Prim.Native.Nat.{ℕ, zero, suc, _+_, _≤_}
 use native.Mathlib.Omega.{arith}
-use lib.IntN.{ℤ, pos, negsuc, sucℤ, predℤ, natAbs}
+use lib.IntN.{ℤ, pos, negsuc, sucℤ, predℤ, natAbs, _+ℤ_, sucℤ-+ℤ, predℤ-+ℤ, +ℤ-idl}
 use lib.ListN.{length, length-append}
 use Rattle.ids.specs.Triangles.{Triangle, distinct, overTriangles}
-use Rattle.ids.specs.Uses.{Use, counting, signedSum, keys, maxBy, largestSum}
+use Rattle.ids.specs.Uses.{Use, counting, uses, signedSum, keys, maxBy, largestSum}
 use Rattle.ids.specs.FaceNet.{sameFace, faceUse, face, faces, maxAbs}
 
 suc-size : (z : ℤ) → natAbs (sucℤ z) ≤ natAbs z + 1
@@ -30,7 +32,26 @@ unfolding maxBy
 maxBy-below f m h [] = omega arith
 maxBy-below f m h (k ∷ ks) = omega (arith, h k, maxBy-below f m h ks)
 
+counting-sum : (mine up : Bool) (y z : ℤ) → counting mine up (y +ℤ z) ≡ counting mine up y +ℤ z
+unfolding counting
+counting-sum false up y z = refl
+counting-sum true true y z = sym (sucℤ-+ℤ y z)
+counting-sum true false y z = sym (predℤ-+ℤ y z)
+
 module _ {K : Type 0} (same : K → K → Bool) where
+  -- how often a key is used in two lists put together, and its sum
+  pub uses-append : (k : K) (es fs : List (Use K)) → uses same k (es ++ fs) ≡ uses same k es + uses same k fs
+  unfolding uses
+  uses-append k [] fs = omega arith
+  uses-append k (e ∷ es) fs = omega (arith, uses-append k es fs)
+
+  pub signed-append : (k : K) (es fs : List (Use K)) → signedSum same k (es ++ fs) ≡ signedSum same k es +ℤ signedSum same k fs
+  unfolding signedSum
+  signed-append k [] fs = sym (+ℤ-idl (signedSum same k fs))
+  signed-append k (e ∷ es) fs =
+      ap (counting (same k (e .key)) (e .up)) (signed-append k es fs)
+      ∙ counting-sum (same k (e .key)) (e .up) (signedSum same k es) (signedSum same k fs)
+
   signed-below : (k : K) (es : List (Use K)) → natAbs (signedSum same k es) ≤ length es
   unfolding signedSum
   signed-below k [] = omega arith

@@ -7,3 +7,5 @@ pub mod Negation
 pub mod Root
 pub mod Cube
 pub mod Commutes
+pub mod AsNumber
+pub mod Opposite

@@ -23,7 +23,7 @@ use Rattle.sums.proofs.VolumeTerm.{volume-within}
 use Rattle.sums.proofs.Within.{Within, power-value, within-mul, within-number, within-rounded}
 
 -- ---- not below zero
-dot-plus : (b : ℕ) (n : List Float) → Three b n → T (plus (dot n n))
+pub dot-plus : (b : ℕ) (n : List Float) → Three b n → T (plus (dot n n))
 dot-plus b n p =
     let x = at n 0 in
     let y = at n 1 in
@@ -46,10 +46,10 @@ unfolding facetOf
 facet-plus t p = area-plus (size (normal t)) (size-plus (2 ^ 71) (normal t) (normal-three t p))
 
 pub part-plus : (vs : List Float) (t : Triangle) (f : Facet) → T (allFine vs) → part vs (origin (box vs)) t ≡ used f → T (plus (f .area32))
-part-plus = part-has (λ f. T (plus (f .area32))) facet-plus
+part-plus = part-has (λ f. T (plus (f .area32))) (λ t p l. facet-plus t p)
 
 -- ---- nor large
-size-within : (n : List Float) → Three (2 ^ 71) n → Within (2 ^ 72) (size n)
+pub size-within : (n : List Float) → Three (2 ^ 71) n → Within (2 ^ 72) (size n)
 unfolding size
 size-within n p =
     within-root binary64 72 (lit≤ tt) (dot n n) (add-fits binary64 _ _) (dot-plus (2 ^ 71) n p) (dot-three 71 71 n n (lit≤ tt) p p)
@@ -90,4 +90,4 @@ facet-within t p =
     }
 
 pub part-within : (vs : List Float) (t : Triangle) (f : Facet) → T (allFine vs) → part vs (origin (box vs)) t ≡ used f → Adds f
-part-within = part-has Adds facet-within
+part-within = part-has Adds (λ t p l. facet-within t p)

@@ -12,3 +12,7 @@ pub mod FineBoxes
 mod Small
 pub mod Areas
 pub mod Units
+pub mod TurnedFacets
+pub mod TurnedTotals
+mod Fractions
+pub mod UnitNormals

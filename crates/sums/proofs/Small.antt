@@ -116,17 +116,18 @@ small-at vs t h r =
       c = rebased-octant vs (t .c) h (in-range .c);
     }
 
--- what all facets of such corners have, a used one has
-module _ (P : Facet → Type 0) (has : (t : List (List Float)) → Small t → P (facetOf t (normal t) (size (normal t)))) where
+-- what all facets of such corners have whose cross product is long enough, a used one has
+module _ (P : Facet → Type 0)
+    (has : (t : List (List Float)) → Small t → lt (size (normal t)) shortest ≡ false → P (facetOf t (normal t) (size (normal t)))) where
   used-has : (t : List (List Float)) (f : Facet) → Small t → partOf t ≡ used f → P f
   unfolding partOf
-  used-has t f p e = go (lt (size (normal t)) shortest) e
+  used-has t f p e = go (lt (size (normal t)) shortest) refl e
     where
-      go : (b : Bool) → cond b sliver (used (facetOf t (normal t) (size (normal t)))) ≡ used f → P f
-      go true e = let no : _≡_ {A = ℕ} 0 1 = cc in absurd (omega arith)
-      go false e =
+      go : (b : Bool) → lt (size (normal t)) shortest ≡ b → cond b sliver (used (facetOf t (normal t) (size (normal t)))) ≡ used f → P f
+      go true h e = let no : _≡_ {A = ℕ} 0 1 = cc in absurd (omega arith)
+      go false h e =
           let same : facetOf t (normal t) (size (normal t)) ≡ f = cc in
-          rw (← same) (has t p)
+          rw (← same) (has t p h)
 
   pub part-has : (vs : List Float) (t : Triangle) (f : Facet) → T (allFine vs) → part vs (origin (box vs)) t ≡ used f → P f
   unfolding part

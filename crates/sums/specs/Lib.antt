@@ -3,4 +3,5 @@ pub mod Box
 pub mod Facet
 pub mod Fine
 pub mod Totals
+pub mod Turned
 pub mod inner

@@ -9,6 +9,7 @@ use lib.ListN.{length}
 use lib.Ieee.{Float}
 use borrow.Author.Tests.{ltb-true}
 use Rattle.ids.specs.Triangles.{Triangle}
+use Rattle.ids.specs.Reversed.{turnedTriangle}
 use Rattle.vertices.specs.Vertices.{inRange, cornersInRange}
 
 -- each corner of a triangle in range has its three coordinates
@@ -26,3 +27,15 @@ corners-below vs t e = all (ltb (3 * t .a + 2) n) (ltb (3 * t .b + 2) n) (ltb (3
     all true true false p q r e = let no : _≡_ {A = ℕ} 0 1 = cc in absurd (omega arith)
     all true false z p q r e = let no : _≡_ {A = ℕ} 0 1 = cc in absurd (omega arith)
     all false y z p q r e = let no : _≡_ {A = ℕ} 0 1 = cc in absurd (omega arith)
+
+-- turned over, a triangle is in range where it was
+pub corners-turned : (vs : List Float) (t : Triangle) → cornersInRange vs (turnedTriangle t) ≡ cornersInRange vs t
+unfolding cornersInRange
+corners-turned vs t = last (inRange vs (t .a)) (inRange vs (t .b)) (inRange vs (t .c))
+  where
+    last : (a b c : Bool) → a && (c && b) ≡ a && (b && c)
+    last false b c = refl
+    last true false false = refl
+    last true false true = refl
+    last true true false = refl
+    last true true true = refl

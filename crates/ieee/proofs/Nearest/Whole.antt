@@ -1,7 +1,7 @@
 -- `integral` is exact: so floor, ceiling and half-away rounding are the whole numbers that they are meant to be. Assumes nothing.
 -- The whole number next to a value of a format is a value of the format too.
 use mathlib.Core.Path.{_≡_, refl, sym, ap, _∙_, subst}
-use mathlib.Core.Bool.{Bool, true, false, not, cond, Bool·not-not}
+use mathlib.Core.Bool.{Bool, true, false, not, cond}
 use Prim.Native.Nat.{ℕ, suc, _-_, _*_, _/_, _%_, _^_, _≤_, _<_, zero-le}
 use native.Mathlib.Nat.{div-lt-iff-lt-mul, mul-le-mul-left, mul-mod-left, mul-one}
 use native.Mathlib.Omega.{arith}
@@ -19,7 +19,7 @@ use Rattle.ieee.specs.Integral.{ceiling, halfAway}
 use Rattle.ieee.proofs.Numbers.Basic.{pow-half}
 use Rattle.ieee.proofs.Order.Signed.{AtMost, at-most-of-le, at-most-self, le-of-at-most}
 use Rattle.ieee.proofs.Patterns.Signs.{round-neg}
-use Rattle.ieee.proofs.Values.Negation.{le-neg}
+use Rattle.ieee.proofs.Values.Negation.{le-neg, neg-neg}
 use Rattle.ieee.proofs.Values.OneFloat.{in-units, short}
 use Rattle.ieee.proofs.Integers.Floats.{no-rest}
 use Rattle.ieee.proofs.Numbers.Wholes.{away-iff, cut-iff, half-away, none-iff, whole-le, whole-one}
@@ -89,12 +89,6 @@ floor-is f (fin s m e) t g =
     }
 
 -- ---- ceiling, by the other sign's floor
-neg-neg : (x : Float) → neg (neg x) ≡ x
-unfolding neg
-neg-neg nan = refl
-neg-neg (inf s) = rw (Bool·not-not s)
-neg-neg (fin s m e) = rw (Bool·not-not s)
-
 neg-whole : (z : Float) → NoFraction z → NoFraction (neg z)
 unfolding neg
 neg-whole nan w = w

@@ -10,7 +10,7 @@ use lib.Ieee.Order.{round-mono}
 use lib.Ieee.Positive.{cross→le, den, den-pos, le→cross, num, own-value, positive, value-pos}
 use Rattle.ieee.proofs.Values.ByValue.{div-values}
 
-num-pos : (x : Float) → T (positive x) → 0 < num x
+pub num-pos : (x : Float) → T (positive x) → 0 < num x
 num-pos x p = value-pos x (num x) (den x) p (den-pos x) (own-value x p)
 
 pub div-at : (f : Format) (x y : Float) → T (positive x) → T (positive y) → div f x y ≡ round f false (num x * den y) (num y * den x)

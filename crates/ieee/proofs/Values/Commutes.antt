@@ -13,15 +13,15 @@ use Rattle.ieee.proofs.Values.OneFloat.{round-zero}
 
 -- ---- ±a / c and ±b / c, of unlike signs
 module _ (f : Format) (c : ℕ) (C : 0 < c) (s t : Bool) (a b : ℕ) (u : Bool·beq s t ≡ false) where
-  sum-less : a < b → sum f s a t b c ≡ round f t (b - a) c
+  pub sum-less : a < b → sum f s a t b c ≡ round f t (b - a) c
   unfolding sum
   sum-less h = rw (u, lt-ltb a b h)
 
-  sum-more : b < a → sum f s a t b c ≡ round f s (a - b) c
+  pub sum-more : b < a → sum f s a t b c ≡ round f s (a - b) c
   unfolding sum
   sum-more h = rw (u, le-ltb a b (omega arith), lt-ltb b a h, and-true s)
 
-  sum-none : a ≡ b → sum f s a t b c ≡ fin false 0 (pos 0)
+  pub sum-none : a ≡ b → sum f s a t b c ≡ fin false 0 (pos 0)
   unfolding sum
   sum-none h =
       let none : a - b ≡ 0 = omega arith in

@@ -8,7 +8,6 @@ pub mod Cells
 pub mod Weld
 pub mod Record
 pub mod Place
-pub mod Flags
 pub mod Numbered
 pub mod Stations
 pub mod Example

@@ -1,7 +1,6 @@
 -- What the record is made of agrees, one part after the other; only the footprints of an open mesh depend on where it stands. Assumes
 -- nothing.
-use mathlib.Core.Path.{_≡_, refl, sym, _∙_}
-use mathlib.Core.Bool.{Bool, true, false, cond}
+use mathlib.Core.Path.{_≡_}
 use mathlib.Core.List.{List}
 use Prim.Native.Nat.{ℕ, _≤_}
 use native.Mathlib.Omega.{arith}
@@ -13,42 +12,15 @@ use Rattle.ids.specs.Triangles.{triangleCount}
 use Rattle.sums.specs.Box.{box, origin, boxVolume}
 use Rattle.sums.specs.Totals.{thresholds}
 use Rattle.walk.specs.Counts.{countsOf}
-use Rattle.verdict.specs.declared.Quality.{Quality}
 use Rattle.verdict.specs.Verdict.{byChain, quality}
-use Rattle.volume.specs.declared.Method.{Method}
-use Rattle.volume.specs.declared.PrismBound.{PrismBound}
-use Rattle.volume.specs.declared.Best.{Best}
-use Rattle.volume.specs.Best.{upper, trusted, openBest, bestOf}
-use Rattle.record.specs.Numbers.{prismNumber}
 use Rattle.refusals.specs.Refusals.{unitFits}
-use Rattle.qto.specs.declared.Measures.{Measures}
-use Rattle.qto.specs.Full.{cube, totals, buckets, surfaceRows, surfacesAfter, measures, verdict, best, recordFrom, recordBy, recordOf}
+use Rattle.qto.specs.Full.{cube, totals, buckets, surfaceRows, surfacesAfter, measures, verdict, best, recordBy, recordOf}
 use Rattle.place.specs.Moved.{Moved, unitEnough}
-use Rattle.place.specs.Agree.{AgreeBy, AgreeRecords}
+use Rattle.road.specs.Agree.{AgreeRecords}
+use Rattle.road.proofs.Best.{agree-but-prism}
 use Rattle.place.proofs.Box.{box-shifted, same-box-volume}
 use Rattle.place.proofs.Triangles.{same-totals, same-buckets, same-counts}
 use Rattle.place.proofs.Weld.{same-welded}
-
--- an open mesh has a prism bound, trusted or not
-open-bounded : (v s aabb p : Float) → prismNumber (openBest v s aabb p .prism) ≡ 1
-unfolding openBest prismNumber
-open-bounded v s aabb p = go (trusted p (upper p aabb) v s)
-  where
-    go : (t : Bool) → prismNumber
-        (cond {A = Best} t (record { volume = v; method = Method.MeshOpen; reliable = true; prism = PrismBound.Bound p })
-        (record { volume = p; method = Method.PrismFallback; reliable = false; prism = PrismBound.Bound p }) .prism) ≡ 1
-    go true = refl
-    go false = refl
-
--- of a closed or degenerate mesh nothing asks for the prism, p or p′
-agree-but-prism : (m : Measures) (q : Quality) (v s aabb p p′ : Float)
-    → AgreeRecords (recordFrom m aabb q (bestOf q v s aabb p)) (recordFrom m aabb q (bestOf q v s aabb p′))
-unfolding recordFrom bestOf AgreeBy
-agree-but-prism m Quality.Closed v s aabb p p′ = record { verdict = refl; rest = refl }
-agree-but-prism m Quality.Degenerate v s aabb p p′ = record { verdict = refl; rest = refl }
-agree-but-prism m Quality.OpenShell v s aabb p p′ =
-    let bounded = open-bounded v s aabb p′ ∙ sym (open-bounded v s aabb p) in
-    record { verdict = refl; rest = search bounded }
 
 module _ (dx dy dz : ℤ) (vs vs′ : List Float) (m : Moved dx dy dz vs vs′) (some : 9 ≤ length vs) (ids : List ℕ) where
   pub totals-stay : totals vs′ ids ≡ totals vs ids

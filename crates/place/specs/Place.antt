@@ -1,18 +1,19 @@
 -- Demand 3 (the place does not show), over what `compute` promises: of any two outcomes that its contract allows for a mesh and the same
 -- mesh moved.
-use mathlib.Core.Bool.{Bool}
+use mathlib.Core.Path.{_≡_}
 use mathlib.Core.List.{List}
 use Prim.Native.Nat.{ℕ}
 use lib.Dec.{T}
 use lib.IntN.{ℤ}
 use lib.Ieee.{Float}
-use Rattle.record.specs.declared.MeshQto.{MeshQto}
-use Rattle.record.specs.declared.Profile.{Profile}
-use Rattle.record.specs.Flags.{flagged}
 use Rattle.qto.specs.declared.Answer.{Answer}
 use Rattle.qto.specs.Compute.{Computes}
+use Rattle.road.specs.Agree.{Agree, AgreeRecords}
 use Rattle.place.specs.Moved.{Moved, unitEnough}
-use Rattle.place.specs.Agree.{Agree, AgreeRecords}
+
+-- whatever the answer is, the surface area is the same
+abbrev pub SameArea : Answer → List Float → List Float → Type 0
+SameArea a s s′ = s′ ≡ s
 
 -- the same ids and unit, and lent areas alike before the call (`place-does-not-show`)
 abbrev pub PlaceDoesNotShow : Type 0
@@ -20,9 +21,4 @@ PlaceDoesNotShow =
     (dx dy dz : ℤ) (vs vs′ : List Float) (ids : List ℕ) (u : Float) (w r : List ℕ) (s : List Float) (a a′ : Answer)
     (w₁ w₂ r₁ r₂ : List ℕ) (s₁ s₂ : List Float)
     → Moved dx dy dz vs vs′ → T (unitEnough u) → Computes vs ids u w r s a w₁ r₁ s₁ → Computes vs′ ids u w r s a′ w₂ r₂ s₂
-    → Agree a a′ w₁ w₂ r₁ r₂ s₁ s₂
-
--- the same flags keep that (`flags-keep`)
-abbrev pub FlagsKeep : Type 0
-FlagsKeep =
-    (clip : Bool) (profile : Profile) (q q′ : MeshQto) → AgreeRecords q q′ → AgreeRecords (flagged clip profile q) (flagged clip profile q′)
+    → Agree AgreeRecords SameArea a a′ w₁ w₂ r₁ r₂ s₁ s₂

@@ -5,3 +5,7 @@ pub mod Comparing
 pub mod Order
 mod Sinking
 pub mod Areas
+mod Kept
+pub mod Mapped
+pub mod Opposite
+pub mod Erased

@@ -3,7 +3,7 @@
 use mathlib.Core.Path.{_≡_, refl, sym, ap, _∙_, subst}
 use mathlib.Core.Bool.{Bool, true, false, not, _&&_, cond, false≢true}
 use mathlib.Core.List.{List, [], _∷_}
-use Prim.Native.Nat.{ℕ, zero, suc, _+_}
+use Prim.Native.Nat.{ℕ, zero, suc, _+_, _<_}
 use native.Mathlib.Omega.{arith}
 use lib.Dec.{T}
 use lib.Ieee.Bits.{is-true}
@@ -12,7 +12,8 @@ use lib.ListN.{length}
 use Rattle.rows.specs.declared.PlanarSurface.{PlanarSurface}
 use Rattle.rows.specs.Rows.{precedes, inserted, sorted}
 use Rattle.rows.specs.Plain.{plainRow, allPlain}
-use Rattle.rows.specs.Sorting.{passing, SameRows, Behind, InOrder, singleRow, allSingle, SortedInOrder, SortedSame, SortedOne}
+use Rattle.rows.specs.Sorting.{rowAt, passing, SameRows, Behind, InOrder, singleRow, allSingle}
+use Rattle.rows.specs.Sorting.{SortedInOrder, SortedSame, SortedOne}
 use Rattle.rows.specs.inner.Passes.{Rising}
 use Rattle.rows.proofs.Counts.{one, none-first, none-both, none-at}
 use Rattle.rows.proofs.Comparing.{precedes-asym, precedes-self, behind-trans, one-row}
@@ -51,6 +52,10 @@ length-sorted l = sorted-same l .long
 
 -- ---- what holds of each row is known by a count
 
+passed : (b : Bool) → not b ≡ false → T b
+passed true h = tt
+passed false h = absurd (false≢true (sym h))
+
 module _ (p : PlanarSurface → Bool) (all : List PlanarSurface → Bool) (end : all [] ≡ true)
     (step : (r : PlanarSurface) (l : List PlanarSurface) → all (r ∷ l) ≡ (p r && all l)) where
   all-none : (l : List PlanarSurface) → T (all l) → passing (λ r. not (p r)) l ≡ 0
@@ -65,13 +70,12 @@ module _ (p : PlanarSurface → Bool) (all : List PlanarSurface → Bool) (end :
   none-all (r ∷ l) h =
       let k = none-first (λ s. not (p s)) r l h in
       rw (step r l) (and-i (p r) (all l) (passed (p r) (k .0)) (none-all l (k .1)))
-    where
-      passed : (b : Bool) → not b ≡ false → T b
-      passed true h = tt
-      passed false h = absurd (false≢true (sym h))
 
   all-same : (l m : List PlanarSurface) → SameRows l m → T (all l) → T (all m)
   all-same l m s h = none-all m (s .counted (λ r. not (p r)) ∙ all-none l h)
+
+  all-at : (l : List PlanarSurface) (i : ℕ) → i < length l → T (all l) → T (p (rowAt l i))
+  all-at l i n h = passed (p (rowAt l i)) (none-at (λ r. not (p r)) l i n (all-none l h))
 
 pub plain-same : (l m : List PlanarSurface) → SameRows l m → T (allPlain l) → T (allPlain m)
 unfolding allPlain
@@ -80,6 +84,14 @@ plain-same = all-same plainRow allPlain refl (λ r l. refl)
 pub single-same : (l m : List PlanarSurface) → SameRows l m → T (allSingle l) → T (allSingle m)
 unfolding allSingle
 single-same = all-same singleRow allSingle refl (λ r l. refl)
+
+pub plain-at : (l : List PlanarSurface) (i : ℕ) → i < length l → T (allPlain l) → T (plainRow (rowAt l i))
+unfolding allPlain
+plain-at = all-at plainRow allPlain refl (λ r l. refl)
+
+pub single-at : (l : List PlanarSurface) (i : ℕ) → i < length l → T (allSingle l) → T (singleRow (rowAt l i))
+unfolding allSingle
+single-at = all-at singleRow allSingle refl (λ r l. refl)
 
 plain-parts : (r : PlanarSurface) (l : List PlanarSurface) → T (allPlain (r ∷ l)) → T (plainRow r) × T (allPlain l)
 unfolding allPlain

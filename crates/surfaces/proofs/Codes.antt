@@ -4,19 +4,17 @@ use mathlib.Core.Path.{_≡_, refl, ap}
 use mathlib.Core.Bool.{false}
 use Prim.Native.Nat.{ℕ, zero, suc, _/_, _%_, _<_}
 use native.Mathlib.Omega.{arith}
-use lib.Ieee.{Float, binary32}
+use lib.Ieee.{Float}
 use lib.IntN.{ℤ, pos, negsuc, _-ℤ_}
 use mir.Syntax.{w32, w64}
 use mir.Val.{SFits, ofZ, toZ}
-use Rattle.ieee.specs.Integral.{halfAway}
-use Rattle.ieee.specs.Single.{_⊗_}
 use Rattle.ieee.proofs.Order.Ranges.{signed-fits, signed-kept}
 use Rattle.slots.specs.declared.Code.{Code}
 use Rattle.slots.specs.inner.Slots.{KeyFits}
 use Rattle.cells.specs.inner.Table.{coded}
 use Rattle.cells.proofs.Codes.{coded-one}
 use Rattle.surfaces.specs.declared.Key.{Key}
-use Rattle.surfaces.specs.Surfaces.{ten, tenths, normalKey}
+use Rattle.surfaces.specs.Surfaces.{tenths, normalKey}
 use Rattle.surfaces.specs.inner.Index.{keyCode}
 
 -- ---- an i32
@@ -33,11 +31,11 @@ coded-small (negsuc n) f = omega (arith, f .sfits)
 -- tenths are read back from their bits
 pub tenths-kept : (x : Float) → toZ w32 (ofZ w32 (tenths x)) ≡ tenths x
 unfolding tenths
-tenths-kept x = signed-kept w32 (halfAway binary32 (x ⊗ ten))
+tenths-kept x = signed-kept w32 _
 
 tenths-small : (x : Float) → coded (tenths x) < 4294967296
 unfolding tenths
-tenths-small x = coded-small (tenths x) (signed-fits w32 (halfAway binary32 (x ⊗ ten)))
+tenths-small x = coded-small (tenths x) (signed-fits w32 _)
 
 -- ---- and back
 

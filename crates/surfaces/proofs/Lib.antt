@@ -4,3 +4,4 @@ mod Codes
 pub mod Buckets
 pub mod Gathering
 pub mod Plain
+pub mod Opposite

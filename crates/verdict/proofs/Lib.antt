@@ -3,3 +3,4 @@
 pub mod Meaning
 pub mod Means
 mod Parts
+pub mod Reversed

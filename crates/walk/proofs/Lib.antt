@@ -4,3 +4,4 @@ mod Turns
 pub mod Counts
 pub mod Worth
 pub mod Finite
+pub mod Turned

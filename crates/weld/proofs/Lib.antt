@@ -1,2 +1,3 @@
 -- From the whole table to the ids.
 mod Mapping
+pub mod Reversed

@@ -7,9 +7,9 @@ use native.Mathlib.Nat.{add-zero, mul-pos, zero-add}
 use borrow.Author.Tests.{le-ltb}
 use native.Mathlib.Decide.{decLt}
 use native.Mathlib.Omega.{arith}
-use lib.Dec.{eqb·suc-zero}
+use lib.Dec.{T, eqb·suc-zero}
 use lib.IntN.{ℤ}
-use lib.Ieee.{Float, nan, inf, fin, Format, up, down, unlike, round, sum, add, mul, div, neg, below, lt}
+use lib.Ieee.{Float, nan, inf, fin, Format, up, down, unlike, round, sum, add, mul, div, neg, below, lt, fits}
 use lib.Ieee.Fits.{down-pos, up-pos}
 use Rattle.ieee.specs.Magnitude.{magnitude}
 use Rattle.ieee.specs.Rounded.{rounded}
@@ -48,6 +48,13 @@ number-twice nan = refl
 number-twice (inf s) = refl
 number-twice (fin s zero e) = refl
 number-twice (fin s (suc m) e) = refl
+
+pub asNumber-fits : (f : Format) (x : Float) → T (fits f x) → T (fits f (asNumber x))
+unfolding fits asNumber
+asNumber-fits f nan h = h
+asNumber-fits f (inf s) h = h
+asNumber-fits f (fin s zero e) h = h
+asNumber-fits f (fin s (suc m) e) h = h
 
 -- a rounded nothing
 zero-number : (f : Format) (s t : Bool) (a b c d : ℕ) → a ≡ 0 → b ≡ 0 → 0 < c → 0 < d

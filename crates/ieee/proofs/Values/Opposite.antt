@@ -2,15 +2,19 @@
 -- magnitudes are the same. A sum that is exactly zero is +0 with either sign, so all that is said of numbers. Assumes nothing.
 use mathlib.Core.Path.{_≡_, refl, sym, _∙_, ap}
 use mathlib.Core.Bool.{Bool, true, false, not, Bool·beq}
-use Prim.Native.Nat.{ℕ, _+_, _-_, _*_, _<_}
-use native.Mathlib.Nat.{mul-pos}
+use Prim.Native.Nat.{ℕ, _+_, _-_, _*_, _/_, _^_, _<_}
+use native.Mathlib.Nat.{div-lt-iff-lt-mul, mul-pos}
 use native.Mathlib.Decide.{decLt}
 use native.Mathlib.Omega.{arith}
-use lib.Ieee.{Float, nan, inf, fin, Format, up, down, sum, add, sub, mul, div, neg, lt}
+use lib.Dec.{T, ltb→lt}
+use lib.IntN.{pos, negℤ}
+use lib.Ieee.{Float, nan, inf, fin, Format, up, down, sum, add, sub, mul, div, neg, lt, toSigned}
 use lib.Ieee.Fits.{down-pos}
 use Rattle.ieee.specs.Magnitude.{magnitude}
 use Rattle.ieee.specs.Rounded.{rounded}
 use Rattle.ieee.specs.Number.{asNumber, opposite}
+use Rattle.ieee.proofs.Integers.Sums.{signed-not}
+use Rattle.ieee.proofs.Order.Ranges.{signed-cut}
 use Rattle.ieee.proofs.Patterns.Signs.{round-neg}
 use Rattle.ieee.proofs.Values.AsNumber.{add-number, div-number, lt-number, magnitude-number, mul-number, rounded-number}
 use Rattle.ieee.proofs.Values.AsNumber.{square-number}
@@ -32,7 +36,7 @@ module _ (f : Format) (c : ℕ) (C : 0 < c) (a b : ℕ) where
             ]
       ]
     where
-      level : {x y : Float} → x ≡ fin false 0 (lib.IntN.pos 0) → y ≡ fin false 0 (lib.IntN.pos 0) → asNumber x ≡ opposite y
+      level : {x y : Float} → x ≡ fin false 0 (pos 0) → y ≡ fin false 0 (pos 0) → asNumber x ≡ opposite y
       level p q = unfold asNumber neg in rw (p, q)
 
   sum-turned : (s t : Bool) → asNumber (sum f (not s) a (not t) b c) ≡ opposite (sum f s a t b c)
@@ -93,3 +97,14 @@ above-opposite m x x′ h =
 
 pub below-opposite : (m x x′ : Float) → asNumber x′ ≡ opposite x → lt x′ (neg m) ≡ lt m x
 below-opposite m x x′ h = lt-number x′ (neg m) (neg x) (neg m) h refl ∙ lt-neg x m
+
+-- as an integer, within the range: at its ends it is not so, since an i32 goes one further below 0 than above
+pub toSigned-neg : (h : ℕ) (x : Float) → T (lt (magnitude x) (fin false 1 (pos h))) → toSigned h (neg x) ≡ negℤ (toSigned h x)
+unfolding neg magnitude lt
+toSigned-neg h nan l = absurd l
+toSigned-neg h (inf s) l = absurd l
+toSigned-neg h (fin s m e) l =
+    let q = m * up e / down e in
+    let room : q < 2 ^ h = div-lt-iff-lt-mul (down-pos e) .1 (omega (arith, ltb→lt (m * up e * 1) (1 * 2 ^ h * down e) l)) in
+    signed-cut h (fin (not s) m e) (not s) (m * up e) (down e) (down-pos e) (refl, refl) room ∙ signed-not s q
+    ∙ ap negℤ (sym (signed-cut h (fin s m e) s (m * up e) (down e) (down-pos e) (refl, refl) room))

@@ -1,10 +1,13 @@
--- Demand 3's conclusion: what agrees of the two outcomes.
+-- What agrees of two outcomes: two records but for what the documents except of an open shell, two answers, the areas afterwards.
 use mathlib.Core.Path.{_≡_}
+use mathlib.Core.Bool.{Bool}
 use mathlib.Core.List.{List}
 use Prim.Native.Nat.{ℕ}
 use lib.Ieee.{Float}
 use Rattle.verdict.specs.declared.Quality.{Quality}
 use Rattle.record.specs.declared.MeshQto.{MeshQto}
+use Rattle.record.specs.declared.Profile.{Profile}
+use Rattle.record.specs.Flags.{flagged}
 use Rattle.record.specs.Numbers.{prismNumber}
 use Rattle.qto.specs.declared.Answer.{Answer}
 
@@ -37,16 +40,22 @@ pub record AgreeRecords (q q′ : MeshQto) : Type 0 where
   pub verdict : q′ .«mesh_quality» ≡ q .«mesh_quality»
   pub rest : AgreeBy (q .«mesh_quality») q q′
 
--- two refusals with one number, or two records that agree
-unfoldable pub AgreeAnswers : Answer → Answer → Type 0
-AgreeAnswers (Answer.Refused n) (Answer.Refused m) = m ≡ n
-AgreeAnswers (Answer.Record q) (Answer.Record q′) = AgreeRecords q q′
-AgreeAnswers (Answer.Refused n) (Answer.Record q) = ⊥
-AgreeAnswers (Answer.Record q) (Answer.Refused n) = ⊥
+-- the same flags keep that (`flags-keep`)
+abbrev pub FlagsKeep : Type 0
+FlagsKeep =
+    (clip : Bool) (profile : Profile) (q q′ : MeshQto) → AgreeRecords q q′ → AgreeRecords (flagged clip profile q) (flagged clip profile q′)
 
--- the answers, and what stands in work area, raster and surface area afterwards
-pub record Agree (a a′ : Answer) (w w′ r r′ : List ℕ) (s s′ : List Float) : Type 0 where
-  pub answers : AgreeAnswers a a′
+-- two refusals with one number, or two records that stand to each other as R says
+unfoldable pub AgreeAnswers : (MeshQto → MeshQto → Type 0) → Answer → Answer → Type 0
+AgreeAnswers R (Answer.Refused n) (Answer.Refused m) = m ≡ n
+AgreeAnswers R (Answer.Record q) (Answer.Record q′) = R q q′
+AgreeAnswers R (Answer.Refused n) (Answer.Record q) = ⊥
+AgreeAnswers R (Answer.Record q) (Answer.Refused n) = ⊥
+
+-- the answers, and what stands in work area, raster and surface area afterwards; of the surface area S says it, by the answer
+pub record Agree (R : MeshQto → MeshQto → Type 0) (S : Answer → List Float → List Float → Type 0) (a a′ : Answer) (w w′ r r′ : List ℕ)
+    (s s′ : List Float) : Type 0 where
+  pub answers : AgreeAnswers R a a′
   pub work : w′ ≡ w
   pub raster : r′ ≡ r
-  pub surfaces : s′ ≡ s
+  pub surfaces : S a s s′

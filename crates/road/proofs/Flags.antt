@@ -6,8 +6,7 @@ use Rattle.volume.specs.declared.Method.{Method}
 use Rattle.record.specs.declared.MeshQto.{MeshQto}
 use Rattle.record.specs.declared.Profile.{Profile}
 use Rattle.record.specs.Flags.{marked, clipUnapplied, profileInvalid, ifClip, ifInvalid}
-use Rattle.place.specs.Agree.{AgreeBy, AgreeButBest, AgreeRecords}
-use Rattle.place.specs.Place.{FlagsKeep}
+use Rattle.road.specs.Agree.{AgreeBy, AgreeButBest, AgreeRecords, FlagsKeep}
 
 -- what leaves the verdict alone and keeps agreement but for the four keeps agreement
 keeps : (mark : MeshQto → MeshQto) → ((q : MeshQto) → mark q .«mesh_quality» ≡ q .«mesh_quality»)

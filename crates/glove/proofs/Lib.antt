@@ -1,0 +1,8 @@
+-- Why a mesh turned inside out has its record turned over: from the sums and the rows to the answers of `compute`.
+pub mod Rows
+pub mod Record
+pub mod Glove
+pub mod Stations
+pub mod Flags
+pub mod Numbered
+pub mod Ids

@@ -1,0 +1,123 @@
+-- What the record is made of is turned or stays, one part after the other; only the footprints of an open mesh may see the turn. Assumes
+-- nothing.
+use mathlib.Core.Path.{_≡_, sym, ap, subst}
+use mathlib.Core.List.{List}
+use Prim.Native.Nat.{ℕ}
+use native.Mathlib.Omega.{arith}
+use lib.Dec.{T}
+use lib.Ieee.{Float, binary32, binary64, le, ofBits}
+use Rattle.ieee.specs.Magnitude.{magnitude}
+use Rattle.ieee.specs.Number.{asNumber, opposite}
+use Rattle.ieee.specs.Single.{nought}
+use Rattle.ieee.specs.Double.{_⊠_, _⧄_}
+use Rattle.ieee.proofs.Values.Opposite.{div-opposite, magnitude-opposite, mul-opposite-left, rounded-opposite}
+use Rattle.ids.specs.Triangles.{triangleCount}
+use Rattle.ids.specs.Reversed.{reversed}
+use Rattle.ids.proofs.Reversed.{reversed-is}
+use Rattle.sums.specs.declared.totals.Totals.{Totals}
+use Rattle.sums.specs.Box.{box, origin, boxVolume}
+use Rattle.sums.specs.Totals.{thresholds}
+use Rattle.sums.specs.Turned.{turnedAreas, TurnedTotals}
+use Rattle.sums.proofs.TurnedTotals.{totals-turned}
+use Rattle.walk.specs.Counts.{countsOf}
+use Rattle.walk.proofs.Turned.{counts-reversed}
+use Rattle.weld.specs.Weld.{epsilonOf}
+use Rattle.verdict.specs.declared.Quality.{Quality}
+use Rattle.verdict.proofs.Reversed.{quality-reversed}
+use Rattle.volume.specs.Best.{prism, bestOf}
+use Rattle.refusals.specs.Refusals.{Passes}
+use Rattle.qto.specs.declared.Measures.{Measures}
+use Rattle.qto.specs.Full.{cube, totals, volumeOf, surfaceOf, measuresFrom, measures, distance, verdict, best, recordFrom, recordBy, recordOf}
+use Rattle.road.specs.Agree.{AgreeRecords}
+use Rattle.road.proofs.Best.{agree-but-prism}
+use Rattle.glove.specs.Turned.{sided, turnedOver, volumeAsNumber, TurnedRecords}
+use Rattle.glove.proofs.Rows.{rows-turned, same-count, largest-same, smallest-same}
+
+-- ---- the sums
+
+-- 0.940 is not below 0
+top-enough : T (le nought (thresholds .top))
+unfolding le ofBits
+top-enough = tt
+
+volume-turned : (t t′ : Totals) (u : Float) → TurnedTotals t t′ → asNumber (volumeOf t′ u) ≡ opposite (volumeOf t u)
+unfolding volumeOf
+volume-turned t t′ u s =
+    let six = ofBits binary64 0x4018_0000_0000_0000 in
+    rounded-opposite binary32 (t .volume6 ⧄ six ⊠ cube u) (t′ .volume6 ⧄ six ⊠ cube u)
+    (mul-opposite-left binary64 (t .volume6 ⧄ six) (cube u) (t′ .volume6 ⧄ six)
+    (div-opposite binary64 (t .volume6) six (t′ .volume6) (s .volume6)))
+
+module _ (vs : List Float) (ids : List ℕ) where
+  pub sums-turned : TurnedTotals (totals vs ids) (totals vs (reversed ids))
+  unfolding totals
+  sums-turned =
+      rw (reversed-is ids .long) (totals-turned thresholds top-enough vs (origin (box vs)) ids (triangleCount ids) (omega arith))
+
+  module _ (u : Float) where
+    pub same-size : magnitude (measures vs (reversed ids) u .volume) ≡ magnitude (measures vs ids u .volume)
+    unfolding measures measuresFrom
+    same-size = magnitude-opposite (volumeOf (totals vs ids) u) _ (volume-turned (totals vs ids) _ u sums-turned)
+
+    pub verdict-same : verdict vs (reversed ids) u (measures vs (reversed ids) u .volume) ≡ verdict vs ids u (measures vs ids u .volume)
+    unfolding verdict
+    verdict-same = quality-reversed vs ids (epsilonOf distance u) _ _ (boxVolume (box vs) (cube u)) same-size
+
+-- ---- the measures
+
+-- turned over, and with the volume as a number
+abbrev overturned : Measures → Measures
+overturned m =
+    record {
+      volume = opposite (m .volume);
+      surface = m .surface;
+      areas = turnedAreas (m .areas);
+      largest = m .largest;
+      smallest = m .smallest;
+      count = m .count;
+      triangles = m .triangles;
+    }
+
+abbrev numbered : Measures → Measures
+numbered m =
+    record {
+      volume = asNumber (m .volume);
+      surface = m .surface;
+      areas = m .areas;
+      largest = m .largest;
+      smallest = m .smallest;
+      count = m .count;
+      triangles = m .triangles;
+    }
+
+-- ---- the record
+
+-- with the same verdict, size of volume and surface, and whatever prisms
+agree : (m m′ : Measures) (q q′ : Quality) (v v′ s s′ aabb p p′ : Float) → numbered m′ ≡ overturned m → q′ ≡ q → v′ ≡ v → s′ ≡ s
+    → TurnedRecords (recordFrom m aabb q (bestOf q v s aabb p)) (recordFrom m′ aabb q′ (bestOf q′ v′ s′ aabb p′))
+unfolding sided recordFrom
+agree m m′ q q′ v v′ s s′ aabb p p′ e same-verdict same-volume same-surface =
+    rw (same-verdict, same-volume, same-surface)
+    (subst (λ (n : Measures). AgreeRecords (recordFrom (overturned m) aabb q (bestOf q v s aabb p))
+    (recordFrom n aabb q (bestOf q v s aabb p′))) (sym e) (agree-but-prism (overturned m) q v s aabb p p′))
+
+module _ (vs : List Float) (ids : List ℕ) (u : Float) (p : Passes vs ids u) where
+  measures-turned : numbered (measures vs (reversed ids) u) ≡ overturned (measures vs ids u)
+  unfolding measures measuresFrom surfaceOf
+  measures-turned =
+      let s = sums-turned vs ids in
+      rw (
+        volume-turned (totals vs ids) (totals vs (reversed ids)) u s,
+        s .surface,
+        s .areas,
+        largest-same vs ids u p,
+        smallest-same vs ids u p,
+        same-count vs ids u p,
+        counts-reversed vs (origin (box vs)) ids,
+      )
+
+  pub records-turned : TurnedRecords (recordOf vs ids u) (recordOf vs (reversed ids) u)
+  unfolding recordOf recordBy best
+  records-turned =
+      agree (measures vs ids u) (measures vs (reversed ids) u) _ _ _ _ _ _ (boxVolume (box vs) (cube u)) _ _ measures-turned
+      (verdict-same vs ids u) (same-size vs ids u) (ap (λ (m : Measures). m .surface) measures-turned)

@@ -1,0 +1,115 @@
+-- The same of the C form: its words are made of the record and its flags, and flag values that are none are refused in both. Assumes
+-- nothing.
+use mathlib.Core.Path.{_≡_, refl, ap}
+use mathlib.Core.Bool.{Bool, true, false, not, cond}
+use native.Mathlib.Omega.{arith}
+use mathlib.Core.List.{List}
+use Prim.Native.Nat.{ℕ, _+_}
+use lib.ListN.{length}
+use lib.Ieee.{Float}
+use Rattle.vertices.specs.Areas.{workWords}
+use Rattle.verdict.specs.declared.Quality.{Quality}
+use Rattle.record.specs.declared.MeshQto.{MeshQto}
+use Rattle.record.specs.Record.{zeroRecord}
+use Rattle.record.specs.Numbers.{qualityNumber, flagsFit}
+use Rattle.refusals.specs.declared.Check.{Check}
+use Rattle.refusals.specs.Refusals.{checkOf, Passes}
+use Rattle.refusals.proofs.Checks.{admitted}
+use Rattle.qto.specs.Full.{recordOf, surfacesAfter}
+use Rattle.qto.specs.Compute.{areaAt}
+use Rattle.qto.specs.Numbers.{wordsOf, withFlags, numberAt, wordsAt, checkFlags, ComputesNumbered}
+use Rattle.road.specs.Agree.{AgreeBy, AgreeRecords}
+use Rattle.road.specs.Numbered.{unexcepted, owed, AgreeNumbered}
+
+-- ---- words of records that agree
+
+words-by : (v : Quality) (q q′ : MeshQto) → q .«mesh_quality» ≡ v → q′ .«mesh_quality» ≡ v → AgreeBy v q q′
+    → owed 0 (wordsOf q′) ≡ owed 0 (wordsOf q)
+unfolding AgreeBy owed wordsOf unexcepted qualityNumber
+words-by Quality.Closed q q′ h h′ r = ap (λ (x : MeshQto). owed 0 (wordsOf x)) r
+words-by Quality.Degenerate q q′ h h′ r = ap (λ (x : MeshQto). owed 0 (wordsOf x)) r
+words-by Quality.OpenShell q q′ h h′ r =
+    rw (
+      h,
+      h′,
+      r .volume,
+      r .aabb,
+      r .surface,
+      r .top,
+      r .bottom,
+      r .side,
+      r .inclined,
+      r .largest,
+      r .smallest,
+      r .count,
+      r .profile,
+      r .bounded,
+      r .used,
+      r .out-of-range,
+      r .sliver,
+    )
+
+pub words-agree : (q q′ : MeshQto) → AgreeRecords q q′ → owed 0 (wordsOf q′) ≡ owed 0 (wordsOf q)
+words-agree q q′ r = words-by (q .«mesh_quality») q q′ refl (r .verdict) (r .rest)
+
+-- ---- two outcomes
+
+-- what has to hold of a relation of words and one of surface areas, for two meshes, one area and one record's words before
+pub record AlikeNumbered (W : ℕ → List ℕ → List ℕ → Type 0) (S : ℕ → List ℕ → List Float → List Float → Type 0) (vs vs′ : List Float)
+    (ids ids′ : List ℕ) (u : Float) (clip defect : ℕ) (s : List Float) (words : List ℕ) : Type 0 where
+  pub checks : (w r s : ℕ) → checkOf vs′ ids′ u w r s ≡ checkOf vs ids u w r s
+  pub lengths : workWords (length vs′) (length ids′) ≡ workWords (length vs) (length ids)
+  pub refused : (n : ℕ) → W (0x8000_0000 + n) words words
+  pub refused-rows : (n : ℕ) → S (0x8000_0000 + n) words s s
+  pub zero-record : W 0 (wordsOf (withFlags clip defect zeroRecord)) (wordsOf (withFlags clip defect zeroRecord))
+  pub zero-rows : S 0 (wordsOf (withFlags clip defect zeroRecord)) s s
+  pub full : Passes vs ids u → W 0 (wordsOf (withFlags clip defect (recordOf vs ids u))) (wordsOf (withFlags clip defect (recordOf vs′ ids′ u)))
+  pub full-rows : Passes vs ids u
+      → S 0 (wordsOf (withFlags clip defect (recordOf vs ids u))) (surfacesAfter vs ids u s) (surfacesAfter vs′ ids′ u s)
+
+module _ (W : ℕ → List ℕ → List ℕ → Type 0) (S : ℕ → List ℕ → List Float → List Float → Type 0) (vs vs′ : List Float)
+    (ids ids′ : List ℕ) (u : Float) (clip defect : ℕ) (s : List Float) (words : List ℕ)
+    (k : AlikeNumbered W S vs vs′ ids ids′ u clip defect s words) where
+  abbrev wordsAs : Check → MeshQto → List ℕ
+  wordsAs c q = wordsAt c clip defect q words
+
+  words-at : (c : Check) → (c ≡ Check.Full → Passes vs ids u)
+      → W (numberAt c) (wordsAs c (recordOf vs ids u)) (wordsAs c (recordOf vs′ ids′ u))
+  unfolding numberAt wordsAt
+  words-at (Check.Refuse n) passes = k .refused n
+  words-at Check.Zero passes = k .zero-record
+  words-at Check.Full passes = k .full (passes refl)
+
+  rows-at : (c : Check) → (c ≡ Check.Full → Passes vs ids u)
+      → S (numberAt c) (wordsAs c (recordOf vs ids u)) (areaAt c (surfacesAfter vs ids u s) s) (areaAt c (surfacesAfter vs′ ids′ u s) s)
+  unfolding numberAt wordsAt areaAt
+  rows-at (Check.Refuse n) passes = k .refused-rows n
+  rows-at Check.Zero passes = k .zero-rows
+  rows-at Check.Full passes = k .full-rows (passes refl)
+
+  -- flags that are none are refused before anything is asked of the mesh
+  fitting : (fit : Bool) (c : Check) → (c ≡ Check.Full → Passes vs ids u) → cond (not fit) (Check.Refuse 5) c ≡ Check.Full → Passes vs ids u
+  fitting false c passes h = let no : _≡_ {A = ℕ} 0 1 = cc in absurd (no-more no)
+    where
+      no-more : _≡_ {A = ℕ} 0 1 → ⊥
+      no-more e = absurd (omega arith)
+  fitting true c passes h = passes h
+
+  pub numbered-agree : (w r : List ℕ) (n n′ : ℕ) (w₁ w₂ r₁ r₂ : List ℕ) (s₁ s₂ : List Float) (words₁ words₂ : List ℕ)
+      → ComputesNumbered vs ids u clip defect w r s words n w₁ r₁ s₁ words₁
+      → ComputesNumbered vs′ ids′ u clip defect w r s words n′ w₂ r₂ s₂ words₂
+      → AgreeNumbered W S n n′ w₁ w₂ r₁ r₂ s₁ s₂ words₁ words₂
+  unfolding checkFlags
+  numbered-agree w r n n′ w₁ w₂ r₁ r₂ s₁ s₂ words₁ words₂ c c′ =
+      let said = checkOf vs ids u (length w) (length r) (length s) in
+      let all = cond (not (flagsFit clip defect)) (Check.Refuse 5) said in
+      let e = k .checks (length w) (length r) (length s) in
+      let passes : all ≡ Check.Full → Passes vs ids u =
+      fitting (flagsFit clip defect) said (λ h. admitted vs ids u (length w) (length r) (length s) said h refl .mesh) in
+      record {
+        number = rw (c .number, c′ .number, e);
+        record-words = rw (c .number, c .record-words, c′ .record-words, e) (words-at all passes);
+        work = rw (c .work, c′ .work, e, k .lengths);
+        raster = rw (c .raster, c′ .raster, e);
+        surfaces = rw (c .number, c .record-words, c .surfaces, c′ .surfaces, e) (rows-at all passes);
+      }

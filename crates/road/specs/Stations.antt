@@ -1,0 +1,34 @@
+-- The road of a mesh through the definitions: what is seen of a second mesh at each station is what is seen of the first, as it is or
+-- turned. Demand 3 and the glove are said so, each with its own premise and its own turns.
+use mathlib.Core.Path.{_≡_}
+use mathlib.Core.List.{List}
+use Prim.Native.Nat.{ℕ}
+use lib.ListN.{length}
+use lib.Ieee.{Float}
+use Rattle.ids.specs.Lent.{cleared}
+use Rattle.vertices.specs.Areas.{workWords}
+use Rattle.sums.specs.declared.totals.Totals.{Totals}
+use Rattle.sums.specs.Box.{box, origin, boxVolume}
+use Rattle.rows.specs.declared.PlanarSurface.{PlanarSurface}
+use Rattle.walk.specs.Counts.{countsOf}
+use Rattle.weld.specs.Weld.{epsilonOf, welded}
+use Rattle.refusals.specs.Refusals.{checkOf}
+use Rattle.qto.specs.Full.{cube, totals, surfaceRows, measures, distance, verdict}
+
+-- The floats vs and vs′, the ids and ids′; how the sums of the second stand to those of the first, and what becomes of rows and of welded
+-- ids. Where rows can be put in order, and where welding is well behaved, is asked for at these stations alone.
+pub record Stations (vs vs′ : List Float) (ids ids′ : List ℕ) (u : Float) (Sums : Totals → Totals → Type 0)
+    (turnRows : List PlanarSurface → List PlanarSurface) (turnIds : List ℕ → List ℕ) (Orderly Weldable : Type 0) : Type 0 where
+  -- what the table of refusals says
+  pub checks : (w r s : ℕ) → checkOf vs′ ids′ u w r s ≡ checkOf vs ids u w r s
+  -- the box's volume; its corners may show the place
+  pub box-volume : boxVolume (box vs′) (cube u) ≡ boxVolume (box vs) (cube u)
+  -- corners are rebased by the box, and all else is made of them
+  pub sums : Sums (totals vs ids) (totals vs′ ids′)
+  pub rows : Orderly → surfaceRows vs′ ids′ u ≡ turnRows (surfaceRows vs ids u)
+  pub counts : countsOf vs′ (origin (box vs′)) ids′ ≡ countsOf vs (origin (box vs)) ids
+  -- the weld's cells may show the place; which vertex names one does not
+  pub weld : Weldable → welded vs′ ids′ (epsilonOf distance u) ≡ turnIds (welded vs ids (epsilonOf distance u))
+  pub quality : Weldable → verdict vs′ ids′ u (measures vs′ ids′ u .volume) ≡ verdict vs ids u (measures vs ids u .volume)
+  -- what stands in the work area afterwards
+  pub work : (area : List ℕ) → cleared (workWords (length vs′) (length ids′)) area ≡ cleared (workWords (length vs) (length ids)) area

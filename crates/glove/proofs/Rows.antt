@@ -22,21 +22,12 @@ use Rattle.rows.proofs.Opposite.{opposite-partnered, opposite-scaled, sorted-op
 use Rattle.rows.proofs.Erased.{opposite-areas, same-largest, same-length, same-smallest}
 use Rattle.surfaces.specs.Surfaces.{Bucket, rows}
 use Rattle.surfaces.proofs.Opposite.{rows-opposite}
-use Rattle.walk.proofs.Worth.{buckets-plain}
+use Rattle.walk.proofs.Worth.{buckets-plain, rows-single}
 use Rattle.walk.proofs.Turned.{buckets-turned}
 use Rattle.refusals.specs.Refusals.{Passes}
 use Rattle.qto.specs.Full.{square, buckets, surfaceRows, surfacesAfter}
 use Rattle.qto.proofs.Measured.{unit-square}
 use Rattle.glove.specs.Turned.{rowsIn, TurnedRows}
-
--- every float of a row is the result of an operation of binary32
-rows-single : (by : Float) (bs : List Bucket) → T (allSingle (scaled by (rows bs)))
-unfolding allSingle scaled rows
-rows-single by [] = tt
-rows-single by (b ∷ bs) =
-    and-i _ _
-    (and-i _ _ (mul-fits binary32 (b .area) by)
-    (and-i _ _ (div-fits binary32 _ _) (and-i _ _ (div-fits binary32 _ _) (div-fits binary32 _ _)))) (rows-single by bs)
 
 -- n rows stand in front, and behind them what stood there
 in-front : (vs : List Float) (ids : List ℕ) (u : Float) (s : List Float) (n : ℕ) → length (surfaceRows vs ids u) ≡ n

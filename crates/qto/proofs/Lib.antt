@@ -6,6 +6,6 @@ mod FinitePrism
 pub mod Finite
 pub mod Starred
 mod Arranged
-mod Measured
+pub mod Measured
 mod Assembled
 mod Fronts

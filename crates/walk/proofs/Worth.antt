@@ -5,7 +5,9 @@ use mathlib.Core.Bool.{Bool, true, _&&_, _||_}
 use Prim.Native.Nat.{ℕ, zero, suc}
 use mathlib.Core.List.{List, [], _∷_}
 use lib.Dec.{T}
-use lib.Ieee.{Float, nan, inf, fin, binary32}
+use lib.IntN.{ℤ}
+use lib.Ieee.{Float, nan, inf, fin, binary32, fits, ofInt}
+use lib.Ieee.Fits.{div-fits, mul-fits}
 use lib.Ieee.Positive.{positive}
 use Rattle.ieee.specs.Single.{_⊗_, nought}
 use Rattle.ids.specs.Triangles.{triangle}
@@ -18,8 +20,9 @@ use Rattle.sums.proofs.Areas.{part-plus}
 use Rattle.sums.proofs.Plus.{plus-add, plus-mul, plus-zero}
 use Rattle.rows.specs.Rows.{scaled}
 use Rattle.rows.specs.Plain.{plainFloat, plainRow, allPlain}
+use Rattle.rows.specs.Sorting.{allSingle}
 use Rattle.surfaces.specs.declared.Key.{Key}
-use Rattle.surfaces.specs.Surfaces.{Bucket, normalKey, tenth, rows}
+use Rattle.surfaces.specs.Surfaces.{Bucket, normalKey, ten, tenth, rows}
 use Rattle.surfaces.specs.Keys.{areaFor, hasKey, Apart, AllAreas}
 use Rattle.surfaces.proofs.Keys.{area-put, has-put, apart-put, put-all}
 use Rattle.surfaces.proofs.Plain.{tenth-plain}
@@ -109,3 +112,13 @@ rows-plain by h (b ∷ bs) a =
 pub buckets-plain : (vs : List Float) (ids : List ℕ) (by : Float) (n : ℕ) → T (allFine vs) → T (positive by)
     → T (allPlain (scaled by (rows (bucketsTo vs (origin (box vs)) ids n))))
 buckets-plain vs ids by n fine h = rows-plain by h (bucketsTo vs (origin (box vs)) ids n) (buckets-plus vs ids fine n)
+
+-- and every float of a row is of binary32: an operation made it
+pub rows-single : (by : Float) (bs : List Bucket) → T (allSingle (scaled by (rows bs)))
+unfolding allSingle scaled rows
+rows-single by [] = tt
+rows-single by (b ∷ bs) =
+    let one : (z : ℤ) → T (fits binary32 (tenth z)) = λ z. div-fits binary32 (ofInt binary32 z) ten in
+    five (fits binary32 (b .area ⊗ by)) (fits binary32 (tenth (b .key .x))) (fits binary32 (tenth (b .key .y)))
+    (fits binary32 (tenth (b .key .z))) (allSingle (scaled by (rows bs)))
+    (mul-fits binary32 (b .area) by) (one (b .key .x)) (one (b .key .y)) (one (b .key .z)) (rows-single by bs)

@@ -6,4 +6,5 @@ pub mod Printed
 pub mod Suffice
 pub mod NotFinite
 pub mod Place
+pub mod Glove
 pub mod Cube

@@ -12,10 +12,10 @@ use Rattle.refusals.specs.Refusals.{Passes}
 use Rattle.qto.specs.Full.{recordOf}
 use Rattle.refusals.proofs.Checks.{admitted}
 use Rattle.place.specs.Moved.{Moved, unitEnough}
-use Rattle.place.specs.Agree.{AgreeBy, AgreeButBest, AgreeRecords}
+use Rattle.road.specs.Agree.{AgreeBy, AgreeButBest, AgreeRecords}
 use Rattle.place.proofs.Record.{rows-stay, records-agree}
 use Rattle.place.proofs.Place.{check-stays}
-use Rattle.place.proofs.Flags.{flags-keep}
+use Rattle.road.proofs.Flags.{flags-keep}
 use Rattle.meshfile.specs.Format.{Contents, File}
 use Rattle.meshfile.specs.Reading.{floatsOf}
 use Rattle.program.specs.Program.{checkMesh, listed, textAt, meshText, textFor, textOf}

@@ -2,4 +2,5 @@
 pub mod Program
 pub mod Promises
 pub mod Place
+pub mod Glove
 pub mod Cube

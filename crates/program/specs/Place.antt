@@ -14,7 +14,7 @@ use Rattle.record.specs.Numbers.{profileAt}
 use Rattle.refusals.specs.declared.Check.{Check}
 use Rattle.qto.specs.Full.{recordOf, surfaceRows}
 use Rattle.place.specs.Moved.{Moved, unitEnough}
-use Rattle.place.specs.Agree.{AgreeButBest}
+use Rattle.road.specs.Agree.{AgreeButBest}
 use Rattle.meshfile.specs.Format.{Contents, File, fileOf}
 use Rattle.meshfile.specs.Reading.{floatsOf}
 use Rattle.listing.specs.Listing.{listingOf}

@@ -18,7 +18,8 @@ use Rattle.ids.proofs.Triangles.{repeats-ab, repeats-bc, repeats-ca, repeats-no
 use Rattle.steps.specs.inner.Rows.{UsesWithin}
 use Rattle.edges.specs.inner.Tests.{edgesOf}
 use Rattle.ids.proofs.Same.{edge-eq}
-use Rattle.steps.proofs.Within.{uses-append, ups-append, within-length}
+use Rattle.ids.proofs.Uses.{uses-append}
+use Rattle.steps.proofs.Within.{ups-append, within-length}
 
 -- ---- one step
 
@@ -93,10 +94,10 @@ proper-within t k =
     let e₂ = ups-append k bc ca in
     let e₃ = ups-append k ab bc in
     let e₄ = ups-append k ca ab in
-    let f₁ = uses-append k ab (bc ++ ca) in
-    let f₂ = uses-append k bc ca in
-    let f₃ = uses-append k ab bc in
-    let f₄ = uses-append k ca ab in
+    let f₁ = uses-append sameEdge k ab (bc ++ ca) in
+    let f₂ = uses-append sameEdge k bc ca in
+    let f₃ = uses-append sameEdge k ab bc in
+    let f₄ = uses-append sameEdge k ca ab in
     (omega (arith, p .0, q .0, r .0), omega (arith, p .1, q .1, r .1))
 
 proper-length : (t : Triangle) → length (aroundProper t) ≤ 3

@@ -4,7 +4,6 @@ use mathlib.Core.Bool.{Bool, true, false}
 use Rattle.record.specs.declared.MeshQto.{MeshQto}
 use Rattle.record.specs.declared.Profile.{Profile}
 use Rattle.record.specs.Flags.{marked, ifClip, ifInvalid, flagged}
-use Rattle.road.specs.Agree.{AgreeRecords}
 use Rattle.road.proofs.Flags.{flags-keep}
 use Rattle.glove.specs.Turned.{sided, turnedOver, volumeAsNumber, TurnedRecords}
 

@@ -1,6 +1,6 @@
 -- The routines on ids do not see the turn: their answers are made of what edges, faces and pieces say, and that is the same. Assumes
 -- nothing.
-use mathlib.Core.Path.{_≡_, sym, _∙_}
+use mathlib.Core.Path.{_≡_}
 use mathlib.Core.List.{List}
 use Prim.Native.Nat.{ℕ, _*_}
 use lib.ListN.{length}

@@ -1,17 +1,13 @@
 -- The glove for the C interface, from that for the record: the words are made of the record. Assumes nothing.
-use mathlib.Core.Path.{_≡_, refl, sym, _∙_, ap, subst}
+use mathlib.Core.Path.{_≡_, refl}
 use mathlib.Core.Bool.{Bool, true, false}
 use mathlib.Core.List.{List}
 use Prim.Native.Nat.{ℕ, _+_}
 use native.Mathlib.Omega.{arith}
 use borrow.Author.Tests.{ne-eqb}
 use lib.Dec.{T, eqb}
-use lib.ListN.{set}
-use lib.Ieee.{Float, nan, inf, fin, binary32, fits, ofBits, toBits}
+use lib.Ieee.{Float, binary32, fits, ofBits}
 use lib.Ieee.Bits.{ofBits-toBits}
-use lib.Ieee.Fits.{round-fits}
-use Rattle.ieee.specs.Number.{asNumber, opposite}
-use Rattle.ieee.specs.Rounded.{rounded}
 use Rattle.ieee.proofs.Patterns.Narrowed.{rounded-fits}
 use Rattle.ids.specs.Reversed.{reversed}
 use Rattle.ids.proofs.Reversed.{reversed-is}
@@ -20,16 +16,12 @@ use Rattle.record.specs.declared.Profile.{Profile}
 use Rattle.record.specs.Record.{zeroRecord}
 use Rattle.record.specs.Flags.{marked, ifClip, ifInvalid, flagged}
 use Rattle.record.specs.Numbers.{profileAt}
-use Rattle.refusals.specs.Refusals.{Passes}
-use Rattle.qto.specs.Full.{recordOf, recordBy, recordFrom, measures, measuresFrom, volumeOf, surfaceRows}
+use Rattle.qto.specs.Full.{recordOf, recordBy, recordFrom, measures, measuresFrom, volumeOf}
 use Rattle.qto.specs.Numbers.{wordsOf, withFlags}
-use Rattle.road.specs.Agree.{AgreeBy}
-use Rattle.road.specs.Numbered.{owed}
 use Rattle.road.proofs.Numbered.{AlikeNumbered, words-agree, numbered-agree}
 use Rattle.glove.specs.Turned.{sided, turnedOver, volumeAsNumber, TurnedRecords, TurnedRows}
 use Rattle.glove.specs.Numbered.{volumeWordAsNumber, turnedWords, TurnedWordsBy, TurnedWords, TurnedAreaBy, TurnedNumberedArea}
 use Rattle.glove.specs.Numbered.{GloveNumbered}
-use Rattle.glove.proofs.Rows.{area-turned}
 use Rattle.glove.proofs.Record.{records-turned}
 use Rattle.glove.proofs.Flags.{flags-turn}
 use Rattle.glove.proofs.Glove.{check-same, no-rows, rows-after, zero-turned}

@@ -19,19 +19,18 @@ use Rattle.sums.specs.Box.{box, origin, boxVolume}
 use Rattle.sums.specs.Totals.{thresholds}
 use Rattle.sums.specs.Turned.{turnedAreas, TurnedTotals}
 use Rattle.sums.proofs.TurnedTotals.{totals-turned}
-use Rattle.walk.specs.Counts.{countsOf}
 use Rattle.walk.proofs.Turned.{counts-reversed}
 use Rattle.weld.specs.Weld.{epsilonOf}
 use Rattle.verdict.specs.declared.Quality.{Quality}
 use Rattle.verdict.proofs.Reversed.{quality-reversed}
-use Rattle.volume.specs.Best.{prism, bestOf}
+use Rattle.volume.specs.Best.{bestOf}
 use Rattle.refusals.specs.Refusals.{Passes}
 use Rattle.qto.specs.declared.Measures.{Measures}
 use Rattle.qto.specs.Full.{cube, totals, volumeOf, surfaceOf, measuresFrom, measures, distance, verdict, best, recordFrom, recordBy, recordOf}
 use Rattle.road.specs.Agree.{AgreeRecords}
 use Rattle.road.proofs.Best.{agree-but-prism}
-use Rattle.glove.specs.Turned.{sided, turnedOver, volumeAsNumber, TurnedRecords}
-use Rattle.glove.proofs.Rows.{rows-turned, same-count, largest-same, smallest-same}
+use Rattle.glove.specs.Turned.{sided, TurnedRecords}
+use Rattle.glove.proofs.Rows.{same-count, largest-same, smallest-same}
 
 -- ---- the sums
 

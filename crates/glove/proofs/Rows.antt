@@ -1,14 +1,13 @@
 -- The rows of the reversed mesh are the rows of the mesh with opposite normals, put in order; so largest, smallest and their number stay.
 -- Assumes nothing.
 use mathlib.Core.Path.{_≡_, refl, sym, _∙_, ap}
-use mathlib.Core.List.{List, [], _∷_}
+use mathlib.Core.List.{List}
 use Prim.Native.Nat.{ℕ, _*_}
 use native.Mathlib.Omega.{arith}
 use lib.Dec.{T}
-use lib.ListN.{length, take, drop}
+use lib.ListN.{length, drop}
 use lib.Seq.{take-at, drop-at}
-use lib.Ieee.{Float, binary32}
-use lib.Ieee.Fits.{and-i, div-fits, mul-fits}
+use lib.Ieee.{Float}
 use Rattle.ids.specs.Triangles.{triangleCount}
 use Rattle.ids.specs.Reversed.{reversed}
 use Rattle.ids.proofs.Reversed.{reversed-is}
@@ -20,7 +19,7 @@ use Rattle.rows.specs.Opposite.{oppositeRows, Partnered, areasOf}
 use Rattle.rows.proofs.Flat.{rows-flat, length-flatten}
 use Rattle.rows.proofs.Opposite.{opposite-partnered, opposite-scaled, sorted-opposites}
 use Rattle.rows.proofs.Erased.{opposite-areas, same-largest, same-length, same-smallest}
-use Rattle.surfaces.specs.Surfaces.{Bucket, rows}
+use Rattle.surfaces.specs.Surfaces.{rows}
 use Rattle.surfaces.proofs.Opposite.{rows-opposite}
 use Rattle.walk.proofs.Worth.{buckets-plain, rows-single}
 use Rattle.walk.proofs.Turned.{buckets-turned}

@@ -3,12 +3,12 @@
 use mathlib.Core.Path.{_≡_, refl, sym, ap, _∙_}
 use mathlib.Core.Bool.{Bool, not, _&&_, and-comm, and-assoc}
 use mathlib.Core.List.{List, [], _∷_, _++_}
-use Prim.Native.Nat.{ℕ, zero, suc, _<_}
+use Prim.Native.Nat.{ℕ, zero, suc, _*_, _<_}
 use native.Mathlib.Omega.{arith}
 use native.Mathlib.Decide.{ℕ-discrete}
 use borrow.Author.Tests.{eq-eqb, ne-eqb}
 use lib.Dec.{eqb}
-use lib.ListN.{length}
+use lib.ListN.{length, drop}
 use Rattle.ids.specs.Triangles.{Triangle, distinct, overTriangles, triangle, triangleCount}
 use Rattle.ids.specs.Reversed.{turnedTriangle, reversed, ReversedIs, TurnedDistinct}
 use Rattle.ids.proofs.Numbered.{triangle-behind}
@@ -42,8 +42,18 @@ each-turned (a ∷ b ∷ c ∷ ids) zero l = first-turned a b c (reversed ids) i
 each-turned (a ∷ b ∷ c ∷ ids) (suc t) l =
     triangle-behind a c b (reversed ids) t ∙ each-turned ids t (omega arith) ∙ ap turnedTriangle (sym (triangle-behind a b c ids t))
 
+-- what is left over stays
+rest-kept : (ids : List ℕ) → drop (3 * triangleCount ids) (reversed ids) ≡ drop (3 * triangleCount ids) ids
+unfolding reversed
+rest-kept [] = refl
+rest-kept (a ∷ []) = refl
+rest-kept (a ∷ b ∷ []) = refl
+rest-kept (a ∷ b ∷ c ∷ ids) =
+    let more : 3 * triangleCount (a ∷ b ∷ c ∷ ids) ≡ suc (suc (suc (3 * triangleCount ids))) = omega arith in
+    rw more (rest-kept ids)
+
 pub reversed-is : (ids : List ℕ) → ReversedIs ids
-reversed-is ids = record { twice = reversed-twice ids; long = reversed-long ids; each = each-turned ids }
+reversed-is ids = record { twice = reversed-twice ids; long = reversed-long ids; each = each-turned ids; rest = rest-kept ids }
 
 -- ---- a turned triangle repeats an id where it did
 

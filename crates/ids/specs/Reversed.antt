@@ -1,9 +1,8 @@
 -- The glove (02, A9): the ids of a mesh turned inside out, the last two of every triangle swapped; and what of ids does not see it.
 use mathlib.Core.Path.{_≡_}
-use mathlib.Core.Bool.{Bool}
 use mathlib.Core.List.{List, [], _∷_}
-use Prim.Native.Nat.{ℕ, _<_}
-use lib.ListN.{length}
+use Prim.Native.Nat.{ℕ, _*_, _<_}
+use lib.ListN.{length, drop}
 use Rattle.ids.specs.Triangles.{Triangle, distinct, triangle, triangleCount}
 use Rattle.ids.specs.EdgeChain.{boundaryFree, overIncident, closedManifold, windingCoherent}
 use Rattle.ids.specs.FaceNet.{maxAbs, allCancel}
@@ -25,6 +24,7 @@ pub record ReversedIs (ids : List ℕ) : Type 0 where
   pub twice : reversed (reversed ids) ≡ ids
   pub long : length (reversed ids) ≡ length ids
   pub each : (t : ℕ) → t < triangleCount ids → triangle (reversed ids) t ≡ turnedTriangle (triangle ids t)
+  pub rest : drop (3 * triangleCount ids) (reversed ids) ≡ drop (3 * triangleCount ids) ids
 
 -- a triangle that repeats an id still does, and no other (`turned-distinct`)
 abbrev pub TurnedDistinct : Type 0

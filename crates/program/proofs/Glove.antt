@@ -1,5 +1,5 @@
 -- The glove for the program, from that for the record: the text is made of the record, its rows and the pieces. Assumes nothing.
-use mathlib.Core.Path.{_≡_, refl, sym, subst, _∙_}
+use mathlib.Core.Path.{_≡_, refl, sym, subst}
 use mathlib.Core.List.{List}
 use Prim.Native.Nat.{ℕ}
 use lib.Dec.{eqb}
@@ -10,14 +10,13 @@ use Rattle.refusals.specs.declared.Check.{Check}
 use Rattle.refusals.specs.Refusals.{Passes}
 use Rattle.refusals.proofs.Checks.{admitted}
 use Rattle.glove.specs.Turned.{TurnedRecords}
-use Rattle.glove.specs.Stations.{turnedRows}
 use Rattle.glove.proofs.Rows.{rows-turned}
 use Rattle.glove.proofs.Record.{records-turned}
 use Rattle.glove.proofs.Flags.{flags-turn}
 use Rattle.glove.proofs.Glove.{check-same}
 use Rattle.meshfile.specs.Format.{Contents, File}
 use Rattle.program.specs.Program.{checkMesh, listed, textAt, meshText, textFor, textOf}
-use Rattle.program.specs.Place.{meshFloats, meshUnit, meshRecord, meshRows}
+use Rattle.program.specs.Place.{meshFloats, meshUnit, meshRecord}
 use Rattle.program.specs.Glove.{IsFull, TurnedTexts, TextTurns}
 
 -- ---- what a file holds, and the same with reversed ids

@@ -6,19 +6,15 @@ use Prim.Native.Nat.{ℕ, _+_, _-_, _≤_, _<_}
 use native.Mathlib.Omega.{arith}
 use native.Mathlib.Decide.{decLt}
 use lib.ListN.{length, length-append}
-use Rattle.ids.specs.Uses.{Use, uses}
+use Rattle.ids.specs.Uses.{Use}
 use Rattle.ids.specs.EdgeChain.{Edge, sameEdge}
+use Rattle.ids.proofs.Uses.{uses-append}
 use Rattle.table.specs.inner.Rows.{Free}
 use Rattle.table.specs.inner.Table.{ups}
 use Rattle.table.proofs.Search.{has-free}
 use Rattle.table.proofs.Sums.{ups-le, uses-le}
 use Rattle.steps.specs.inner.Rows.{edgeAt, edgeWord, edgeUses, UsesWithin, EdgeRoom, EdgesFit, EdgesAdded}
 use Rattle.table.proofs.Counts.{Roomy}
-
-pub uses-append : (k : Edge) (es fs : List (Use Edge)) → uses sameEdge k (es ++ fs) ≡ uses sameEdge k es + uses sameEdge k fs
-unfolding uses
-uses-append k [] fs = omega arith
-uses-append k (e ∷ es) fs = omega (arith, uses-append k es fs)
 
 pub ups-append : (k : Edge) (es fs : List (Use Edge)) → ups sameEdge k (es ++ fs) ≡ ups sameEdge k es + ups sameEdge k fs
 unfolding ups
@@ -34,7 +30,7 @@ within-le m o es l w k = (omega (arith, w k .0), omega (arith, w k .1))
 
 pub within-append : (m o : ℕ) (es fs : List (Use Edge)) → UsesWithin m es → UsesWithin o fs → UsesWithin (m + o) (es ++ fs)
 within-append m o es fs v w k =
-    (omega (arith, ups-append k es fs, v k .0, w k .0), omega (arith, ups-append k es fs, uses-append k es fs, v k .1, w k .1))
+    (omega (arith, ups-append k es fs, v k .0, w k .0), omega (arith, ups-append k es fs, uses-append sameEdge k es fs, v k .1, w k .1))
 
 -- ---- room
 

@@ -1,22 +1,21 @@
 -- Turned inside out, a mesh has as many triangles used, out of range and slivers as before, and in the same order the same areas for the
 -- opposite keys.
-use mathlib.Core.Path.{_≡_, refl, sym, _∙_, ap}
-use mathlib.Core.Bool.{Bool, not, _&&_}
+use mathlib.Core.Path.{_≡_, refl}
+use mathlib.Core.Bool.{Bool}
 use mathlib.Core.List.{List, [], _∷_}
-use Prim.Native.Nat.{ℕ, zero, suc, _+_, _≤_}
+use Prim.Native.Nat.{ℕ, zero, suc, _≤_}
 use native.Mathlib.Omega.{arith}
 use lib.Dec.{T}
-use lib.Ieee.{Float, lt, le}
+use lib.Ieee.{Float}
 use Rattle.ids.specs.Triangles.{Triangle, overTriangles, triangle, triangleCount}
-use Rattle.ids.specs.Uses.{bit, sumBy}
+use Rattle.ids.specs.Uses.{sumBy}
 use Rattle.ids.specs.Reversed.{turnedTriangle, reversed}
 use Rattle.ids.proofs.Reversed.{reversed-is}
-use Rattle.vertices.specs.Vertices.{cornersInRange}
 use Rattle.vertices.proofs.Range.{corners-turned}
 use Rattle.sums.specs.declared.triangle.Facet.{Facet}
 use Rattle.sums.specs.Box.{box, origin}
 use Rattle.sums.specs.Fine.{allFine}
-use Rattle.sums.specs.Facet.{Part, used, part, shortest}
+use Rattle.sums.specs.Facet.{Part, used, part}
 use Rattle.sums.proofs.TurnedFacets.{TurnedFacet, TurnedPart, none, thin, turned, part-turned, turned-length}
 use Rattle.sums.proofs.UnitNormals.{UnitFacet, part-unit}
 use Rattle.surfaces.specs.Surfaces.{Bucket, normalKey}
@@ -24,6 +23,7 @@ use Rattle.surfaces.specs.Opposite.{oppositeKey, oppositeBuckets}
 use Rattle.surfaces.proofs.Opposite.{tenths-opposite, add-opposite}
 use Rattle.walk.specs.Walk.{withSurface, bucketsTo}
 use Rattle.walk.specs.Counts.{isOutOfRange, isSliver, isUsed, howMany, countsOf}
+use Rattle.walk.specs.Turned.{TurnedAlike}
 
 -- ---- the counts
 
@@ -36,14 +36,23 @@ count-reversed f e (a ∷ []) = refl
 count-reversed f e (a ∷ b ∷ []) = refl
 count-reversed f e (a ∷ b ∷ c ∷ ids) = rw (e (record { a = a; b = b; c = c }), count-reversed f e ids)
 
--- what is asked of the corners in range, and of the length of the cross product
+-- what is asked is whether the corners are in range, and how long the cross product is
+pub turned-alike : (vs o : List Float) (t : Triangle) → TurnedAlike vs o t
+unfolding isUsed isOutOfRange isSliver
+turned-alike vs o t =
+    record {
+      out-of-range = rw (corners-turned vs t);
+      sliver = rw (corners-turned vs t, turned-length vs o t);
+      used = rw (corners-turned vs t, turned-length vs o t);
+    }
+
 pub counts-reversed : (vs o : List Float) (ids : List ℕ) → countsOf vs o (reversed ids) ≡ countsOf vs o ids
-unfolding countsOf isUsed isOutOfRange isSliver
+unfolding countsOf
 counts-reversed vs o ids =
     rw (
-      count-reversed (isUsed vs o) (λ t. rw (corners-turned vs t, turned-length vs o t)) ids,
-      count-reversed (isOutOfRange vs) (λ t. rw (corners-turned vs t)) ids,
-      count-reversed (isSliver vs o) (λ t. rw (corners-turned vs t, turned-length vs o t)) ids,
+      count-reversed (isUsed vs o) (λ t. turned-alike vs o t .used) ids,
+      count-reversed (isOutOfRange vs) (λ t. turned-alike vs o t .out-of-range) ids,
+      count-reversed (isSliver vs o) (λ t. turned-alike vs o t .sliver) ids,
     )
 
 -- ---- the areas of the keys

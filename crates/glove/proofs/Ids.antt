@@ -10,14 +10,14 @@ use Rattle.ids.specs.Reversed.{reversed}
 use Rattle.ids.proofs.Reversed.{reversed-is}
 use Rattle.ids.proofs.ReversedAlike.{reversed-alike}
 use Rattle.chain.specs.Answers.{incidenceOf, netOf}
-use Rattle.glove.specs.Ids.{IdsUnseen}
+use Rattle.glove.specs.Ids.{Unseen, IdsUnseen}
 
 -- as many ids, so the same refusal and the same words; and the same answer
-same-given : {A : Type 0} (needed needed′ : ℕ) (refused : ℕ → A) (answer answer′ : A) (ids area : List ℕ) (r r′ : A)
-    (after after′ : List ℕ) → needed′ ≡ needed → answer′ ≡ answer → Gives needed refused answer ids area r after
-    → Gives needed′ refused answer′ (reversed ids) area r′ after′ → (r′ ≡ r) × (after′ ≡ after)
-same-given needed needed′ refused answer answer′ ids area r r′ after after′ n e g g′ =
-    (rw (g .answers, g′ .answers, reversed-is ids .long, n, e), rw (g .leaves, g′ .leaves, reversed-is ids .long, n))
+unseen : {A : Type 0} (needed : List ℕ → ℕ) (refused : ℕ → A) (answer : List ℕ → A)
+    → ((ids : List ℕ) → needed (reversed ids) ≡ needed ids) → ((ids : List ℕ) → answer (reversed ids) ≡ answer ids)
+    → Unseen (λ ids area r after. Gives (needed ids) refused (answer ids) ids area r after)
+unseen needed refused answer n e ids area r r′ after after′ g g′ =
+    (rw (g .answers, g′ .answers, reversed-is ids .long, n ids, e ids), rw (g .leaves, g′ .leaves, reversed-is ids .long, n ids))
 
 -- what the answers are made of
 module _ (ids : List ℕ) where
@@ -27,37 +27,27 @@ module _ (ids : List ℕ) where
   net-same : netOf (reversed ids) ≡ netOf ids
   net-same = let a = reversed-alike ids in rw (a .max-abs, a .all-cancel)
 
-  four-each : 4 * length (reversed ids) ≡ 4 * length ids
-  four-each = rw (reversed-is ids .long)
+  -- and how many words are asked for
+  four-an-id : 4 * length (reversed ids) ≡ 4 * length ids
+  four-an-id = rw (reversed-is ids .long)
 
   four-a-triangle : 4 * triangleCount (reversed ids) ≡ 4 * triangleCount ids
   four-a-triangle = rw (reversed-is ids .long)
 
-  a-triangle : triangleCount (reversed ids) ≡ triangleCount ids
-  a-triangle = rw (reversed-is ids .long)
+  one-a-triangle : triangleCount (reversed ids) ≡ triangleCount ids
+  one-a-triangle = rw (reversed-is ids .long)
 
 pub ids-unseen : IdsUnseen
 ids-unseen =
     record {
-      edge-chain = λ ids area r r′ after after′. same-given _ _ _ _ _ ids area r r′ after after′ (four-each ids) (rw (incidence-same ids));
-      face-net = λ ids area r r′ after after′. same-given _ _ _ _ _ ids area r r′ after after′ (four-a-triangle ids) (rw (net-same ids));
-      is-closed-manifold =
-          λ ids area r r′ after after′.
-          same-given _ _ _ _ _ ids area r r′ after after′ (four-each ids) (rw (reversed-alike ids .closed-manifold));
-      winding-coherent =
-          λ ids area r r′ after after′.
-          same-given _ _ _ _ _ ids area r r′ after after′ (four-each ids) (rw (reversed-alike ids .winding-coherent));
-      piece-count =
-          λ ids area r r′ after after′. same-given _ _ _ _ _ ids area r r′ after after′ (a-triangle ids) (rw (reversed-alike ids .piece-count));
-      mf-edge-chain =
-          λ ids area r r′ after after′. same-given _ _ _ _ _ ids area r r′ after after′ (four-each ids) (rw (incidence-same ids));
-      mf-face-net = λ ids area r r′ after after′. same-given _ _ _ _ _ ids area r r′ after after′ (four-a-triangle ids) (rw (net-same ids));
-      mf-is-closed-manifold =
-          λ ids area r r′ after after′.
-          same-given _ _ _ _ _ ids area r r′ after after′ (four-each ids) (rw (reversed-alike ids .closed-manifold));
-      mf-winding-coherent =
-          λ ids area r r′ after after′.
-          same-given _ _ _ _ _ ids area r r′ after after′ (four-each ids) (rw (reversed-alike ids .winding-coherent));
-      mf-pieces =
-          λ ids area r r′ after after′. same-given _ _ _ _ _ ids area r r′ after after′ (a-triangle ids) (rw (reversed-alike ids .piece-count));
+      edge-chain = unseen _ _ _ four-an-id (λ ids. rw (incidence-same ids));
+      face-net = unseen _ _ _ four-a-triangle (λ ids. rw (net-same ids));
+      is-closed-manifold = unseen _ _ _ four-an-id (λ ids. rw (reversed-alike ids .closed-manifold));
+      winding-coherent = unseen _ _ _ four-an-id (λ ids. rw (reversed-alike ids .winding-coherent));
+      piece-count = unseen _ _ _ one-a-triangle (λ ids. rw (reversed-alike ids .piece-count));
+      mf-edge-chain = unseen _ _ _ four-an-id (λ ids. rw (incidence-same ids));
+      mf-face-net = unseen _ _ _ four-a-triangle (λ ids. rw (net-same ids));
+      mf-is-closed-manifold = unseen _ _ _ four-an-id (λ ids. rw (reversed-alike ids .closed-manifold));
+      mf-winding-coherent = unseen _ _ _ four-an-id (λ ids. rw (reversed-alike ids .winding-coherent));
+      mf-pieces = unseen _ _ _ one-a-triangle (λ ids. rw (reversed-alike ids .piece-count));
     }

@@ -1,6 +1,6 @@
 -- The glove for the C interface, from that for the record: the words are made of the record. Assumes nothing.
 use mathlib.Core.Path.{_≡_, refl}
-use mathlib.Core.Bool.{Bool, true, false}
+use mathlib.Core.Bool.{Bool, false}
 use mathlib.Core.List.{List}
 use Prim.Native.Nat.{ℕ, _+_}
 use native.Mathlib.Omega.{arith}
@@ -14,8 +14,9 @@ use Rattle.ids.proofs.Reversed.{reversed-is}
 use Rattle.record.specs.declared.MeshQto.{MeshQto}
 use Rattle.record.specs.declared.Profile.{Profile}
 use Rattle.record.specs.Record.{zeroRecord}
-use Rattle.record.specs.Flags.{marked, ifClip, ifInvalid, flagged}
+use Rattle.record.specs.Flags.{marked, flagged}
 use Rattle.record.specs.Numbers.{profileAt}
+use Rattle.record.proofs.Kept.{flags-leave}
 use Rattle.qto.specs.Full.{recordOf, recordBy, recordFrom, measures, measuresFrom, volumeOf}
 use Rattle.qto.specs.Numbers.{wordsOf, withFlags}
 use Rattle.road.proofs.Numbered.{AlikeNumbered, words-agree, numbered-agree}
@@ -29,11 +30,12 @@ use Rattle.glove.proofs.Glove.{check-same, no-rows, rows-after, zero-tu
 -- ---- a record's volume is of binary32, flagged or not
 
 flagged-volume : (clip : Bool) (profile : Profile) (q : MeshQto) → flagged clip profile q .«volume_m3» ≡ q .«volume_m3»
-unfolding ifClip ifInvalid marked
-flagged-volume true Profile.Valid q = refl
-flagged-volume true (Profile.Invalid d) q = refl
-flagged-volume false Profile.Valid q = refl
-flagged-volume false (Profile.Invalid d) q = refl
+unfolding marked
+flagged-volume = flags-leave (λ q. q .«volume_m3») (λ to p q. refl)
+
+flagged-count : (clip : Bool) (profile : Profile) (q : MeshQto) → flagged clip profile q .«surface_count» ≡ q .«surface_count»
+unfolding marked
+flagged-count = flags-leave (λ q. q .«surface_count») (λ to p q. refl)
 
 record-fits : (vs : List Float) (ids : List ℕ) (u : Float) → T (fits binary32 (recordOf vs ids u .«volume_m3»))
 unfolding recordOf recordBy recordFrom measures measuresFrom volumeOf
@@ -68,18 +70,9 @@ module _ (clip defect : ℕ) where
       → TurnedWords 0 (wordsOf (with q)) (wordsOf (with q′))
   words-for q q′ h h′ r = turned-by (with q) (with q′) (with-fits q h) (with-fits q′ h′) (flags-turn (eqb clip 1) (profileAt defect) q q′ r)
 
-  count-for : (q : MeshQto) → with q .«surface_count» ≡ q .«surface_count»
-  count-for q = flagged-count (eqb clip 1) (profileAt defect) q
-    where
-      flagged-count : (clip : Bool) (profile : Profile) (q : MeshQto) → flagged clip profile q .«surface_count» ≡ q .«surface_count»
-      flagged-count true Profile.Valid q = unfold ifClip ifInvalid marked in refl
-      flagged-count true (Profile.Invalid d) q = unfold ifClip ifInvalid marked in refl
-      flagged-count false Profile.Valid q = unfold ifClip ifInvalid marked in refl
-      flagged-count false (Profile.Invalid d) q = unfold ifClip ifInvalid marked in refl
-
   rows-for : (q : MeshQto) (s s′ : List Float) → TurnedRows (q .«surface_count») s s′ → TurnedNumberedArea 0 (wordsOf (with q)) s s′
   unfolding TurnedAreaBy wordsOf
-  rows-for q s s′ t = rw (count-for q) t
+  rows-for q s s′ t = rw (flagged-count (eqb clip 1) (profileAt defect) q) t
 
 refused-at : (n : ℕ) → eqb (0x8000_0000 + n) 0 ≡ false
 refused-at n = ne-eqb (0x8000_0000 + n) 0 (λ e. omega arith)

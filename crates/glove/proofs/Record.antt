@@ -14,6 +14,7 @@ use Rattle.ieee.proofs.Values.Opposite.{div-opposite, magnitude-opposite, mul-o
 use Rattle.ids.specs.Triangles.{triangleCount}
 use Rattle.ids.specs.Reversed.{reversed}
 use Rattle.ids.proofs.Reversed.{reversed-is}
+use Rattle.sums.specs.declared.totals.Areas.{Areas}
 use Rattle.sums.specs.declared.totals.Totals.{Totals}
 use Rattle.sums.specs.Box.{box, origin, boxVolume}
 use Rattle.sums.specs.Totals.{thresholds}
@@ -64,30 +65,25 @@ module _ (vs : List Float) (ids : List ℕ) where
 
 -- ---- the measures
 
--- turned over, and with the volume as a number
-abbrev overturned : Measures → Measures
-overturned m =
+-- with another volume and other areas
+abbrev sidedMeasures : Float → Areas → Measures → Measures
+sidedMeasures volume areas m =
     record {
-      volume = opposite (m .volume);
+      volume = volume;
       surface = m .surface;
-      areas = turnedAreas (m .areas);
+      areas = areas;
       largest = m .largest;
       smallest = m .smallest;
       count = m .count;
       triangles = m .triangles;
     }
 
+-- turned over, and with the volume as a number
+abbrev overturned : Measures → Measures
+overturned m = sidedMeasures (opposite (m .volume)) (turnedAreas (m .areas)) m
+
 abbrev numbered : Measures → Measures
-numbered m =
-    record {
-      volume = asNumber (m .volume);
-      surface = m .surface;
-      areas = m .areas;
-      largest = m .largest;
-      smallest = m .smallest;
-      count = m .count;
-      triangles = m .triangles;
-    }
+numbered m = sidedMeasures (asNumber (m .volume)) (m .areas) m
 
 -- ---- the record
 

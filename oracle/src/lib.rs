@@ -2,7 +2,8 @@
 //!
 //! `mesh::qto` is the original's own text, unchanged, compiled from where the build script found it. Everything else
 //! here is ours: what document 01 adds to it (refusals, flags in one call, pieces, the exact form of the one
-//! exception) and document 02 (the counts of triangles), the program's file format, the listing, and the meshes to try.
+//! exception) and document 02 (the counts of triangles), the program's file format, the listing, the meshes to try, and two
+//! laws about pairs of meshes as properties (`pairs`): demand 3 (`moves`) and 02's A9 (`glove`).
 
 #[allow(dead_code, clippy::all)]
 pub mod mesh;
@@ -13,11 +14,13 @@ pub mod exception;
 pub mod file;
 pub mod floats;
 pub mod frames;
+pub mod glove;
 pub mod ids;
 pub mod kinds;
 pub mod linked;
 pub mod listing;
 pub mod moves;
+pub mod pairs;
 pub mod pieces;
 pub mod program;
 pub mod random;

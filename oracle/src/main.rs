@@ -67,9 +67,18 @@ MOWFROST_PORT names a folder with a libcapi.a and a libprobe.a of its kind when 
                                and the meshes that have some of each are counted; last line 'A agree, D differ'
   oracle moves N               demand 3 on N pairs of every kind in turn, a whole-number mesh and the same moved by whole
                                numbers, over areas as for 'compute' that hold the same before both calls: the two answers,
-                               all words of the record, every place of the areas, and that whatever has to stay did; of two
-                               open shells best volume, method, trust and bound may differ, and how often they do is counted;
-                               so are pairs with an id out of range and with slivers; last line 'A agree, D differ'
+                               all words of the record, every place of the areas, that whatever has to stay did, and that
+                               whatever has to be cleared is 0; of two open shells best volume, method, trust and bound
+                               may differ, and how often they do is counted; so are pairs with an id out of range and with
+                               slivers; last line 'A agree, D differ'
+  oracle glove N               02's A9 on large meshes, on lengths about the limit and on N by chance of every kind in turn:
+                               a mesh and the same with the last two ids of every triangle swapped, over areas as for
+                               'moves'. The volume is negated, top and bottom have changed places, the rows are turned over
+                               and in order, and all else is the same; of two open shells the four words may differ as for
+                               'moves', and how often they do is counted; so are pairs with no volume, with a top and a
+                               bottom above 0 that differ, and with rows of equal area in another order. Then each id
+                               routine on the same ids, both ways round, over areas as for 'ids'; last line 'A agree, D
+                               differ'
   oracle speed compute         milliseconds a record, at an eighth of the most triangles up to all; nanoseconds for small;
                                beside the original alone and with the plain counts of triangles behind it
   oracle speed                 compute and each id routine beside the original on the meshes whose ratios are bounded, with
@@ -103,15 +112,18 @@ fn main() -> ExitCode {
             _ => return usage("SEED and COUNT are whole numbers from 0 up"),
         },
         ["floats", "all"] => port::run(Run::FloatsAll),
-        [command @ ("floats" | "ids" | "weld" | "raster" | "compute" | "moves"), n] => match (*command, n.parse()) {
-            ("floats", Ok(n)) => port::run(Run::Floats(n)),
-            ("ids", Ok(n)) => port::run(Run::Ids(n)),
-            ("weld", Ok(n)) => port::run(Run::Weld(n)),
-            ("raster", Ok(n)) => port::run(Run::Raster(n)),
-            ("compute", Ok(n)) => port::run(Run::Compute(n)),
-            (_, Ok(n)) => port::run(Run::Moves(n)),
-            _ => return usage("N is a whole number from 0 up, or 'all' of floats"),
-        },
+        [command @ ("floats" | "ids" | "weld" | "raster" | "compute" | "moves" | "glove"), n] => {
+            match (*command, n.parse()) {
+                ("floats", Ok(n)) => port::run(Run::Floats(n)),
+                ("ids", Ok(n)) => port::run(Run::Ids(n)),
+                ("weld", Ok(n)) => port::run(Run::Weld(n)),
+                ("raster", Ok(n)) => port::run(Run::Raster(n)),
+                ("compute", Ok(n)) => port::run(Run::Compute(n)),
+                ("moves", Ok(n)) => port::run(Run::Moves(n)),
+                (_, Ok(n)) => port::run(Run::Glove(n)),
+                _ => return usage("N is a whole number from 0 up, or 'all' of floats"),
+            }
+        }
         ["repeat", routine, on, triangles, times] => match (triangles.parse(), times.parse()) {
             (Ok(triangles), Ok(times)) => port::run(Run::Repeat((*routine).into(), (*on).into(), triangles, times)),
             _ => return usage("TRIANGLES and TIMES are whole numbers from 0 up"),

@@ -12,6 +12,7 @@ pub enum Run {
     Raster(u64),
     Compute(u64),
     Moves(u64),
+    Glove(u64),
     Repeat(String, String, usize, usize),
     Speed,
     SpeedFloats,
@@ -34,6 +35,7 @@ pub fn run(run: Run) -> io::Result<ExitCode> {
         Run::Raster(n) => linked::raster(n),
         Run::Compute(n) => linked::compute(n),
         Run::Moves(n) => linked::moves(n),
+        Run::Glove(n) => linked::glove(n),
         Run::Repeat(routine, on, triangles, times) => linked::repeat(&routine, &on, triangles, times),
         Run::Speed => linked::speed(),
         Run::SpeedFloats => linked::speed_floats(),
@@ -48,7 +50,7 @@ mod linked {
     use mowfrost_oracle::compute::speed::Row;
     use mowfrost_oracle::floats::compare::{on_all_32, on_chance, on_edges, Count};
     use mowfrost_oracle::floats::helpers::{Width, HELPERS};
-    use mowfrost_oracle::{compute, floats, ids, moves, raster, speed, weld};
+    use mowfrost_oracle::{compute, floats, glove, ids, moves, pairs, raster, speed, weld};
     use std::io::{self, StdoutLock, Write};
     use std::process::ExitCode;
 
@@ -79,16 +81,17 @@ mod linked {
     }
 
     pub fn ids(n: u64) -> io::Result<ExitCode> {
-        sum(ids::compare::all(n).flat_map(|(name, parts)| {
-            parts.into_iter().map(move |(on, ids::compare::Count { agree, differ, refused, answered, shown })| {
-                let [none, one, two, three, more] = answered;
-                let line = format!(
-                    "{name:<18} {on:<9} {agree:>9} agree, {differ} differ ({refused} refused, {none} answer 0, {one} 1, \
-                     {two} 2, {three} 3, {more} more)"
-                );
-                (line, agree, differ, shown)
-            })
-        }))
+        sum(ids::compare::all(n)
+            .flat_map(|(name, parts)| parts.into_iter().map(move |(on, count)| listed(name, on, count))))
+    }
+
+    fn listed(name: &str, on: &str, count: ids::compare::Count) -> Line {
+        let ids::compare::Count { agree, differ, refused, answered: [none, one, two, three, more], shown } = count;
+        let line = format!(
+            "{name:<18} {on:<9} {agree:>9} agree, {differ} differ ({refused} refused, {none} answer 0, {one} 1, \
+             {two} 2, {three} 3, {more} more)"
+        );
+        (line, agree, differ, shown)
     }
 
     pub fn weld(n: u64) -> io::Result<ExitCode> {
@@ -131,16 +134,36 @@ mod linked {
 
     /// As for `compute`.
     pub fn moves(n: u64) -> io::Result<ExitCode> {
-        use moves::compare::{on_chance, Count};
-        let line = |on: &str, count: &Count| reached(on, count.agree, count.differ, &count.reached());
+        use pairs::Count;
+        let line = |on: &str, count: &Count| reached(on, count.agree, count.differ, &count.reached(&[]));
         let (mut out, mut all) = (io::stdout().lock(), Count::default());
-        for (on, count) in on_chance(compute::compare::PORT, n) {
+        for (on, count) in moves::compare::on_chance(compute::compare::PORT, n) {
             show(&mut out, &line(on, &count), &count.shown)?;
             all.join(&count);
         }
         let met = format!("counts, the same in both places: pairs with a full record {}", all.met.told());
         show(&mut out, &line("all kinds", &all), &[all.stayed.told(), met])?;
         end(&mut out, all.agree, all.differ)
+    }
+
+    /// As for `compute`, then a line for each id routine.
+    pub fn glove(n: u64) -> io::Result<ExitCode> {
+        use glove::compare::{all, Count};
+        let line = |on: &str, count: &Count| reached(on, count.pairs.agree, count.pairs.differ, &count.reached());
+        let (mut out, mut sums) = (io::stdout().lock(), Count::default());
+        for (on, count) in all(compute::compare::PORT, n) {
+            show(&mut out, &line(on, &count), &count.pairs.shown)?;
+            sums.join(&count);
+        }
+        let pairs::Count { mut agree, mut differ, stayed, met, .. } = &sums.pairs;
+        let met = format!("counts, the same both ways round: pairs with a full record {}", met.told());
+        show(&mut out, &line("all kinds", &sums), &[stayed.told(), met])?;
+        for (name, count) in glove::ids::on_all(&ids::routines::ROUTINES, n) {
+            let (line, a, d, shown) = listed(name, "all kinds", count);
+            show(&mut out, &line, &shown)?;
+            (agree, differ) = (agree + a, differ + d);
+        }
+        end(&mut out, agree, differ)
     }
 
     fn reached(on: &str, agree: u64, differ: u64, reached: &str) -> String {

@@ -15,6 +15,11 @@ pub const fn two_to(exponent: i32) -> f32 {
     f32::from_bits(((127 + exponent) as u32) << 23)
 }
 
+/// Every complete triple the other way round, by its last two ids; ids left over stay.
+pub fn reverse(ids: &mut [u32]) {
+    ids.chunks_exact_mut(3).for_each(|triangle| triangle.swap(1, 2));
+}
+
 /// Document 01's cube: vertex id = x + 2y + 4z for corners of 0 and 1.
 const CUBE: [[u32; 3]; 12] = [
     [0, 2, 3],
@@ -215,7 +220,7 @@ impl Shape {
 
     /// Every triangle, or one, the other way round.
     pub fn flipped(mut self) -> Shape {
-        (0..self.triangles()).for_each(|t| self.flip(t));
+        reverse(&mut self.ids);
         self
     }
 

@@ -2,30 +2,21 @@
 //! differs in nothing but the four exceptions is not. The faults are planted in the port where its library is linked, else in
 //! the original. What asks the port alone is ignored, and says so, where its static libraries were not built.
 
-use mowfrost_oracle::compute::areas::{Areas, WORDS};
-use mowfrost_oracle::compute::compare::{is_zero_record, Call, Port, PORT, REFUSED};
-use mowfrost_oracle::file::{read, Flags, MeshFile};
-use mowfrost_oracle::linked::bits;
-use mowfrost_oracle::moves::compare::{on_chance, on_kind, Count};
-use mowfrost_oracle::moves::meshes::{kinds, pair, Pair, LEAST_UNIT, LIMIT};
-use mowfrost_oracle::record::{Lent, MOST};
-use mowfrost_oracle::stored::by_hand;
+use mowfrost_oracle::compute::compare::{Port, PORT, REFUSED};
+use mowfrost_oracle::file::MeshFile;
+use mowfrost_oracle::moves::compare::{on_chance, on_kind};
+use mowfrost_oracle::moves::meshes::{kinds, pair, LEAST_UNIT, LIMIT};
+use mowfrost_oracle::pairs::{Count, Pair};
+use mowfrost_oracle::record::MOST;
 
+mod pairs;
 mod ways;
 
+use pairs::{
+    assert_found_wherever_it_shows, differing, left, quieted, stored, with, Fault, BASE, BEST, BOUND, EXCEPTIONS,
+    METHOD, ORIGINAL, RELIABLE,
+};
 use ways::{Way, RIGHT};
-
-const ORIGINAL: Port<'static> = &|call, areas, record| RIGHT.call(call, areas, record);
-
-/// What faults are planted in.
-const BASE: Port<'static> = if cfg!(port) { PORT } else { ORIGINAL };
-
-/// The words of the record that may differ between two open shells, in the order in which they are counted.
-const EXCEPTIONS: [usize; 4] = [BEST, METHOD, RELIABLE, BOUND];
-const RELIABLE: usize = 1;
-const METHOD: usize = 2;
-const BEST: usize = 13;
-const BOUND: usize = 15;
 
 fn sum(counts: impl Iterator<Item = (&'static str, Count)>) -> Count {
     counts.fold(Count::default(), |mut sum, (_, count)| {
@@ -50,9 +41,9 @@ fn nor_in_the_original_and_everything_is_reached() {
     let count = sum(on_chance(ORIGINAL, 8_000));
     assert_eq!((count.agree, count.differ), (8_000, 0), "{:?}", count.shown);
     let [one, two, three, four, five] = count.tally.refused;
-    assert!(one > 0 && two > 200 && three > 800 && four == 0 && five > 200, "{}", count.reached());
-    assert!(count.tally.zero > 200 && count.tally.verdicts.iter().all(|&times| times > 300), "{}", count.reached());
-    assert!(count.free.iter().all(|&times| times > 3), "{}", count.reached());
+    assert!(one > 0 && two > 200 && three > 800 && four == 0 && five > 200, "{}", count.reached(&[]));
+    assert!(count.tally.zero > 200 && count.tally.verdicts.iter().all(|&times| times > 300), "{}", count.reached(&[]));
+    assert!(count.free.iter().all(|&times| times > 3), "{}", count.reached(&[]));
     assert_eq!(count.met.meshes, count.tally.verdicts.iter().sum());
     let counted = [count.met.all_used, count.met.range, count.met.sliver, count.met.both, count.met.none_used];
     assert!(counted.iter().all(|&times| times > 50), "{}", count.met.told());
@@ -63,53 +54,12 @@ fn nor_in_the_original_and_everything_is_reached() {
 
 // ---- planted faults
 
-/// What a call has given, to be spoilt.
-struct Given<'a> {
-    answer: u32,
-    areas: Areas<'a>,
-    record: &'a mut [u32; WORDS],
-}
-
-impl Given<'_> {
-    fn came_to(&self, mesh: &MeshFile) -> &'static str {
-        match self.answer {
-            0 if is_zero_record(mesh) => "zero record",
-            0 => ["closed", "open", "degenerate"][self.record[0] as usize],
-            _ => {
-                ["refused 1", "refused 2", "refused 3", "refused 4", "refused 5"][(self.answer & !REFUSED) as usize - 1]
-            }
-        }
-    }
-
-    fn is_full(&self, mesh: &MeshFile) -> bool {
-        self.answer == 0 && !is_zero_record(mesh)
-    }
-}
-
-type Fault<'a> = &'a dyn Fn(&MeshFile, &mut Given);
-
-/// The port, and a fault behind it.
-fn with(fault: Fault<'_>) -> impl Fn(&Call, Areas, &mut [u32; WORDS]) -> u32 + '_ {
-    move |call, Areas { vertices, ids, work, raster, surfaces }, record| {
-        let (mesh, lent) = ((&mut *vertices, &mut *ids), (&mut *work, &mut *raster, &mut *surfaces));
-        let again = Areas { vertices: mesh.0, ids: mesh.1, work: lent.0, raster: lent.1, surfaces: lent.2 };
-        let answer = BASE(call, again, record);
-        let mut given = Given { answer, areas: Areas { vertices, ids, work, raster, surfaces }, record };
-        fault(call.mesh, &mut given);
-        given.answer
-    }
-}
-
 fn found(port: Port) -> bool {
     on_chance(port, 8_000).any(|(_, count)| count.differ > 0)
 }
 
 fn first_x(mesh: &MeshFile) -> f32 {
     mesh.vertices.first().copied().unwrap_or(0.0)
-}
-
-fn quieted(floats: &mut [u32]) {
-    floats.iter_mut().filter(|bits| f32::from_bits(**bits).is_nan()).for_each(|bits| *bits |= 0x0040_0000);
 }
 
 fn is_far(mesh: &MeshFile) -> bool {
@@ -247,45 +197,6 @@ fn parity(mesh: &MeshFile) -> u32 {
     (mesh.vertices.iter().take(3).map(|x| *x as i64).sum::<i64>() & 1) as u32
 }
 
-/// One place that a call can show something in.
-#[derive(Clone, Copy, Debug)]
-enum Shows {
-    Answer,
-    Record(usize),
-    Work { last: bool },
-    Raster { last: bool },
-    Surfaces { last: bool },
-}
-
-fn end<T>(area: &mut [T], last: bool) -> Option<&mut T> {
-    if last {
-        area.last_mut()
-    } else {
-        area.first_mut()
-    }
-}
-
-impl Shows {
-    fn all() -> impl Iterator<Item = Shows> {
-        let ends = [false, true].into_iter();
-        let areas = ends.flat_map(|last| [Shows::Work { last }, Shows::Raster { last }, Shows::Surfaces { last }]);
-        [Shows::Answer].into_iter().chain((0..WORDS).map(Shows::Record)).chain(areas)
-    }
-
-    /// A bit of the place: an answer becomes refusal 4, which no call of a pair comes to, and a quality another one.
-    fn show(self, bit: u32, given: &mut Given) {
-        let Given { answer, areas: Areas { work, raster, surfaces, .. }, record } = given;
-        match self {
-            Shows::Answer => *answer = if bit == 1 { REFUSED | 4 } else { *answer },
-            Shows::Record(0) => record[0] = (record[0] + bit) % 3,
-            Shows::Record(word) => record[word] ^= bit,
-            Shows::Work { last } => end(work, last).into_iter().for_each(|word| *word ^= bit),
-            Shows::Raster { last } => end(raster, last).into_iter().for_each(|byte| *byte ^= bit as u8),
-            Shows::Surfaces { last } => end(surfaces, last).into_iter().for_each(|word| *word ^= bit),
-        }
-    }
-}
-
 /// In the answer, in a word of the record or at an end of an area, whatever a call comes to: the place is found, but for the
 /// four words of an open shell.
 #[test]
@@ -293,15 +204,7 @@ fn the_place_is_found_wherever_it_shows() {
     for (of, kind) in CLASSES {
         let kind = kinds().iter().position(|name| *name == kind).expect("a kind of that name");
         let n = if of == "refused 1" { 40_000 } else { 4_000 };
-        for shows in Shows::all() {
-            let fault: Fault = &|mesh, given| {
-                if given.came_to(mesh) == of {
-                    shows.show(parity(mesh), given);
-                }
-            };
-            let free = of == "open" && matches!(shows, Shows::Record(word) if EXCEPTIONS.contains(&word));
-            assert_eq!(on_kind(&with(fault), kind, n).differ == 0, free, "{shows:?} of {of}");
-        }
+        assert_found_wherever_it_shows(of, parity, &|port| on_kind(port, kind, n).differ);
     }
 }
 
@@ -318,7 +221,7 @@ fn the_four_exceptions_of_open_shells_agree() {
         assert_eq!(count.differ, 0, "{:?}", count.shown);
         for (word, times) in EXCEPTIONS.iter().zip(count.free) {
             let many = times > count.tally.verdicts[1] * 3 / 8;
-            assert_eq!(many, differ.contains(word), "{word} of {differ:?}: {}", count.reached());
+            assert_eq!(many, differ.contains(word), "{word} of {differ:?}: {}", count.reached(&[]));
         }
     }
 }
@@ -397,19 +300,6 @@ fn the_pairs_have_what_they_are_for() {
 
 // ---- the stored pairs
 
-/// The record and the areas that a port leaves, over areas that held nothing.
-fn left(port: Port, mesh: &MeshFile) -> ([u32; WORDS], [Vec<u32>; 2], Vec<u8>) {
-    let exact = Lent::exactly(mesh.vertices.len(), mesh.ids.len());
-    let (mut work, mut raster, mut surfaces) = (vec![0; exact.work], vec![0; exact.raster], vec![0; exact.surfaces]);
-    let (mut record, Flags { clip, defect }) = ([0; WORDS], mesh.flags);
-    let (mut vertices, mut ids) = (bits(&mesh.vertices), mesh.ids.clone());
-    let (vertices, ids) = (&mut vertices[..], &mut ids[..]);
-    let areas = Areas { vertices, ids, work: &mut work, raster: &mut raster, surfaces: &mut surfaces };
-    let answer = port(&Call { mesh, clip: clip as u32, defect: defect as u32 }, areas, &mut record);
-    assert_eq!(answer, 0);
-    (record, [work, surfaces], raster)
-}
-
 #[test]
 fn each_exception_is_needed_of_the_original() {
     exceptions_of_the_stored_pairs(ORIGINAL);
@@ -426,11 +316,6 @@ fn each_exception_is_needed_of_the_port() {
 
 /// In each pair of `stored::places` so many of the four differ and nothing else.
 fn exceptions_of_the_stored_pairs(port: Port) {
-    let stored = by_hand();
-    let mesh = |name: String| {
-        let stored = stored.iter().find(|stored| stored.name == name).expect("there is one of that name");
-        read(&stored.bytes).expect("it can be read")
-    };
     let (half, most) = (257.0 / 512.0, 0.75);
     for (name, differ, best) in [
         ("bound", &[BOUND][..], [0.5, 0.5]),
@@ -438,11 +323,10 @@ fn exceptions_of_the_stored_pairs(port: Port) {
         ("trust", &[RELIABLE, METHOD, BEST, BOUND], [half, 2.0 / 3.0]),
         ("clip", &[METHOD, BEST, BOUND], [half, 2.0 / 3.0]),
     ] {
-        let [here, there] = ["here", "there"].map(|place| mesh(format!("place_{name}_{place}")));
+        let [here, there] = ["here", "there"].map(|place| stored(&format!("place_{name}_{place}")));
         assert_eq!(moved(&here, &there), Some([1 << 23, 1 << 23, 0]));
         let (one, other) = (left(port, &here), left(port, &there));
-        let words: Vec<usize> = (0..WORDS).filter(|&word| one.0[word] != other.0[word]).collect();
-        assert_eq!(words, differ, "{name}");
+        assert_eq!(differing(&one.0, &other.0), differ, "{name}");
         assert!(one.1 == other.1 && one.2 == other.2, "{name}");
         let number = |word: usize| [one.0[word], other.0[word]].map(f32::from_bits);
         assert_eq!((number(BOUND), number(BEST)), ([half, most], best), "{name}");

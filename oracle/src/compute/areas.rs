@@ -30,7 +30,7 @@ pub struct Fronts<'a> {
     pub surfaces: &'a [u32],
 }
 
-/// How long the front of each area is that a call may have changed.
+/// How long the front of each area is that a call may have changed; of work and raster it is then 0.
 #[derive(Clone, Copy, Default)]
 pub struct Written {
     pub record: usize,
@@ -97,35 +97,36 @@ impl<T: Copy + PartialEq> Area<T> {
     }
 
     /// The first place, counted from where the area begins, that does not hold what it should: with what it holds and
-    /// what it should. Then all is noise again; only what was written needs it.
-    fn settle(&mut self, length: usize, front: &[T]) -> Option<(i64, T, T)> {
+    /// what it should. That is the front in front, and elsewhere what was there before the call.
+    fn wrong(&self, length: usize, front: &[T]) -> Option<(i64, T, T)> {
         let (start, from, end) = (self.from - RIM, self.from, self.from + length + RIM);
         let behind = from + front.len();
-        let (now, noise) = (&mut self.now, &self.noise);
+        let (now, noise) = (&self.now, &self.noise);
         if now[from..behind] == *front
             && now[start..from] == noise[start..from]
             && now[behind..end] == noise[behind..end]
         {
-            now[from..behind].copy_from_slice(&noise[from..behind]);
             return None;
         }
         let right = |i: usize| if (from..behind).contains(&i) { front[i - from] } else { noise[i] };
         let wrong = (start..end).find(|&i| now[i] != right(i));
-        let wrong = wrong.map(|i| (i as i64 - from as i64, now[i], right(i)));
-        now[start..end].copy_from_slice(&noise[start..end]);
+        wrong.map(|i| (i as i64 - from as i64, now[i], right(i)))
+    }
+
+    /// The first place that is wrong. Then all is noise again; only what was written needs it.
+    fn settle(&mut self, length: usize, front: &[T]) -> Option<(i64, T, T)> {
+        let wrong = self.wrong(length, front);
+        let written = match wrong {
+            None => self.from..self.from + front.len(),
+            Some(_) => self.from - RIM..self.from + length + RIM,
+        };
+        self.now[written.clone()].copy_from_slice(&self.noise[written]);
         wrong
     }
 
-    /// The first place that is not as it was before the call, outside the front.
+    /// The first place that is not as it was before the call, outside a front of any contents.
     fn changed(&self, length: usize, front: usize) -> Option<(i64, T, T)> {
-        let (start, from, end) = (self.from - RIM, self.from, self.from + length + RIM);
-        let behind = from + front.min(length);
-        let (now, noise) = (&self.now, &self.noise);
-        if now[start..from] == noise[start..from] && now[behind..end] == noise[behind..end] {
-            return None;
-        }
-        let wrong = (start..from).chain(behind..end).find(|&i| now[i] != noise[i]);
-        wrong.map(|i| (i as i64 - from as i64, now[i], noise[i]))
+        self.wrong(length, &self.now[self.from..self.from + front.min(length)])
     }
 
     /// All that it holds, rims included. Then all is noise again.
@@ -212,15 +213,18 @@ impl Lending {
         Nans::among(&self.bits)
     }
 
-    /// All that a call left, and what it changed though it was to stay. The next call finds what this one found.
+    /// All that a call left, and what is wrong with it: changed though it was to stay, or not cleared. The next call
+    /// finds what this one found.
     pub fn take(&mut self, mesh: &MeshFile, lent: Lent, written: Written) -> Left {
+        let words = zeros(&ZERO_WORDS, written.work, lent.work);
+        let bytes = zeros(&ZERO_BYTES, written.raster, lent.raster);
         let record = self.record.changed(WORDS, written.record).map(|wrong| told("record", wrong));
         let surfaces = self.surfaces.changed(lent.surfaces, written.surfaces).map(|wrong| told("surface", wrong));
-        let work = self.work.changed(lent.work, written.work).map(|wrong| told("work", wrong));
-        let raster = self.raster.changed(lent.raster, written.raster).map(|wrong| told("raster", wrong));
-        let changed = self.settle_mesh(mesh).chain([record, surfaces, work, raster].into_iter().flatten()).collect();
+        let work = self.work.wrong(lent.work, words).map(|wrong| told("work", wrong));
+        let raster = self.raster.wrong(lent.raster, bytes).map(|wrong| told("raster", wrong));
+        let wrong = self.settle_mesh(mesh).chain([record, surfaces, work, raster].into_iter().flatten()).collect();
         Left {
-            changed,
+            wrong,
             work: self.work.take(lent.work),
             raster: self.raster.take(lent.raster),
             surfaces: self.surfaces.take(lent.surfaces),
@@ -230,9 +234,10 @@ impl Lending {
 }
 
 /// What a call left in each area and in its rims.
+#[derive(Clone)]
 pub struct Left {
-    /// The first place of each area that is not as it was and should be.
-    pub changed: Vec<String>,
+    /// The first place of each area that should be as it was, or cleared, and is not.
+    pub wrong: Vec<String>,
     work: Vec<u32>,
     raster: Vec<u8>,
     surfaces: Vec<u32>,
@@ -242,6 +247,20 @@ pub struct Left {
 impl Left {
     pub fn record(&self) -> [u32; WORDS] {
         self.record[RIM..RIM + WORDS].try_into().expect("so many words")
+    }
+
+    /// The rows that the record counts, or as many of them as were lent; area, nx, ny and nz each.
+    pub fn rows(&self) -> &[[u32; 4]] {
+        let (lent, _) = self.surfaces[RIM..self.surfaces.len() - RIM].as_chunks();
+        &lent[..lent.len().min(self.record()[ROWS] as usize)]
+    }
+
+    /// The same with another record, and other rows in place of the first of these.
+    pub fn with(&self, record: [u32; WORDS], rows: &[[u32; 4]]) -> Left {
+        let mut other = self.clone();
+        other.record[RIM..RIM + WORDS].copy_from_slice(&record);
+        other.surfaces[RIM..RIM + 4 * rows.len()].copy_from_slice(rows.as_flattened());
+        other
     }
 
     /// The first place of each area where two calls that were lent alike left something else. The free words of the record
@@ -257,6 +276,11 @@ impl Left {
         ];
         differences.into_iter().flatten().collect()
     }
+}
+
+/// So many zeros, or fewer where a wrong port answers although an area is too short or there are too many ids.
+fn zeros<T>(all: &[T], written: usize, lent: usize) -> &[T] {
+    &all[..written.min(lent).min(all.len())]
 }
 
 fn first_difference<T: PartialEq + std::fmt::LowerHex>(area: &str, one: &[T], other: &[T]) -> Option<String> {
@@ -287,12 +311,12 @@ mod tests {
             lending.take(&mesh, lent, Written::default())
         };
         let right = left(|_| {});
-        assert!(right.changed.is_empty() && right.differences(&left(|_| {}), &[]).is_empty());
+        assert!(right.wrong.is_empty() && right.differences(&left(|_| {}), &[]).is_empty());
         let mut found = |place: &str, spoil: fn(&mut Lending)| {
             let spoilt = left(spoil);
             let found = right.differences(&spoilt, &[]);
             assert!(found.len() == 1 && found[0].starts_with(&format!("{place} is ")), "{place}: {found:?}");
-            assert!(spoilt.changed.len() == 1 && spoilt.changed[0].starts_with(&format!("{place} is ")), "{place}");
+            assert!(spoilt.wrong.len() == 1 && spoilt.wrong[0].starts_with(&format!("{place} is ")), "{place}");
         };
         found("work -1", |all| all.work.now[RIM - 1] = 0);
         found("work 5", |all| all.work.now[RIM + 5] = 0);
@@ -303,7 +327,7 @@ mod tests {
         found("record -1", |all| all.record.now[RIM - 1] = 0);
         found("record 20", |all| all.record.now[RIM + WORDS] = 0);
         let mut found = |place: &str, spoil: fn(&mut Lending)| {
-            let found = left(spoil).changed;
+            let found = left(spoil).wrong;
             assert!(found.len() == 1 && found[0].starts_with(&format!("{place} is ")), "{place}: {found:?}");
         };
         found("vertex float -1", |all| all.vertices.now[RIM - 1] = 0);
@@ -312,7 +336,7 @@ mod tests {
         found("id 1", |all| all.ids.now[RIM + 1] = 0);
         found("id 2", |all| all.ids.now[RIM + 2] = 0);
         let again = left(|_| {});
-        assert!(again.changed.is_empty() && right.differences(&again, &[]).is_empty(), "all is noise again");
+        assert!(again.wrong.is_empty() && right.differences(&again, &[]).is_empty(), "all is noise again");
     }
 
     /// Behind the front all is as it was; in front of it anything may stand.
@@ -322,8 +346,23 @@ mod tests {
         let mut lending = Lending::new(1);
         let mut changed = |surfaces: usize| {
             lending.lend(&mesh, lent).0.surfaces[1] = 0;
-            lending.take(&mesh, lent, Written { surfaces, ..Written::default() }).changed.len()
+            lending.take(&mesh, lent, Written { surfaces, ..Written::default() }).wrong.len()
         };
         assert_eq!([0, 1, 2, 3].map(&mut changed), [1, 1, 0, 0]);
+    }
+
+    /// In front of work and raster stands 0.
+    #[test]
+    fn what_is_not_cleared_is_wrong() {
+        let (lent, mesh) = (Lent { work: 5, raster: 7, surfaces: 3 }, plain(1.0, &[], &[]));
+        let mut lending = Lending::new(1);
+        let mut wrong = |cleared: usize| {
+            let areas = lending.lend(&mesh, lent).0;
+            areas.work[..cleared].fill(0);
+            areas.raster[..cleared].fill(0);
+            lending.take(&mesh, lent, Written { work: 4, raster: 4, ..Written::default() }).wrong
+        };
+        assert_eq!([3, 4, 5].map(|cleared| wrong(cleared).len()), [2, 0, 2]);
+        assert!(wrong(3)[0].starts_with("work 3 is ") && wrong(3)[1].starts_with("raster 3 is "));
     }
 }

@@ -8,7 +8,7 @@ use crate::kinds::KINDS;
 use crate::mesh::qto::probe;
 use crate::random::Random;
 use crate::record::{plain, FARTHEST, GREATEST_UNIT, LEAST_UNIT, MOST};
-use crate::solids::Shape;
+use crate::solids::{reverse, Shape};
 
 type Own = (&'static str, fn(&mut Random) -> MeshFile);
 
@@ -290,7 +290,7 @@ fn flattened(random: &mut Random) -> MeshFile {
     mesh.vertices.iter_mut().skip(axis).step_by(3).for_each(|x| *x *= by);
     mesh.unit = random.pick(&[LEAST_UNIT, LEAST_UNIT, 0.001, 1.0]);
     if random.once_in(2) {
-        mesh.ids.chunks_exact_mut(3).for_each(|t| t.swap(1, 2));
+        reverse(&mut mesh.ids);
     }
     mesh
 }

@@ -26,10 +26,14 @@ fn noise(place: usize, salt: u32) -> u32 {
 }
 
 impl Count {
-    /// One list, over areas that are exact, one word short and longer.
+    /// One list, held to what the routine should answer.
     pub fn add(&mut self, routine: &Routine, ids: &[u32], random: &mut Random, area: &mut Vec<u32>) {
+        self.hold(routine, ids, (routine.rust)(ids), random, area);
+    }
+
+    /// One list, held to an answer, over areas that are exact, one word short and longer.
+    pub fn hold(&mut self, routine: &Routine, ids: &[u32], answer: u32, random: &mut Random, area: &mut Vec<u32>) {
         let needed = (routine.needed)(ids.len());
-        let answer = (routine.rust)(ids);
         let beyond = random.within(1, BEYOND as i64) as usize;
         for lent in [Some(needed), needed.checked_sub(1), Some(needed + beyond)].into_iter().flatten() {
             let salt = random.bits() as u32;

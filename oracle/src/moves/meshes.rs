@@ -2,12 +2,11 @@
 //! areas, and the vertices of the second mesh those of the first one moved by a whole number an axis. Floats left over behind
 //! the last vertex are as many in both, and often others.
 
-use crate::compute::compare::{choices, UNKNOWN_FLAGS};
 use crate::compute::meshes::{self, affordable};
 use crate::compute::shapes::SHAPES;
-use crate::file::MeshFile;
+use crate::pairs::Pair;
 use crate::random::Random;
-use crate::record::{plain, Lent, GREATEST_UNIT, MOST};
+use crate::record::{plain, GREATEST_UNIT, MOST};
 use crate::solids::Shape;
 
 /// Coordinates have this magnitude at most: 2^24.
@@ -15,15 +14,6 @@ pub const LIMIT: i64 = 1 << 24;
 
 /// The least unit that demand 3 speaks of: 0.001 as an f32.
 pub const LEAST_UNIT: f32 = f32::from_bits(0x3a83_126f);
-
-pub struct Pair {
-    pub here: MeshFile,
-    pub there: MeshFile,
-    /// In the interface's numbers, where any number may be passed.
-    pub clip: u32,
-    pub defect: u32,
-    pub lent: Lent,
-}
 
 /// Kinds of `compute`, their coordinates made whole.
 const SHARED: [&str; 29] = [
@@ -108,15 +98,11 @@ pub fn pair(kind: usize, turn: u64) -> Pair {
         let moved = vertices.iter().enumerate().map(|(i, x)| (x + place[i % 3]).clamp(-LIMIT, LIMIT) as f32);
         plain(unit, &moved.collect::<Vec<_>>(), &ids)
     };
-    let exact = Lent::exactly(vertices.len(), ids.len());
-    let choices = choices(exact, true, random);
-    let lent = if random.once_in(4) { random.pick(&choices) } else { exact };
-    let (clip, defect) = flags(random);
-    let (here, mut there) = (at(here), at(there));
+    let mut pair = Pair::new(at(here), at(there), random);
     if complete < vertices.len() && random.once_in(2) {
-        there.vertices[complete..].fill_with(|| leftover(random) as f32);
+        pair.there.vertices[complete..].fill_with(|| leftover(random) as f32);
     }
-    Pair { here, there, clip, defect, lent }
+    pair
 }
 
 // ---- whole numbers
@@ -177,7 +163,7 @@ fn other_place(random: &mut Random, here: i64, room: [i64; 2]) -> i64 {
     }
 }
 
-// ---- units and flags
+// ---- units
 
 /// From the least that demand 3 speaks of up to the greatest; now and then beyond that, which is refusal 2.
 fn unit(random: &mut Random) -> f32 {
@@ -188,14 +174,6 @@ fn unit(random: &mut Random) -> f32 {
         7..=10 => random.pick(&[0.01, 0.1, 3.280_84, GREATEST_UNIT.next_down(), GREATEST_UNIT, GREATEST_UNIT]),
         11 => random.pick(&[GREATEST_UNIT.next_up(), GREATEST_UNIT.next_up(), f32::MAX, f32::INFINITY]),
         _ => (2f64.powf(random.between(-10.0, 4.0)) as f32).clamp(LEAST_UNIT, GREATEST_UNIT),
-    }
-}
-
-fn flags(random: &mut Random) -> (u32, u32) {
-    match random.below(20) {
-        0 => random.pick(&UNKNOWN_FLAGS),
-        1..=10 => (0, 0),
-        _ => (random.below(2) as u32, random.below(5) as u32),
     }
 }
 

@@ -1,9 +1,10 @@
 //! The meshes that the crate `replay` holds, so that the gate has some of the Rust's answers without the Rust: those made
-//! by hand for document 01's examples, limits and orders and for what A1 counts, then of each kind the smallest and the one
-//! that reaches most.
+//! by hand for document 01's examples, limits and orders, for what A1 counts and for A9's pairs, then of each kind the smallest
+//! and the one that reaches most.
 
 pub mod examples;
 mod faults;
+mod gloves;
 mod left_out;
 mod limits;
 mod places;
@@ -56,6 +57,7 @@ pub fn by_hand() -> Vec<Stored> {
     faults::faults(&mut list);
     places::places(&mut list);
     left_out::left_out(&mut list);
+    gloves::gloves(&mut list);
     list.0
 }
 

@@ -1,0 +1,185 @@
+//! A law about two calls of `compute`, as a property: two meshes that are asked and lent alike, what each call answered
+//! and left, and whether the law holds. What a call has to leave or to clear is also held to what was there before and
+//! to 0, so that both cannot spoil it alike. `moves` and `glove` have the meshes and the laws.
+
+use crate::compute::areas::{Left, Lending, Written, ROWS, WORDS};
+use crate::compute::compare::{choices, is_zero_record, Call, Port, Tally, UNKNOWN_FLAGS};
+use crate::compute::nans::{Nans, Stayed};
+use crate::counts::{Counts, Met};
+use crate::file::MeshFile;
+use crate::random::Random;
+use crate::record::Lent;
+
+pub struct Pair {
+    pub here: MeshFile,
+    pub there: MeshFile,
+    /// In the interface's numbers, where any number may be passed.
+    pub clip: u32,
+    pub defect: u32,
+    pub lent: Lent,
+}
+
+impl Pair {
+    /// Over areas that are mostly exact, with flags of all kinds, seldom unknown.
+    pub fn new(here: MeshFile, there: MeshFile, random: &mut Random) -> Pair {
+        let exact = Lent::exactly(here.vertices.len(), here.ids.len());
+        let choices = choices(exact, true, random);
+        let lent = if random.once_in(4) { random.pick(&choices) } else { exact };
+        let (clip, defect) = flags(random);
+        Pair { here, there, clip, defect, lent }
+    }
+}
+
+fn flags(random: &mut Random) -> (u32, u32) {
+    match random.below(20) {
+        0 => random.pick(&UNKNOWN_FLAGS),
+        1..=10 => (0, 0),
+        _ => (random.below(2) as u32, random.below(5) as u32),
+    }
+}
+
+// ---- outcomes
+
+/// What a call answered, and what it left; the NaNs that it found where they had to stay, in the surface area and among
+/// the vertices.
+pub struct Outcome {
+    pub answer: u32,
+    pub left: Left,
+    zero_record: bool,
+    nans: [Nans; 2],
+}
+
+/// The places that a call may change, by what it answered.
+fn written(answer: u32, mesh: &MeshFile, record: &[u32; WORDS]) -> Written {
+    if answer != 0 {
+        return Written::default();
+    }
+    if is_zero_record(mesh) {
+        return Written { record: WORDS, ..Written::default() };
+    }
+    let Lent { work, raster, .. } = Lent::exactly(mesh.vertices.len(), mesh.ids.len());
+    Written { record: WORDS, work, raster, surfaces: 4 * record[ROWS] as usize }
+}
+
+/// The quality of an open shell, word 0.
+const OPEN: u32 = 1;
+
+impl Outcome {
+    fn of(port: Port, mesh: &MeshFile, pair: &Pair, lending: &mut Lending) -> Outcome {
+        let (areas, record) = lending.lend(mesh, pair.lent);
+        let answer = port(&Call { mesh, clip: pair.clip, defect: pair.defect }, areas, record);
+        let written = written(answer, mesh, record);
+        let nans = [lending.nans_behind(pair.lent, written.surfaces), lending.nans_passed()];
+        Outcome { answer, left: lending.take(mesh, pair.lent, written), zero_record: is_zero_record(mesh), nans }
+    }
+
+    pub fn is_full(&self) -> bool {
+        self.answer == 0 && !self.zero_record
+    }
+
+    fn is_open(&self) -> bool {
+        self.answer == 0 && self.left.record()[0] == OPEN
+    }
+}
+
+/// The words of the record that may differ where both shells are open: best volume, method, trust and bound.
+pub const FREE: [usize; 4] = [13, 2, 1, 15];
+
+/// Those that may differ in these two. On a refusal the words are the caller's own, and none of them may, whatever word
+/// 0 was.
+pub fn free(here: &Outcome, there: &Outcome) -> &'static [usize] {
+    if here.is_open() && there.is_open() {
+        &FREE
+    } else {
+        &[]
+    }
+}
+
+/// The first place of each area that is against a law; the number that came back is in no law, and always the same.
+pub type Law = fn(&Outcome, &Outcome) -> Vec<String>;
+
+// ---- counts
+
+#[derive(Default)]
+pub struct Count {
+    pub agree: u64,
+    pub differ: u64,
+    /// What the pairs that agree came to, and the NaNs that they left.
+    pub tally: Tally,
+    pub stayed: Stayed,
+    /// What A1's counts are in the full records of the pairs that agree, by what came back.
+    pub met: Met,
+    /// Of the open pairs that agree: in how many best volume, method, trust and bound differ.
+    pub free: [u64; 4],
+    /// The first that differ, for a look.
+    pub shown: Vec<String>,
+}
+
+const SHOWN: usize = 5;
+
+impl Count {
+    /// Both calls of a pair; what they left where the law holds.
+    pub fn add(&mut self, port: Port, pair: &Pair, law: Law, lending: &mut Lending) -> Option<[Outcome; 2]> {
+        let [here, there] = [&pair.here, &pair.there].map(|mesh| Outcome::of(port, mesh, pair, lending));
+        let mut wrong = law(&here, &there);
+        wrong.extend(here.left.wrong.iter().chain(&there.left.wrong).cloned());
+        if here.answer != there.answer {
+            wrong.insert(0, format!("answer {:x} and {:x}", here.answer, there.answer));
+        }
+        if !wrong.is_empty() {
+            self.show(&wrong.join("; "), pair);
+            return None;
+        }
+        self.agree += 1;
+        let (one, other) = (here.left.record(), there.left.record());
+        self.tally.add(here.answer, here.zero_record, one[0]);
+        if here.is_full() {
+            self.met.add(Counts { used: one[17], range: one[18], sliver: one[19] });
+        }
+        for Outcome { answer, zero_record, nans: [surfaces, vertices], .. } in [&here, &there] {
+            self.stayed.add(*answer, *zero_record, *surfaces, *vertices);
+        }
+        FREE.iter().zip(&mut self.free).for_each(|(&word, times)| *times += (one[word] != other[word]) as u64);
+        Some([here, there])
+    }
+
+    fn show(&mut self, why: &str, pair: &Pair) {
+        self.differ += 1;
+        if self.shown.len() < SHOWN {
+            let Pair { here, there, clip, defect, lent } = pair;
+            let (floats, ids) = (here.vertices.len(), here.ids.len());
+            self.shown.push(format!(
+                "{why}; clip {clip:x}, defect {defect:x}, {lent:?}, unit {:?}, {floats} floats {:?} and {:?}, \
+                 {ids} ids {:?} and {:?}",
+                here.unit,
+                &here.vertices[..floats.min(30)],
+                &there.vertices[..floats.min(3)],
+                &here.ids[..ids.min(30)],
+                &there.ids[..ids.min(3)],
+            ));
+        }
+    }
+
+    /// The numbers of both.
+    pub fn join(&mut self, other: &Count) {
+        (self.agree, self.differ) = (self.agree + other.agree, self.differ + other.differ);
+        self.tally.join(&other.tally);
+        self.stayed.join(&other.stayed);
+        self.met.join(&other.met);
+        (0..4).for_each(|i| self.free[i] += other.free[i]);
+    }
+
+    /// What the pairs that agree came to, and what else there is to count behind it.
+    pub fn reached(&self, also: &[(&str, u64)]) -> String {
+        let [best, method, trust, bound] = self.free;
+        let own = [
+            ("open with another best volume", best),
+            ("open with another method", method),
+            ("open with another trust", trust),
+            ("open with another bound", bound),
+            ("with an id out of range", self.met.range),
+            ("with a sliver", self.met.sliver),
+        ];
+        self.tally.told(&[&own, also].concat())
+    }
+}

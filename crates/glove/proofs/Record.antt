@@ -27,7 +27,8 @@ use Rattle.verdict.proofs.Reversed.{quality-reversed}
 use Rattle.volume.specs.Best.{bestOf}
 use Rattle.refusals.specs.Refusals.{Passes}
 use Rattle.qto.specs.declared.Measures.{Measures}
-use Rattle.qto.specs.Full.{cube, totals, volumeOf, surfaceOf, measuresFrom, measures, distance, verdict, best, recordFrom, recordBy, recordOf}
+use Rattle.qto.specs.Full.{cube, totals, volumeOf, surfaceOf, measuresFrom, measures, distance, verdict, best}
+use Rattle.qto.specs.Full.{recordFrom, recordBy, recordOf}
 use Rattle.road.specs.Agree.{AgreeRecords}
 use Rattle.road.proofs.Best.{agree-but-prism}
 use Rattle.glove.specs.Turned.{sided, TurnedRecords}

@@ -5,13 +5,14 @@ use Rattle.sums.specs.Box.{box, origin}
 use Rattle.walk.proofs.Turned.{counts-reversed}
 use Rattle.weld.specs.Weld.{epsilonOf}
 use Rattle.weld.proofs.Reversed.{welded-reversed}
-use Rattle.qto.specs.Full.{distance}
+use Rattle.qto.specs.Full.{distance, surfacesAfter}
 use Rattle.glove.specs.Stations.{StationsTurn}
 use Rattle.glove.proofs.Rows.{rows-turned}
 use Rattle.glove.proofs.Record.{sums-turned, verdict-same}
 use Rattle.glove.proofs.Glove.{check-same}
 
 pub stations : StationsTurn
+unfolding surfacesAfter
 stations vs ids u =
     record {
       checks = check-same vs ids u;
@@ -21,5 +22,6 @@ stations vs ids u =
       counts = counts-reversed vs (origin (box vs)) ids;
       weld = λ any. welded-reversed vs ids (epsilonOf distance u);
       quality = λ any. verdict-same vs ids u;
+      surfaces = λ passes area. rw (rows-turned vs ids u passes);
       work = λ area. rw (reversed-is ids .long);
     }

@@ -1,5 +1,5 @@
 -- What document 01 says of lists of ids: their triangles, the edge chain, the face net and the pieces, and what an id routine refuses and
--- leaves in its lent area.
+-- leaves in its lent area. And ids that are turned inside out (02).
 pub mod Triangles
 pub mod Reversed
 pub mod Uses

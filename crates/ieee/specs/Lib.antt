@@ -1,5 +1,6 @@
 -- What the contracts of `floats` cite, one idea a file, over both formats; `Nearest`, `Integer` and `Whole` say what
--- that is worth to a reader, `Answers` that it leaves no choice, and `Examples` tries each on a few values. `WholeNumber` is demand 3's.
+-- that is worth to a reader, `Answers` that it leaves no choice, and `Examples` tries each on a few values. `WholeNumber` is demand 3's,
+-- `Number` the glove's.
 -- A conversion to an integer is the model's own `toSigned` or `toUnsigned`, a pattern its `toBits` and `ofBits`.
 pub mod Magnitude
 pub mod Order

@@ -16,10 +16,10 @@ use Rattle.program.specs.Place.{meshFloats, meshUnit, meshRecord, meshRo
 abbrev pub IsFull : Contents → Type 0
 IsFull m = checkMesh (meshFloats m) (m .ids) (meshUnit m) ≡ Check.Full
 
--- The listings of two records, the second the first turned over. Equal are the lines quality, profile, aabb, surface, side, inclined, largest,
--- smallest, pieces, used, range, sliver and surfaces, and of a mesh that is not open reliable, method, best and prism; what stands behind top and
--- bottom has changed places; volume is negated, and a zero may have either sign. The rows are those of the first with opposite normals, put
--- in order.
+-- The listings of two records, the second the first turned over. Equal are the lines quality, profile, aabb, surface, side, inclined,
+-- largest, smallest, pieces, used, range, sliver and surfaces, and of a mesh that is not open reliable, method, best and prism too; what
+-- stands behind top and bottom has changed places; volume is negated, and a zero may have either sign. The rows are those of the first with
+-- opposite normals, put in order.
 pub record TurnedListings (m m′ : Contents) (text text′ : List ℕ) : Type 0 where
   pub lists : text ≡ listingOf (meshRecord m) (meshRows m) (pieces shareId (m .ids))
   pub lists′ : text′ ≡ listingOf (meshRecord m′) (turnedRows (meshRows m)) (pieces shareId (m .ids))

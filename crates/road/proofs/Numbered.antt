@@ -63,7 +63,8 @@ pub record AlikeNumbered (W : ℕ → List ℕ → List ℕ → Type 0) (S : ℕ
   pub refused-rows : (n : ℕ) → S (0x8000_0000 + n) words s s
   pub zero-record : W 0 (wordsOf (withFlags clip defect zeroRecord)) (wordsOf (withFlags clip defect zeroRecord))
   pub zero-rows : S 0 (wordsOf (withFlags clip defect zeroRecord)) s s
-  pub full : Passes vs ids u → W 0 (wordsOf (withFlags clip defect (recordOf vs ids u))) (wordsOf (withFlags clip defect (recordOf vs′ ids′ u)))
+  pub full : Passes vs ids u
+      → W 0 (wordsOf (withFlags clip defect (recordOf vs ids u))) (wordsOf (withFlags clip defect (recordOf vs′ ids′ u)))
   pub full-rows : Passes vs ids u
       → S 0 (wordsOf (withFlags clip defect (recordOf vs ids u))) (surfacesAfter vs ids u s) (surfacesAfter vs′ ids′ u s)
 

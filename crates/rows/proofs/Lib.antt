@@ -1,4 +1,5 @@
--- Laws of rows: as floats, counted, compared, sorted; of a row that sinks; of areas.
+-- Laws of rows: as floats, counted, compared, sorted; of a row that sinks; of areas; of rows that are changed one by one, and of opposite
+-- ones.
 pub mod Flat
 mod Counts
 pub mod Comparing

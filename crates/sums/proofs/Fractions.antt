@@ -90,7 +90,8 @@ module _ (f : Format) (a b : ℕ) (A : 0 < a) (B : 0 < b) (has : Has f a b) wher
       let cross : num v * b ≡ a * den v = value→cross v a b has in
       let near = root-nearest f x t p v (round-fits f false a b) v-finite in
       elim (decLt (num r * den v) (num v * den r)) [
-        | yes l ↦ absurd (not-short (num r) (den r) (num v) (den v) (num x) (den x) (scaled (num v) (den v) (num x) (den x) cross h) l (near .above l))
+        | yes l ↦ (let least = scaled (num v) (den v) (num x) (den x) cross h in
+            absurd (not-short (num r) (den r) (num v) (den v) (num x) (den x) least l (near .above l)))
         | no l ↦ back (num r) (den r) (num v) (den v) (den-pos v) cross (omega arith)
       ]
     where

@@ -78,7 +78,8 @@ pub record TurnedFacet (f f′ : Facet) : Type 0 where
   pub ny : asNumber (f′ .ny) ≡ opposite (f .ny)
   pub nz : asNumber (f′ .nz) ≡ opposite (f .nz)
 
-facet-turned : (t : List (List Float)) (l : Float) → TurnedFacet (facetOf t (normal t) l) (facetOf (turnedCorners t) (normal (turnedCorners t)) l)
+facet-turned : (t : List (List Float)) (l : Float)
+    → TurnedFacet (facetOf t (normal t) l) (facetOf (turnedCorners t) (normal (turnedCorners t)) l)
 unfolding facetOf
 facet-turned t l =
     let o = normal-opposed t in

@@ -78,7 +78,9 @@ module _ (p : Thresholds) (h : T (le nought (p .top))) where
       record {
         surface = rw (s .surface, o .area);
         volume6 = add-opposite binary64 (t .volume6) (f .volume) (t′ .volume6) (f′ .volume) (s .volume6) (o .volume);
-        areas = rw (slope-turned p (f .nz) (f′ .nz) h (o .nz), o .area32, s .areas) (on-slope-turned (slopeOf p (f .nz)) (f .area32) (t .areas));
+        areas =
+            rw (slope-turned p (f .nz) (f′ .nz) h (o .nz), o .area32, s .areas)
+            (on-slope-turned (slopeOf p (f .nz)) (f .area32) (t .areas));
       }
 
   -- one triangle's part more

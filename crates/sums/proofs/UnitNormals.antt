@@ -48,11 +48,15 @@ module _ (n : List Float) (t : Three (2 ^ 71) n) where
     within : Within (2 ^ k) x
 
   fair-square : (x : Float) → Within (2 ^ 71) x → Fair 142 (x ⊠ x)
-  fair-square x w = record { from-zero = plus-square binary64 x (within-number (2 ^ 71) x w); within = within-mul binary64 71 71 x x (lit≤ tt) w w }
+  fair-square x w =
+      record { from-zero = plus-square binary64 x (within-number (2 ^ 71) x w); within = within-mul binary64 71 71 x x (lit≤ tt) w w }
 
   fair-sum : (k : ℕ) (x y : Float) → suc k ≤ 1023 → Fair k x → Fair k y → Fair (suc k) (x ⊞ y)
   fair-sum k x y K p q =
-      record { from-zero = plus-add binary64 x y (p .from-zero) (q .from-zero); within = within-both binary64 k x y K (p .within) (q .within) }
+      record {
+        from-zero = plus-add binary64 x y (p .from-zero) (q .from-zero);
+        within = within-both binary64 k x y K (p .within) (q .within);
+      }
 
   fair-more : (k : ℕ) (x : Float) → Fair k x → Fair (suc k) x
   fair-more k x p = record { from-zero = p .from-zero; within = within-most (2 ^ k) (2 ^ suc k) x (pow-mono (omega arith)) (p .within) }
@@ -76,7 +80,8 @@ module _ (n : List Float) (t : Three (2 ^ 71) n) where
         more-sum binary64 (a * a) (b * b) (mul-pos B B) has (square 0 ⊞ square 1) (square 2) (pq .from-zero) (r .from-zero)
         (pq .within .finite-is) (r .within .finite-is) (d .within .finite-is)
         (⊎-elim (λ l. inl (both (inl l)))
-        (λ m. ⊎-elim (λ l. inl (both (inr l))) (λ l. inr (more-square binary64 a b B has (at n 2) (t .z .finite-is) (r .within .finite-is) l)) m) h)
+        (⊎-elim (λ l. inl (both (inr l)))
+        (λ l. inr (more-square binary64 a b B has (at n 2) (t .z .finite-is) (r .within .finite-is) l))) h)
 
 -- ---- a component over the length
 
@@ -144,7 +149,9 @@ module _ (n : List Float) (t : Three (2 ^ 71) n) (enough : lt (length n) shortes
   l-positive = finite-above l (above-of-le shortest l (shortest-positive .0) l-least) l-finite
 
   l-long : den l ≤ 2 ^ 40 * num l
-  l-long = cancelled (num shortest) (den shortest) (num-pos shortest (shortest-positive .0)) shortest-is (le→cross shortest l (shortest-positive .0) l-positive l-least)
+  l-long =
+      cancelled (num shortest) (den shortest) (num-pos shortest (shortest-positive .0)) shortest-is
+      (le→cross shortest l (shortest-positive .0) l-positive l-least)
     where
       cancelled : (s c : ℕ) → 0 < s → c ≤ 2 ^ 40 * s → s * den l ≤ num l * c → den l ≤ 2 ^ 40 * num l
       cancelled s c S h k =
@@ -166,8 +173,9 @@ module _ (n : List Float) (t : Three (2 ^ 71) n) (enough : lt (length n) shortes
       rw (← pow-add 2 k k, ← pow-add 2 40 40) (has-powers binary64 (k + k) (40 + 40) (omega arith) (lit≤ tt)) in
       let more = part (2 ^ k) (2 ^ 40) (pow-pos 40) squares h in
       let some = dot-plus (2 ^ 71) n t in
-      let positive-dot = positive-num (dot n n) some (dot-three 71 71 n n (lit≤ tt) t t .finite-is)
-      (num-some (2 ^ k * 2 ^ k) (2 ^ 40 * 2 ^ 40) (num (dot n n)) (den (dot n n)) (mul-pos (pow-pos k) (pow-pos k)) (den-pos (dot n n)) more) in
+      let above-zero = num-some (2 ^ k * 2 ^ k) (2 ^ 40 * 2 ^ 40) (num (dot n n)) (den (dot n n)) (mul-pos (pow-pos k) (pow-pos k))
+      (den-pos (dot n n)) more in
+      let positive-dot = positive-num (dot n n) some (dot-three 71 71 n n (lit≤ tt) t t .finite-is) above-zero in
       over-length l l-positive l-long x (2 ^ k) (2 ^ 40) (pow-pos k) (pow-pos 40)
       (has-powers binary64 40 k (lit≤ tt) (omega arith)) (w .finite-is) g
       (root-least binary64 (2 ^ k) (2 ^ 40) (pow-pos k) (pow-pos 40) (has-powers binary64 k 40 (omega arith) (lit≤ tt)) (dot n n)
@@ -189,7 +197,7 @@ module _ (n : List Float) (t : Three (2 ^ 71) n) (enough : lt (length n) shortes
   pub unit-within : UnitWithin
   unfolding Component
   unit-within =
-      let narrowed : (x : Float) → Within 2 x → Within 2 (rounded binary32 x) = within-rounded binary32 2 (power-value binary32 1 (lit≤ tt)) in
+      let narrowed = within-rounded binary32 2 (power-value binary32 1 (lit≤ tt)) in
       record {
         x = narrowed _ (component-within (at n 0) (t .x) (λ a b B has h. dot-least n t a b B has (inl h)));
         y = narrowed _ (component-within (at n 1) (t .y) (λ a b B has h. dot-least n t a b B has (inr (inl h))));
@@ -199,23 +207,24 @@ module _ (n : List Float) (t : Three (2 ^ 71) n) (enough : lt (length n) shortes
 -- ---- of a used triangle
 
 -- 2 in f32
-abbrev pub two32 : Float
-two32 = ofBits binary32 0x4000_0000
+abbrev pub two : Float
+two = ofBits binary32 0x4000_0000
 
 pub record UnitFacet (f : Facet) : Type 0 where
-  pub x : T (le (magnitude (f .nx)) two32)
-  pub y : T (le (magnitude (f .ny)) two32)
-  pub z : T (le (magnitude (f .nz)) two32)
+  pub x : T (le (magnitude (f .nx)) two)
+  pub y : T (le (magnitude (f .ny)) two)
+  pub z : T (le (magnitude (f .nz)) two)
 
-within-two : (x : Float) → Within 2 x → T (le (magnitude x) two32)
+within-two : (x : Float) → Within 2 x → T (le (magnitude x) two)
 unfolding magnitude ofBits AtMost
 within-two nan w = absurd (w .finite-is)
 within-two (inf s) w = absurd (w .finite-is)
 within-two (fin s m e) w =
-    le-of-at-most false false (m * up e) (down e) 2 1 (down-pos e) (lit< tt) (fin false m e) two32 (refl, refl) (refl, refl)
+    le-of-at-most false false (m * up e) (down e) 2 1 (down-pos e) (lit< tt) (fin false m e) two (refl, refl) (refl, refl)
     (omega (arith, w .small))
 
-facet-unit : (t : List (List Float)) → Small t → lt (length (normal t)) shortest ≡ false → UnitFacet (facetOf t (normal t) (length (normal t)))
+facet-unit : (t : List (List Float)) → Small t → lt (length (normal t)) shortest ≡ false
+    → UnitFacet (facetOf t (normal t) (length (normal t)))
 unfolding facetOf
 facet-unit t p enough =
     let u = unit-within (normal t) (normal-three t p) enough in

@@ -1,4 +1,4 @@
--- What the sums of the record are made of: Box, Triangles and Slope of document 01; which meshes pass refusal 4.
+-- What the sums of the record are made of: Box, Triangles and Slope of document 01; which meshes pass refusal 4; sums turned over (02).
 pub mod Box
 pub mod Facet
 pub mod Fine

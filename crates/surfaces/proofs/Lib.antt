@@ -1,4 +1,4 @@
--- From keys as numbers to one triangle more, and what a reader of the buckets needs to know.
+-- From keys as numbers to one triangle more, what a reader of the buckets needs to know, and keys negated.
 pub mod Keys
 mod Codes
 pub mod Buckets

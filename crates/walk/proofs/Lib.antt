@@ -1,4 +1,4 @@
--- One triangle more; what the rows are worth; no sum overflows.
+-- One triangle more; what the rows are worth; no sum overflows; a mesh turned inside out.
 mod Counting
 mod Turns
 pub mod Counts

@@ -1,3 +1,3 @@
--- From the whole table to the ids.
+-- From the whole table to the ids; and ids that are turned inside out.
 mod Mapping
 pub mod Reversed

@@ -2,6 +2,7 @@
 pub mod Rows
 pub mod Record
 pub mod Glove
+pub mod Says
 pub mod Stations
 pub mod Flags
 pub mod Numbered

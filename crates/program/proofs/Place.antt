@@ -5,32 +5,21 @@ use Prim.Native.Nat.{ℕ}
 use lib.Dec.{T, eqb}
 use lib.IntN.{ℤ}
 use Rattle.verdict.specs.declared.Quality.{Quality}
-use Rattle.record.specs.declared.MeshQto.{MeshQto}
 use Rattle.record.specs.Numbers.{profileAt}
 use Rattle.refusals.specs.declared.Check.{Check}
 use Rattle.refusals.specs.Refusals.{Passes}
 use Rattle.qto.specs.Full.{recordOf}
 use Rattle.refusals.proofs.Checks.{admitted}
 use Rattle.place.specs.Moved.{Moved, unitEnough}
-use Rattle.road.specs.Agree.{AgreeBy, AgreeButBest, AgreeRecords}
+use Rattle.road.specs.Agree.{AgreeRecords}
 use Rattle.place.proofs.Record.{rows-stay, records-agree}
 use Rattle.place.proofs.Place.{check-stays}
+use Rattle.road.proofs.Agree.{but-best, same-record}
 use Rattle.road.proofs.Flags.{flags-keep}
 use Rattle.meshfile.specs.Format.{Contents, File}
 use Rattle.meshfile.specs.Reading.{floatsOf}
 use Rattle.program.specs.Program.{checkMesh, listed, textAt, meshText, textFor, textOf}
 use Rattle.program.specs.Place.{meshFloats, meshUnit, meshRecord, meshRows, IsOpen, AgreeTexts, TextDoesNotShow}
-
--- but for an open mesh the record is the same
-same-record : (v : Quality) (q q′ : MeshQto) → AgreeBy v q q′ → (v ≡ Quality.OpenShell → ⊥) → q′ ≡ q
-unfolding AgreeBy
-same-record Quality.Closed q q′ e shut = e
-same-record Quality.Degenerate q q′ e shut = e
-same-record Quality.OpenShell q q′ e shut = absurd (shut refl)
-
-but-best : (v : Quality) (q q′ : MeshQto) → AgreeBy v q q′ → v ≡ Quality.OpenShell → AgreeButBest q q′
-unfolding AgreeBy
-but-best v q q′ e is-open = rw is-open at e
 
 -- ---- what a file holds, and the same with other floats
 
@@ -90,7 +79,7 @@ module _ (m : Contents) (vertices : List ℕ) where
                 lists = rw (o .passes);
                 lists′ = rw (same-check, o .passes, same-rows (o .passes));
                 is-open = record { passes = same-check ∙ o .passes; verdict = records (o .passes) .verdict ∙ o .verdict };
-                agree = but-best (meshRecord m .«mesh_quality») (meshRecord m) (meshRecord m′) (records (o .passes) .rest) (o .verdict);
+                agree = but-best (meshRecord m .«mesh_quality») (meshRecord m) (meshRecord m′) (records (o .passes) .rest);
               };
         }
 

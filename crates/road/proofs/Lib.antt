@@ -1,4 +1,5 @@
 -- What holds of any two meshes on the road: from records that agree to outcomes, flags, words and the C form.
+pub mod Agree
 pub mod Best
 pub mod Outcomes
 pub mod Flags

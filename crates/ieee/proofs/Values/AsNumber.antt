@@ -9,7 +9,7 @@ use native.Mathlib.Decide.{decLt}
 use native.Mathlib.Omega.{arith}
 use lib.Dec.{T, eqb·suc-zero}
 use lib.IntN.{ℤ}
-use lib.Ieee.{Float, nan, inf, fin, Format, up, down, unlike, round, sum, add, mul, div, neg, below, lt, fits}
+use lib.Ieee.{Float, nan, inf, fin, Format, up, down, unlike, round, sum, add, mul, div, below, lt, fits}
 use lib.Ieee.Fits.{down-pos, up-pos}
 use Rattle.ieee.specs.Magnitude.{magnitude}
 use Rattle.ieee.specs.Rounded.{rounded}
@@ -42,13 +42,6 @@ one-number P same zeros (fin s (suc m) e) (inf t) h = subst (P (fin s (suc m) e)
 one-number P same zeros (fin s (suc m) e) (fin t zero d) h = let no : suc m ≡ 0 = cc in absurd (omega arith)
 one-number P same zeros (fin s (suc m) e) (fin t (suc n) d) h = subst (P (fin s (suc m) e)) h (same (fin s (suc m) e))
 
-pub number-twice : (x : Float) → asNumber (asNumber x) ≡ asNumber x
-unfolding asNumber
-number-twice nan = refl
-number-twice (inf s) = refl
-number-twice (fin s zero e) = refl
-number-twice (fin s (suc m) e) = refl
-
 pub asNumber-fits : (f : Format) (x : Float) → T (fits f x) → T (fits f (asNumber x))
 unfolding fits asNumber
 asNumber-fits f nan h = h
@@ -64,10 +57,6 @@ zero-number f s t a b c d A B C D = rw (A, B, round-zero f s c C, round-zero f t
 
 -- ---- the operations
 
-pub neg-number : (x y : Float) → asNumber x ≡ asNumber y → asNumber (neg x) ≡ asNumber (neg y)
-unfolding neg asNumber
-neg-number = one-number (λ x y. asNumber (neg x) ≡ asNumber (neg y)) (λ x. refl) (λ s t e. refl)
-
 pub magnitude-number : (x y : Float) → asNumber x ≡ asNumber y → magnitude x ≡ magnitude y
 unfolding magnitude
 magnitude-number = one-number (λ x y. magnitude x ≡ magnitude y) (λ x. refl) (λ s t e. refl)
@@ -77,6 +66,15 @@ unfolding rounded
 rounded-number f =
     one-number (λ x y. asNumber (rounded f x) ≡ asNumber (rounded f y)) (λ x. refl)
     (λ s t e. zero-number f s t (0 * up e) (0 * up e) (down e) (down e) (omega arith) (omega arith) (down-pos e) (down-pos e))
+
+-- an operation of two that may change places and does not see the sign of a zero in the first
+module _ (op : Float → Float → Float) (commutes : (x y : Float) → op x y ≡ op y x)
+    (zeros : (s t : Bool) (e : ℤ) (y : Float) → asNumber (op (fin s 0 e) y) ≡ asNumber (op (fin t 0 e) y)) where
+  in-the-first : (y x x′ : Float) → asNumber x ≡ asNumber x′ → asNumber (op x y) ≡ asNumber (op x′ y)
+  in-the-first y = one-number (λ x x′. asNumber (op x y) ≡ asNumber (op x′ y)) (λ x. refl) (λ s t e. zeros s t e y)
+
+  both-sides : (x y x′ y′ : Float) → asNumber x ≡ asNumber x′ → asNumber y ≡ asNumber y′ → asNumber (op x y) ≡ asNumber (op x′ y′)
+  both-sides x y x′ y′ h k = in-the-first y x x′ h ∙ rw (commutes x′ y, commutes x′ y′) (in-the-first x′ y y′ k)
 
 module _ (f : Format) where
   zero-times : (s t : Bool) (e : ℤ) (y : Float) → asNumber (mul f (fin s 0 e) y) ≡ asNumber (mul f (fin t 0 e) y)
@@ -88,16 +86,11 @@ module _ (f : Format) where
       let none : 0 * up e * (n * up d) ≡ 0 = omega arith in
       zero-number f (unlike s v) (unlike t v) _ _ (down e * down d) (down e * down d) none none C C
 
-  mul-left : (y x x′ : Float) → asNumber x ≡ asNumber x′ → asNumber (mul f x y) ≡ asNumber (mul f x′ y)
-  mul-left y = one-number (λ x x′. asNumber (mul f x y) ≡ asNumber (mul f x′ y)) (λ x. refl) (λ s t e. zero-times s t e y)
-
   pub mul-number : (x y x′ y′ : Float) → asNumber x ≡ asNumber x′ → asNumber y ≡ asNumber y′
       → asNumber (mul f x y) ≡ asNumber (mul f x′ y′)
-  mul-number x y x′ y′ h k =
-      mul-left y x x′ h
-      ∙ (rw (mul-commutes f x′ y, mul-commutes f x′ y′) (mul-left x′ y y′ k))
+  mul-number = both-sides (mul f) (mul-commutes f) zero-times
 
-  -- x and y are one number or each other's opposite: then the square is one float, and no zero of it is -0
+  -- the square is one float, and no zero of it is -0
   pub square-number : (x y : Float) → asNumber x ≡ asNumber y → mul f x x ≡ mul f y y
   unfolding mul
   square-number = one-number (λ x y. mul f x x ≡ mul f y y) (λ x. refl) (λ s t e. rw (like s, like t))
@@ -152,14 +145,9 @@ module _ (f : Format) where
       nothing-more s v _ (n * up d * down e) (down e * down d) C none
       ∙ sym (nothing-more t v _ (n * up d * down e) (down e * down d) C none)
 
-  add-left : (y x x′ : Float) → asNumber x ≡ asNumber x′ → asNumber (add f x y) ≡ asNumber (add f x′ y)
-  add-left y = one-number (λ x x′. asNumber (add f x y) ≡ asNumber (add f x′ y)) (λ x. refl) (λ s t e. zero-plus s t e y)
-
   pub add-number : (x y x′ y′ : Float) → asNumber x ≡ asNumber x′ → asNumber y ≡ asNumber y′
       → asNumber (add f x y) ≡ asNumber (add f x′ y′)
-  add-number x y x′ y′ h k =
-      add-left y x x′ h
-      ∙ (rw (add-commutes f x′ y, add-commutes f x′ y′) (add-left x′ y y′ k))
+  add-number = both-sides (add f) (add-commutes f) zero-plus
 
 -- ---- comparisons
 

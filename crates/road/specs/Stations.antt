@@ -17,8 +17,8 @@ use Rattle.refusals.specs.Refusals.{checkOf}
 use Rattle.qto.specs.Full.{cube, totals, surfaceRows, surfacesAfter, measures, distance, verdict}
 
 -- rows in front of an area
-abbrev pub withRows : List PlanarSurface → List Float → List Float
-withRows rows area = flatten rows ++ drop (4 * length rows) area
+abbrev pub rowsInFront : List PlanarSurface → List Float → List Float
+rowsInFront rows area = flatten rows ++ drop (4 * length rows) area
 
 -- The floats vs and vs′, the ids and ids′; how the sums of the second stand to those of the first, and what becomes of rows and of welded
 -- ids. Where rows can be put in order, and where welding is well behaved, is asked for at these stations alone.
@@ -36,5 +36,5 @@ pub record Stations (vs vs′ : List Float) (ids ids′ : List ℕ) (u : Float) 
   pub weld : Weldable → welded vs′ ids′ (epsilonOf distance u) ≡ turnIds (welded vs ids (epsilonOf distance u))
   pub quality : Weldable → verdict vs′ ids′ u (measures vs′ ids′ u .volume) ≡ verdict vs ids u (measures vs ids u .volume)
   -- what stands in the surface area afterwards: the rows, and behind them what stood there; and in the work area
-  pub surfaces : Orderly → (area : List Float) → surfacesAfter vs′ ids′ u area ≡ withRows (turnRows (surfaceRows vs ids u)) area
+  pub surfaces : Orderly → (area : List Float) → surfacesAfter vs′ ids′ u area ≡ rowsInFront (turnRows (surfaceRows vs ids u)) area
   pub work : (area : List ℕ) → cleared (workWords (length vs′) (length ids′)) area ≡ cleared (workWords (length vs) (length ids)) area

@@ -10,7 +10,7 @@ use lib.Dec.{eqb}
 use lib.ListN.{length}
 use Rattle.ids.specs.Uses.{bit}
 use Rattle.ids.specs.Triangles.{triangle}
-use Rattle.ids.specs.Pieces.{any, touched, groups, shareId, solids, pieces}
+use Rattle.ids.specs.Pieces.{any, touched, groups, shareEdge, solids, pieces}
 use Rattle.ids.specs.Classes.{mem, Chain, Each, AreClasses}
 use Rattle.ids.specs.Classes.Chain.{here, step}
 use Rattle.ids.proofs.Groups.{Group, total, witness, mem-append, or-cases, or-left, or-right, each-apart, each-map, part-mem}
@@ -84,12 +84,12 @@ module _ (joined : ℕ → ℕ → Bool) (both : (x y : ℕ) → joined x y ≡ 
   groups-are-classes ts =
       record { some = some-of ts; once = λ x. total (λ y. bit (eqb x y)) joined ts; tied = tied ts; closed = chained ts }
 
--- do triangles s and t share an id?
+-- do triangles s and t share an edge?
 abbrev pub sharing : List ℕ → ℕ → ℕ → Bool
-sharing ids s t = shareId (triangle ids s) (triangle ids t)
+sharing ids s t = shareEdge (triangle ids s) (triangle ids t)
 
--- the classes of the distinct-id triangles that chains of shared ids make; `pieces` counts them
+-- the classes of the distinct-id triangles that chains of shared edges make; `pieces` counts them
 pub pieces-are-classes : (ids : List ℕ) → AreClasses (sharing ids) (solids ids) (groups (sharing ids) (solids ids))
-    × (pieces shareId ids ≡ length (groups (sharing ids) (solids ids)))
+    × (pieces shareEdge ids ≡ length (groups (sharing ids) (solids ids)))
 unfolding pieces
 pieces-are-classes ids = (groups-are-classes (sharing ids) (λ x y h. share-both (triangle ids x) (triangle ids y) h) (solids ids), refl)

@@ -5,11 +5,11 @@ use Rattle.ids.specs.Uses.{bit, sumBy, maxBy, counting, uses, signedSum,
 use Rattle.ids.specs.EdgeChain.{sameEdge, step, around, enough, chain, present, unbalanced, crowded, unpaired, incoherent}
 use Rattle.ids.specs.EdgeChain.{boundaryFree, overIncident, properStep, aroundProper, closedManifold, windingCoherent}
 use Rattle.ids.specs.FaceNet.{sameFace, sortedIds, falls, faceUse, face, maxAbs, allCancel}
-use Rattle.ids.specs.Pieces.{any, touched, apart, groups, has, shareId, those, solid, solids, pieces}
-use Rattle.ids.specs.Examples.{Holds, tetrahedron, neighbour, stranger, examples}
+use Rattle.ids.specs.Pieces.{any, touched, apart, groups, hasEdge, shareEdge, those, solid, solids, pieces}
+use Rattle.ids.specs.Examples.{Holds, tetrahedron, neighbour, hinged, stranger, examples}
 
 pub examples-hold : Holds examples
-unfolding Holds tetrahedron neighbour stranger examples triangle any touched apart groups has shareId those solid solids pieces
+unfolding Holds tetrahedron neighbour hinged stranger examples triangle any touched apart groups hasEdge shareEdge those solid solids pieces
     distinct overTriangles bit sumBy maxBy counting uses signedSum keys keysThat largestSum sameEdge step around enough chain
     present unbalanced crowded unpaired incoherent boundaryFree overIncident properStep aroundProper closedManifold windingCoherent
     sameFace sortedIds falls faceUse face maxAbs allCancel
@@ -61,7 +61,7 @@ examples-hold = (
             refl,
             refl,
             refl,
-            (refl, refl, refl, refl, refl, refl, refl, (refl, refl, refl, refl, refl, refl, refl, tt)),
+            (refl, refl, refl, refl, refl, refl, refl, (refl, refl, refl, refl, refl, refl, refl, (refl, refl, refl, refl, refl, refl, refl, tt))),
           ),
         ),
       ),

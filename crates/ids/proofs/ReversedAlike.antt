@@ -1,5 +1,5 @@
 -- Reversed ids are answered alike: whatever is asked of their edges and faces goes by how often a key is used and by the magnitude of its
--- sum, and pieces by distinct ids and shared ones. Assumes nothing.
+-- sum, and pieces by distinct ids and shared edges. Assumes nothing.
 use mathlib.Core.Path.{_≡_}
 use mathlib.Core.Bool.{Bool}
 use mathlib.Core.List.{List}
@@ -9,7 +9,7 @@ use Rattle.ids.specs.EdgeChain.{Edge, edgesThat, sameEdge, present, unba
 use Rattle.ids.specs.EdgeChain.{boundaryFree, overIncident, closedManifold, windingCoherent}
 use Rattle.ids.specs.FaceNet.{sameFace, faces, maxAbs, allCancel}
 use Rattle.ids.specs.Reversed.{reversed, ReversedAlike}
-use Rattle.ids.specs.Pieces.{shareId}
+use Rattle.ids.specs.Pieces.{shareEdge}
 use Rattle.ids.proofs.Same.{edge-eq, edge-refl, face-eq, face-refl}
 use Rattle.ids.proofs.Alike.{Alike, alike-keys, alike-largest}
 use Rattle.ids.proofs.Opposite.{Opposite, opposite-alike}
@@ -36,5 +36,5 @@ reversed-alike ids =
       all-cancel = rw (alike-keys sameFace face-eq face-refl unbalanced nets);
       closed-manifold = rw (long, proper unpaired);
       winding-coherent = rw (long, proper present, proper incoherent);
-      piece-count = pieces-reversed shareId share-turned ids;
+      piece-count = pieces-reversed shareEdge share-turned ids;
     }

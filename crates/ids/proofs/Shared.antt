@@ -1,59 +1,106 @@
--- Two triangles share an id where a corner of the one has the id of a corner of the other; so sharing goes both ways, and turning both over
--- leaves it. Assumes nothing.
-use mathlib.Core.Path.{_≡_, sym, ap}
-use mathlib.Core.Bool.{Bool, true, _||_, or-comm}
+-- Two triangles share an edge where a side of the one is a side of the other; so sharing goes both ways, and turning both over leaves it.
+-- The same of a shared id, as 01 had it: an edge shared is two ids shared. Assumes nothing.
+use mathlib.Core.Path.{_≡_, refl, sym, ap, _∙_}
+use mathlib.Core.Bool.{Bool, true, false, _||_}
 use Prim.Native.Nat.{ℕ, zero, suc, _<_}
+use native.Mathlib.Nat.{min-comm, max-comm}
 use native.Mathlib.Omega.{arith}
-use borrow.Author.Tests.{eq-eqb, eqb-true}
+use borrow.Author.Tests.{eqb-true}
 use lib.Dec.{eqb}
 use Rattle.ids.specs.Triangles.{Triangle}
-use Rattle.ids.specs.Pieces.{has, shareId}
+use Rattle.ids.specs.EdgeChain.{Edge, edge, sameEdge}
+use Rattle.ids.specs.Pieces.{hasEdge, shareEdge}
+use Rattle.ids.specs.ByIds.{has, shareId}
 use Rattle.ids.specs.Reversed.{turnedTriangle}
 use Rattle.ids.proofs.Groups.{or-cases, or-left, or-right}
+use Rattle.ids.proofs.Same.{eqb-refl, edge-eq, edge-refl}
 
--- the id at corner k
-unfoldable pub corner : Triangle → ℕ → ℕ
-corner t zero = t .a
-corner t (suc zero) = t .b
-corner t (suc (suc k)) = t .c
+-- ---- three things of one kind and three others
 
-has-corner : (t : Triangle) (x k : ℕ) → x ≡ corner t k → has t x ≡ true
-unfolding has corner
-has-corner t x zero e = or-left (eqb x (t .a)) _ (eq-eqb x (t .a) e)
-has-corner t x (suc zero) e = or-right (eqb x (t .a)) _ (or-left (eqb x (t .b)) _ (eq-eqb x (t .b) e))
-has-corner t x (suc (suc k)) e = or-right (eqb x (t .a)) _ (or-right (eqb x (t .b)) _ (eq-eqb x (t .c) e))
+module _ {K : Type 0} (same : K → K → Bool) (same-eq : (a b : K) → same a b ≡ true → a ≡ b) (same-refl : (a : K) → same a a ≡ true) where
+  -- is x one of them?
+  abbrev among : K → (ℕ → K) → Bool
+  among x g = same x (g 0) || (same x (g 1) || same x (g 2))
 
-corner-has : (t : Triangle) (x : ℕ) → has t x ≡ true → (k : ℕ) × (k < 3) × (x ≡ corner t k)
-unfolding has corner
-corner-has t x h =
-    or-cases (eqb x (t .a)) _ h (λ e. (0, omega arith, eqb-true x (t .a) e))
-    (λ q. or-cases (eqb x (t .b)) _ q (λ e. (1, omega arith, eqb-true x (t .b) e)) (λ e. (2, omega arith, eqb-true x (t .c) e)))
+  -- is one of f's one of g's?
+  abbrev meeting : (ℕ → K) → (ℕ → K) → Bool
+  meeting f g = among (f 0) g || (among (f 1) g || among (f 2) g)
 
-pub share-corner : (s t : Triangle) (j k : ℕ) → corner s j ≡ corner t k → shareId s t ≡ true
-unfolding shareId corner
-share-corner s t zero k e = or-left (has t (s .a)) _ (has-corner t (s .a) k e)
-share-corner s t (suc zero) k e = or-right (has t (s .a)) _ (or-left (has t (s .b)) _ (has-corner t (s .b) k e))
-share-corner s t (suc (suc j)) k e = or-right (has t (s .a)) _ (or-right (has t (s .b)) _ (has-corner t (s .c) k e))
+  among-at : (x : K) (g : ℕ → K) (k : ℕ) → k < 3 → x ≡ g k → among x g ≡ true
+  among-at x g zero l e = or-left (same x (g 0)) _ (rw e (same-refl (g 0)))
+  among-at x g (suc zero) l e = or-right (same x (g 0)) _ (or-left (same x (g 1)) _ (rw e (same-refl (g 1))))
+  among-at x g (suc (suc zero)) l e = or-right (same x (g 0)) _ (or-right (same x (g 1)) _ (rw e (same-refl (g 2))))
+  among-at x g (suc (suc (suc k))) l e = absurd (omega arith)
 
-pub corner-share : (s t : Triangle) → shareId s t ≡ true → (j k : ℕ) × (j < 3) × (k < 3) × (corner s j ≡ corner t k)
-unfolding shareId corner
-corner-share s t h =
-    or-cases (has t (s .a)) _ h (λ q. let r = corner-has t (s .a) q in (0, r .0, omega arith, r .1, r .2))
-    (λ p. or-cases (has t (s .b)) _ p (λ q. let r = corner-has t (s .b) q in (1, r .0, omega arith, r .1, r .2))
-    (λ q. let r = corner-has t (s .c) q in (2, r .0, omega arith, r .1, r .2)))
+  at-among : (x : K) (g : ℕ → K) → among x g ≡ true → (k : ℕ) × (k < 3) × (x ≡ g k)
+  at-among x g h =
+      or-cases (same x (g 0)) _ h (λ e. (0, omega arith, same-eq x (g 0) e))
+      (λ q. or-cases (same x (g 1)) _ q (λ e. (1, omega arith, same-eq x (g 1) e)) (λ e. (2, omega arith, same-eq x (g 2) e)))
 
-pub share-both : (s t : Triangle) → shareId s t ≡ true → shareId t s ≡ true
-share-both s t h = let r = corner-share s t h in share-corner t s (r .1) (r .0) (sym (r .4))
+  meeting-at : (f g : ℕ → K) (j k : ℕ) → j < 3 → k < 3 → f j ≡ g k → meeting f g ≡ true
+  meeting-at f g zero k lj l e = or-left (among (f 0) g) _ (among-at (f 0) g k l e)
+  meeting-at f g (suc zero) k lj l e = or-right (among (f 0) g) _ (or-left (among (f 1) g) _ (among-at (f 1) g k l e))
+  meeting-at f g (suc (suc zero)) k lj l e = or-right (among (f 0) g) _ (or-right (among (f 1) g) _ (among-at (f 2) g k l e))
+  meeting-at f g (suc (suc (suc j))) k lj l e = absurd (omega arith)
 
--- ---- triangles turned over
+  at-meeting : (f g : ℕ → K) → meeting f g ≡ true → (j k : ℕ) × (j < 3) × (k < 3) × (f j ≡ g k)
+  at-meeting f g h =
+      or-cases (among (f 0) g) _ h (λ q. let r = at-among (f 0) g q in (0, r .0, omega arith, r .1, r .2))
+      (λ p. or-cases (among (f 1) g) _ p (λ q. let r = at-among (f 1) g q in (1, r .0, omega arith, r .1, r .2))
+      (λ q. let r = at-among (f 2) g q in (2, r .0, omega arith, r .1, r .2)))
 
-has-turned : (t : Triangle) (x : ℕ) → has (turnedTriangle t) x ≡ has t x
-unfolding has
-has-turned t x = ap (λ (p : Bool). eqb x (t .a) || p) (or-comm (eqb x (t .c)) (eqb x (t .b)))
+  meeting-both : (f g : ℕ → K) → meeting f g ≡ true → meeting g f ≡ true
+  meeting-both f g h = let r = at-meeting f g h in meeting-at g f (r .1) (r .0) (r .3) (r .2) (sym (r .4))
 
--- turned over, two triangles share an id where they did
-pub share-turned : (s t : Triangle) → shareId (turnedTriangle s) (turnedTriangle t) ≡ shareId s t
-unfolding shareId
+-- ---- edges
+
+-- the edge from corner k to the next, round
+unfoldable pub side : Triangle → ℕ → Edge
+side t zero = edge (t .a) (t .b)
+side t (suc zero) = edge (t .b) (t .c)
+side t (suc (suc k)) = edge (t .c) (t .a)
+
+pub share-side : (s t : Triangle) (j k : ℕ) → j < 3 → k < 3 → side s j ≡ side t k → shareEdge s t ≡ true
+unfolding hasEdge shareEdge side
+share-side s t j k lj lk e = meeting-at sameEdge edge-eq edge-refl (side s) (side t) j k lj lk e
+
+pub side-share : (s t : Triangle) → shareEdge s t ≡ true → (j k : ℕ) × (j < 3) × (k < 3) × (side s j ≡ side t k)
+unfolding hasEdge shareEdge side
+side-share s t h = at-meeting sameEdge edge-eq edge-refl (side s) (side t) h
+
+pub share-both : (s t : Triangle) → shareEdge s t ≡ true → shareEdge t s ≡ true
+unfolding hasEdge shareEdge side
+share-both s t h = meeting-both sameEdge edge-eq edge-refl (side s) (side t) h
+
+-- turned over, two triangles share an edge where they did
+edge-comm : (u v : ℕ) → edge u v ≡ edge v u
+edge-comm u v = rw (min-comm u v, max-comm u v)
+
+or-turn : (x y z : Bool) → z || (y || x) ≡ x || (y || z)
+or-turn true true true = refl
+or-turn true true false = refl
+or-turn true false true = refl
+or-turn true false false = refl
+or-turn false true true = refl
+or-turn false true false = refl
+or-turn false false true = refl
+or-turn false false false = refl
+
+has-turned : (t : Triangle) (e : Edge) → hasEdge (turnedTriangle t) e ≡ hasEdge t e
+unfolding hasEdge
+has-turned t e =
+    rw (edge-comm (t .a) (t .c), edge-comm (t .c) (t .b), edge-comm (t .b) (t .a))
+    (or-turn (sameEdge e (edge (t .a) (t .b))) (sameEdge e (edge (t .b) (t .c))) (sameEdge e (edge (t .c) (t .a))))
+
+pub share-turned : (s t : Triangle) → shareEdge (turnedTriangle s) (turnedTriangle t) ≡ shareEdge s t
+unfolding shareEdge
 share-turned s t =
-    rw (has-turned t (s .a), has-turned t (s .b), has-turned t (s .c))
-    (ap (λ (p : Bool). has t (s .a) || p) (or-comm (has t (s .c)) (has t (s .b))))
+    rw (
+      has-turned t (edge (s .a) (s .c)),
+      has-turned t (edge (s .c) (s .b)),
+      has-turned t (edge (s .b) (s .a)),
+      edge-comm (s .a) (s .c),
+      edge-comm (s .c) (s .b),
+      edge-comm (s .b) (s .a),
+    )
+    (or-turn (hasEdge t (edge (s .a) (s .b))) (hasEdge t (edge (s .b) (s .c))) (hasEdge t (edge (s .c) (s .a))))

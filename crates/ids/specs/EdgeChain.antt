@@ -15,9 +15,13 @@ pub record Edge : Type 0 where
 unfoldable pub sameEdge : Edge → Edge → Bool
 sameEdge e f = eqb (e .low) (f .low) && eqb (e .high) (f .high)
 
+-- the one between two ids
+abbrev pub edge : ℕ → ℕ → Edge
+edge u v = record { low = min u v; high = max u v }
+
 -- the use that the step from id u to id v makes of the edge between them: upwards from the lower id to the higher
 unfoldable pub step : ℕ → ℕ → Use Edge
-step u v = record { key = record { low = min u v; high = max u v }; up = ltb u v }
+step u v = record { key = edge u v; up = ltb u v }
 
 -- the uses that one triangle makes: none if it repeats an id
 unfoldable pub around : Triangle → List (Use Edge)

@@ -7,6 +7,7 @@ pub mod EdgeChain
 pub mod FaceNet
 pub mod Meaning
 pub mod Pieces
+pub mod ByIds
 pub mod Classes
 pub mod Lent
 pub mod Examples

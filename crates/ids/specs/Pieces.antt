@@ -1,10 +1,11 @@
--- Pieces: the groups of distinct-id triangles, joined wherever two share an id. What joins two triangles is a parameter of `pieces`.
+-- Pieces (02, A2): the groups of distinct-id triangles, joined wherever two share an undirected edge. What joins two triangles is a
+-- parameter of `pieces`.
 use Prim.Native.Nat.{ℕ, zero, suc}
 use mathlib.Core.Bool.{Bool, false, cond, _||_}
 use mathlib.Core.List.{List, [], _∷_, _++_}
-use lib.Dec.{eqb}
 use lib.ListN.{length}
 use Rattle.ids.specs.Triangles.{Triangle, distinct, triangle, triangleCount}
+use Rattle.ids.specs.EdgeChain.{Edge, edge, sameEdge}
 
 -- does some element pass?
 unfoldable pub any : {A : Type 0} → (A → Bool) → List A → Bool
@@ -26,13 +27,13 @@ unfoldable pub groups : {A : Type 0} → (A → A → Bool) → List A → List 
 groups joined [] = []
 groups joined (t ∷ ts) = (t ∷ touched (joined t) (groups joined ts)) ∷ apart (joined t) (groups joined ts)
 
--- is x one of t's ids?
-unfoldable pub has : Triangle → ℕ → Bool
-has t x = eqb x (t .a) || (eqb x (t .b) || eqb x (t .c))
+-- is e one of t's three edges?
+unfoldable pub hasEdge : Triangle → Edge → Bool
+hasEdge t e = sameEdge e (edge (t .a) (t .b)) || (sameEdge e (edge (t .b) (t .c)) || sameEdge e (edge (t .c) (t .a)))
 
--- what joins two triangles: a shared id
-unfoldable pub shareId : Triangle → Triangle → Bool
-shareId s t = has t (s .a) || (has t (s .b) || has t (s .c))
+-- what joins two triangles: a shared edge
+unfoldable pub shareEdge : Triangle → Triangle → Bool
+shareEdge s t = hasEdge t (edge (s .a) (s .b)) || (hasEdge t (edge (s .b) (s .c)) || hasEdge t (edge (s .c) (s .a)))
 
 -- the numbers below n that pass
 unfoldable pub those : (ℕ → Bool) → ℕ → List ℕ

@@ -6,7 +6,7 @@ use lib.ListN.{length, drop}
 use Rattle.ids.specs.Triangles.{Triangle, distinct, triangle, triangleCount}
 use Rattle.ids.specs.EdgeChain.{boundaryFree, overIncident, closedManifold, windingCoherent}
 use Rattle.ids.specs.FaceNet.{maxAbs, allCancel}
-use Rattle.ids.specs.Pieces.{shareId, pieces}
+use Rattle.ids.specs.Pieces.{shareEdge, pieces}
 
 -- the last two ids swapped
 abbrev pub turnedTriangle : Triangle → Triangle
@@ -38,4 +38,4 @@ pub record ReversedAlike (ids : List ℕ) : Type 0 where
   pub all-cancel : allCancel (reversed ids) ≡ allCancel ids
   pub closed-manifold : closedManifold (reversed ids) ≡ closedManifold ids
   pub winding-coherent : windingCoherent (reversed ids) ≡ windingCoherent ids
-  pub piece-count : pieces shareId (reversed ids) ≡ pieces shareId ids
+  pub piece-count : pieces shareEdge (reversed ids) ≡ pieces shareEdge ids

@@ -8,7 +8,7 @@ use lib.ListN.{length}
 use Rattle.forest.specs.inner.Words.{parentIn, Planted}
 use Rattle.forest.specs.inner.Labels.{LabelledBy, merged, Forest, Joined}
 use Rattle.forest.proofs.Labels.{merged-keeps, merged-inner}
-use Rattle.pieces.specs.inner.Joins.{Linked, Good, Labelled, More, Grown}
+use Rattle.pieces.specs.inner.Joins.{Linked, Good, Labelled, More, Grows}
 
 -- a join of two linked triangles
 module _ {ids t u : List ℕ} {a b : ℕ} (e : length u ≡ length t) (k : Linked ids (length t) a b) (j : Joined t u a b) where
@@ -21,20 +21,16 @@ module _ {ids t u : List ℕ} {a b : ℕ} (e : length u ≡ length t) (k : Linke
             (g .inner h c x l));
       }
 
-  pub more-joined : {Q : (ℕ → ℕ) → Type 0} → ((f : ℕ → ℕ) → Q (merged f a b)) → (f : ℕ → ℕ) → Good ids t f → More ids u f Q
+  pub more-joined : {Q : (ℕ → ℕ) → Type 0} → ((f : ℕ → ℕ) → Q (merged f a b)) → Grows ids t u Q
   more-joined q f g = record { label = merged f a b; good = good-joined f g; keeps = merged-keeps f a b; holds = q f }
 
 -- no join
 pub more-none : {ids t : List ℕ} {f : ℕ → ℕ} {Q : (ℕ → ℕ) → Type 0} → Good ids t f → Q f → More ids t f Q
 more-none {f = f} g q = record { label = f; good = g; keeps = λ x y e. e; holds = q }
 
-pub grown-none : {ids t : List ℕ} {Q : (ℕ → ℕ) → Type 0} → ((f : ℕ → ℕ) → Q f) → Grown ids t t Q
-grown-none q = record { slots = λ i. refl; more = λ f g. more-none g (q f) }
-
 -- one after the other
-pub more-then : {ids t u v : List ℕ} {Q R S : (ℕ → ℕ) → Type 0} → ((f : ℕ → ℕ) → Good ids t f → More ids u f Q)
-    → ((f : ℕ → ℕ) → Good ids u f → More ids v f R)
-    → ((g h : ℕ → ℕ) → Q g → ((x y : ℕ) → g x ≡ g y → h x ≡ h y) → R h → S h) → (f : ℕ → ℕ) → Good ids t f → More ids v f S
+pub more-then : {ids t u v : List ℕ} {Q R S : (ℕ → ℕ) → Type 0} → Grows ids t u Q → Grows ids u v R
+    → ((g h : ℕ → ℕ) → Q g → ((x y : ℕ) → g x ≡ g y → h x ≡ h y) → R h → S h) → Grows ids t v S
 more-then a b s f g =
     let p = a f g in
     let q = b (p .label) (p .good) in
@@ -45,20 +41,7 @@ more-then a b s f g =
       holds = s (p .label) (q .label) (p .holds) (q .keeps) (q .holds);
     }
 
-pub grown-then : {ids t u v : List ℕ} {Q R S : (ℕ → ℕ) → Type 0} → Grown ids t u Q → Grown ids u v R
-    → ((g h : ℕ → ℕ) → Q g → ((x y : ℕ) → g x ≡ g y → h x ≡ h y) → R h → S h) → Grown ids t v S
-grown-then a b s = record { slots = λ i. b .slots i ∙ a .slots i; more = more-then (a .more) (b .more) s }
-
-pub grown-map : {ids t u : List ℕ} {Q S : (ℕ → ℕ) → Type 0} → Grown ids t u Q → ((g : ℕ → ℕ) → Q g → S g) → Grown ids t u S
-grown-map a s =
-    record {
-      slots = a .slots;
-      more = λ f g. let p = a .more f g in
-          record { label = p .label; good = p .good; keeps = p .keeps; holds = s (p .label) (p .holds) };
-    }
-
-pub labelled-then : {ids t u : List ℕ} {Q : (ℕ → ℕ) → Type 0} → Labelled ids t → ((f : ℕ → ℕ) → Good ids t f → More ids u f Q)
-    → Labelled ids u
+pub labelled-then : {ids t u : List ℕ} {Q : (ℕ → ℕ) → Type 0} → Labelled ids t → Grows ids t u Q → Labelled ids u
 labelled-then z more = let p = more (z .0) (z .1) in (p .label, p .good)
 
 pub good-forest : {ids t : List ℕ} → Labelled ids t → Forest t

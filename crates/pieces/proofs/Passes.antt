@@ -1,25 +1,32 @@
--- A pass over the corners: filling the slots, looking the corners behind up, and what a pass leaves settled; then all passes. Assumes
--- nothing.
+-- A pass over the sides: entering some and then others, filling the slots and looking the sides behind up, and what a pass leaves settled;
+-- then all passes over a class, and all classes. Assumes nothing.
 use mathlib.Core.Path.{_≡_, refl, sym, ap, _∙_, subst}
-use mathlib.Core.Bool.{Bool, true, false, true≢false}
+use mathlib.Core.Logic.{_≢_}
+use mathlib.Core.Bool.{Bool, true, _&&_}
 use mathlib.Core.List.{List}
 use Prim.Native.Nat.{ℕ, _+_, _-_, _*_, _/_, _≤_, _<_}
 use native.Mathlib.Omega.{arith}
 use native.Mathlib.Decide.{ℕ-discrete, decLt}
 use lib.ListN.{length}
-use Rattle.forest.specs.inner.Words.{heldIn, Freed}
+use Rattle.ids.specs.Triangles.{triangle}
+use Rattle.ids.specs.EdgeChain.{Edge}
 use Rattle.ids.specs.Pieces.{solid}
-use Rattle.pieces.specs.inner.Joins.{Linked, Good, More, Grown, Whole}
-use Rattle.pieces.specs.inner.Slots.{cornerKey, AllFree, Slots, Has, CornersCovered, Followed, FollowedTo, AllFollowed, Entered}
-use Rattle.pieces.specs.inner.Slots.{SlotsFilled}
-use Rattle.pieces.specs.inner.Slots.{CornersSettled, Swept}
-use Rattle.pieces.proofs.Shared.{key-share}
-use Rattle.pieces.proofs.Joins.{more-none, more-then, grown-map, good-kept}
-use Rattle.pieces.proofs.Rows.{slots-free}
+use Rattle.ids.proofs.Same.{both}
+use Rattle.forest.specs.inner.Words.{heldIn, Freed}
+use Rattle.pieces.specs.inner.Joins.{joins, Linked, Good, More, Grows, Whole}
+use Rattle.pieces.specs.inner.Sides.{sideEdge, edgeClass, taken, sideHome, Slots}
+use Rattle.pieces.specs.inner.Passes.{Has, Covered, Followed, Entered, homeIn, SlotsReady, Enters, Settled, Settles, Tied}
+use Rattle.pieces.specs.declared.Plan.{Plan}
+use Rattle.pieces.proofs.Sides.{share-sides, sides-share, class-below, taken-solid, taken-here}
+use Rattle.pieces.proofs.Joins.{more-none, more-then, labelled-then, good-kept}
 
--- ---- filling
+-- ---- entering
 
--- what is covered stays so where used slots stay and labels get coarser
+-- what `Entered` says of the labels, for slots s before and s′ after
+abbrev Asked : List ℕ → (ℕ → Bool) → ℕ → ℕ → ℕ → (ℕ → ℕ) → (ℕ → ℕ) → Bool → (ℕ → ℕ) → Type 0
+Asked ids take n a b s s′ e f = (e ≡ true → Covered ids take n s′ a b f) × Followed ids take n s a b f
+
+-- what a row has stays so where used slots stay and labels get coarser
 module _ (ids : List ℕ) {n : ℕ} {s s′ f g : ℕ → ℕ} (rows : (r : ℕ) → r < n → 0 < s r → s′ r ≡ s r)
     (keeps : (x y : ℕ) → f x ≡ f y → g x ≡ g y) where
   has-kept : (i : ℕ) → Has ids n s f i → Has ids n s′ g i
@@ -29,155 +36,195 @@ module _ (ids : List ℕ) {n : ℕ} {s s′ f g : ℕ → ℕ} (rows : (r : ℕ)
         r,
         h .1,
         rw e (h .2),
-        ap (λ (x : ℕ). cornerKey ids (x - 1)) e ∙ h .3,
+        ap (λ (x : ℕ). sideEdge ids (x - 1)) e ∙ h .3,
         ap (λ (x : ℕ). g ((x - 1) / 3)) e
             ∙ keeps ((s r - 1) / 3) (i / 3) (h .4),
       )
 
-  covered-kept : (a b : ℕ) → CornersCovered ids n s f a b → CornersCovered ids n s′ g a b
-  covered-kept a b c i la lb si = has-kept i (c i la lb si)
+module _ {ids : List ℕ} {home : Edge → ℕ} {limit n : ℕ} {take : ℕ → Bool} {spare spare′ a b b′ c : ℕ} {t u v : List ℕ} {e e′ : Bool}
+    (p : Entered ids home limit n take spare a b t u e) (q : Entered ids home limit n take spare′ b′ c u v e′)
+    (none : spare ≡ 0 → spare′ ≡ 0) where
+  rows-then : (r : ℕ) → r < n → 0 < heldIn t r → heldIn v r ≡ heldIn t r
+  rows-then r l used = q .rows r l (omega (arith, p .rows r l used)) ∙ p .rows r l used
 
-  covered-next : (a b : ℕ) → CornersCovered ids n s f a b → (solid ids (b / 3) ≡ true → Has ids n s′ g b)
-      → CornersCovered ids n s′ g a (b + 1)
-  covered-next a b c h i la lb si = go (ℕ-discrete i b)
-    where
-      go : Dec (i ≡ b) → Has ids n s′ g i
-      go (yes e) = subst (Has ids n s′ g) (sym e) (h (subst (λ (x : ℕ). solid ids (x / 3) ≡ true) e si))
-      go (no ne) = has-kept i (c i la (omega arith) si)
+  same-then : spare ≡ 0 → (i : ℕ) → heldIn v i ≡ heldIn t i
+  same-then z i = q .same (none z) i ∙ p .same z i
 
--- as far as corner c, with so many slots to spare
-pub record Filling (ids : List ℕ) (odd limit n from c spare : ℕ) (t u : List ℕ) : Type 0 where
-  pub begun : from ≤ c
-  pub within : c ≤ 3 * n
-  pub slots : Slots ids odd limit n (heldIn u)
-  pub more : (f : ℕ → ℕ) → Good ids t f → More ids u f (λ g. CornersCovered ids n (heldIn u) g from c)
-  pub fresh : c ≡ from → AllFree n (heldIn u) × (0 < spare)
-
-module _ {ids : List ℕ} {odd limit n from spare : ℕ} {t : List ℕ} where
-  pub filling-none : from ≤ 3 * n → AllFree n (heldIn t) → 0 < spare → Filling ids odd limit n from from spare t t
-  filling-none l free some =
+  -- what was entered stays so, whatever is entered then
+  pub entered-kept : Entered ids home limit n take spare a b t v e
+  entered-kept =
       record {
-        begun = omega arith;
-        within = l;
-        slots = slots-free free;
-        more = λ f g. more-none g (λ i la lb. absurd (omega arith));
-        fresh = λ e. (free, some);
+        slots = q .slots;
+        rows = rows-then;
+        same = same-then;
+        more = more-then (p .more) (q .more) (λ g h old keeps new. (
+          λ z i la lb tk. has-kept ids (q .rows) keeps i (old .0 z i la lb tk),
+          λ i la lb tk r lr used k. keeps ((heldIn t r - 1) / 3) (i / 3) (old .1 i la lb tk r lr used k),
+        ));
       }
 
-  module _ {c : ℕ} {u v : List ℕ} (z : Filling ids odd limit n from c spare t u) {entered : Bool}
-      (w : Entered ids odd limit n spare c u v entered) where
-    -- corner c is entered
-    pub filling-next : (left : ℕ) → c < 3 * n → entered ≡ true → Filling ids odd limit n from (c + 1) left t v
-    filling-next left l yes-entered =
-        record {
-          begun = omega (arith, z .begun);
-          within = omega arith;
-          slots = w .slots;
-          more = more-then (z .more) (w .more) (λ g h cov keeps has. covered-next ids (w .rows) keeps from c cov (has .0 yes-entered));
-          fresh = λ e. absurd (omega (arith, z .begun));
-        }
+  -- sides up to b, and those from b on
+  pub entered-then : b′ ≡ b → Entered ids home limit n take spare a c t v (e && e′)
+  entered-then on =
+      record {
+        slots = q .slots;
+        rows = rows-then;
+        same = same-then;
+        more = more-then (p .more) (q .more) (λ g h old keeps new. (covered g h old keeps new, followed g h old keeps new));
+      }
+    where
+      covered : (g h : ℕ → ℕ) → Asked ids take n a b (heldIn t) (heldIn u) e g → ((x y : ℕ) → g x ≡ g y → h x ≡ h y) → Asked ids take n b′ c (heldIn u) (heldIn v) e′ h → e && e′ ≡ true
+          → Covered ids take n (heldIn v) a c h
+      covered g h old keeps new z i la lc tk =
+          elim (decLt i b) [
+            | yes l ↦ has-kept ids (q .rows) keeps i (old .0 (both e e′ z .0) i la l tk)
+            | no l ↦ new .0 (both e e′ z .1) i (omega arith) lc tk
+          ]
 
-    -- or not, and the filling ends
-    pub filled-short : entered ≡ false → SlotsFilled ids odd limit n from c t v
-    filled-short not-entered =
-        record {
-          within = z .within;
-          ahead = λ l. elim (ℕ-discrete c from) [
-            | yes e ↦ (let k = z .fresh e in let q : true ≡ false = sym (w .fresh (k .0) (k .1)) ∙ not-entered in absurd (true≢false q))
-            | no ne ↦ omega (arith, z .begun)
-          ];
-          slots = w .slots;
-          more = more-then (z .more) (w .more) (λ g h cov keeps has. covered-kept ids (w .rows) keeps from c cov);
-        }
+      followed : (g h : ℕ → ℕ) → Asked ids take n a b (heldIn t) (heldIn u) e g → ((x y : ℕ) → g x ≡ g y → h x ≡ h y) → Asked ids take n b′ c (heldIn u) (heldIn v) e′ h → Followed ids take n (heldIn t) a c h
+      followed g h old keeps new i la lc tk r lr used k =
+          let stays : heldIn u r ≡ heldIn t r = p .rows r lr used in
+          elim (decLt i b) [
+            | yes l ↦ keeps ((heldIn t r - 1) / 3) (i / 3) (old .1 i la l tk r lr used k)
+            | no l ↦ ap (λ (x : ℕ). h ((x - 1) / 3)) (sym stays)
+                ∙ new .1 i (omega arith) lc tk r lr (omega arith) (ap (λ (x : ℕ). sideEdge ids (x - 1)) stays ∙ k)
+          ]
 
-  -- all corners are entered
-  pub filled-all : {c : ℕ} {u : List ℕ} → Filling ids odd limit n from c spare t u → 3 * n ≤ c → SlotsFilled ids odd limit n from c t u
-  filled-all z l = record { within = z .within; ahead = λ m. omega arith; slots = z .slots; more = z .more }
+-- ---- the same by a plan
+
+-- words in a pass are so after it entered sides
+pub ready-then : (plan : Plan) {ids t u : List ℕ} {spare a b : ℕ} {e : Bool} → SlotsReady plan ids t → length u ≡ length t
+    → Enters plan ids spare a b t u e → SlotsReady plan ids u
+ready-then plan z long p =
+    record {
+      sized = record { few = z .sized .few; long = long ∙ z .sized .long };
+      limited = (z .limited .0, omega (arith, z .limited .1));
+      slots = rw long (p .slots);
+      labelled = labelled-then (z .labelled) (p .more);
+    }
+
+module _ (plan : Plan) {ids t u v : List ℕ} {spare spare′ a b b′ c : ℕ} {e e′ : Bool} (long : length u ≡ length t)
+    (p : Enters plan ids spare a b t u e) (q : Enters plan ids spare′ b′ c u v e′) (none : spare ≡ 0 → spare′ ≡ 0) where
+  on : Entered ids (homeIn plan t) (plan .limit) (length t) (taken ids (plan .class)) spare′ b′ c u v e′
+  on =
+      subst (λ (n : ℕ). Entered ids (sideHome (plan .low) (plan .high) n) (plan .limit) n (taken ids (plan .class)) spare′ b′ c u v e′)
+      long q
+
+  pub enters-kept : Enters plan ids spare a b t v e
+  enters-kept = entered-kept p on none
+
+  pub enters-then : b′ ≡ b → Enters plan ids spare a c t v (e && e′)
+  enters-then next = entered-then p on none next
 
 -- ---- a pass
 
--- entering corner c with no slot to fill only looks it up
-pub looked-up : {ids : List ℕ} {odd limit n c : ℕ} {t u : List ℕ} {entered : Bool} → Entered ids odd limit n 0 c t u entered
-    → Grown ids t u (Followed ids n (heldIn t) c)
-looked-up w = grown-map (record { slots = w .same refl; more = w .more }) (λ g p. p .1)
-
--- one corner more is looked up
-pub followed-next : (ids : List ℕ) (n : ℕ) (s : ℕ → ℕ) (a b : ℕ) (g h : ℕ → ℕ) → FollowedTo ids n s a b g
-    → ((x y : ℕ) → g x ≡ g y → h x ≡ h y) → Followed ids n s b h → FollowedTo ids n s a (b + 1) h
-followed-next ids n s a b g h p keeps last i la lb = go (ℕ-discrete i b)
+-- sides entered before b, and all from b on looked up
+settled : {ids : List ℕ} {home : Edge → ℕ} {limit n : ℕ} {take : ℕ → Bool} {a b : ℕ} {s g h : ℕ → ℕ} → Slots ids home limit n s
+    → Covered ids take n s a b g → ((x y : ℕ) → g x ≡ g y → h x ≡ h y) → Followed ids take n s b (3 * n) h → Settled ids take n a b h
+settled {ids} {home} {limit} {n} {take} {a} {b} {s} {g} {h} z cov keeps fol i j la lb le lj ti tj e = go (decLt j b)
   where
-    go : Dec (i ≡ b) → Followed ids n s i h
-    go (yes e) = subst (λ (x : ℕ). Followed ids n s x h) (sym e) last
-    go (no ne) = λ si r lr used k. keeps ((s r - 1) / 3) (i / 3) (p i la (omega arith) si r lr used k)
+    first : Has ids n s g i
+    first = cov i la lb ti
 
--- corners entered before `next`, and all behind looked up
-settled : {ids : List ℕ} {odd limit n from next : ℕ} {s g h : ℕ → ℕ} → Slots ids odd limit n s → CornersCovered ids n s g from next
-    → ((x y : ℕ) → g x ≡ g y → h x ≡ h y) → FollowedTo ids n s next (3 * n) h → CornersSettled ids n from next h
-settled {ids} {odd} {limit} {n} {from} {next} {s} {g} {h} z cov keeps fol i j la lb le lj si sj e = go (decLt j next)
-  where
-    a : Has ids n s g i
-    a = cov i la lb si
-
-    go : Dec (j < next) → h (i / 3) ≡ h (j / 3)
+    go : Dec (j < b) → h (i / 3) ≡ h (j / 3)
     go (yes l) =
-        let b = cov j (omega arith) l sj in
-        let one : a .0 ≡ b .0 = z .spread .one (a .0) (b .0) (a .1) (a .2) (b .1) (b .2) (a .3 ∙ e ∙ sym (b .3)) in
-        keeps (i / 3) (j / 3) (sym (a .4) ∙ ap (λ (r : ℕ). g ((s r - 1) / 3)) one ∙ b .4)
-    go (no l) = sym (keeps ((s (a .0) - 1) / 3) (i / 3) (a .4)) ∙ fol j (omega arith) lj sj (a .0) (a .1) (a .2) (a .3 ∙ e)
+        let then = cov j (omega arith) l tj in
+        let one : first .0 ≡ then .0 =
+        z .spread .one (first .0) (then .0) (first .1) (first .2) (then .1) (then .2) (first .3 ∙ e ∙ sym (then .3)) in
+        keeps (i / 3) (j / 3) (sym (first .4) ∙ ap (λ (r : ℕ). g ((s r - 1) / 3)) one ∙ then .4)
+    go (no l) =
+        sym (keeps ((s (first .0) - 1) / 3) (i / 3) (first .4))
+        ∙ fol j (omega arith) lj tj (first .0) (first .1) (first .2) (first .3 ∙ e)
 
--- the slots freed, filled, and the corners behind looked up
-pub swept : {ids : List ℕ} {odd limit n from next : ℕ} {t u v w : List ℕ} → length u ≡ length t → Freed n t u
-    → SlotsFilled ids odd limit n from next u v
-    → length v ≡ n → Grown ids v w (AllFollowed ids v next) → from < 3 * n → Swept ids n from next t w
-swept {ids = ids} {next = next} {v = v} {w = w} lu freed fill lv all l =
-    let rest = subst (λ (k : ℕ). Grown ids v w (FollowedTo ids k (heldIn v) next (3 * k))) lv all in
-    record {
-      within = fill .within;
-      ahead = fill .ahead l;
-      more = more-then (λ f g. fill .more f (good-kept lu (freed .parents) g)) (rest .more) (λ g h. settled (fill .slots));
+-- the slots freed, filled, and the sides behind looked up
+pub swept : {ids : List ℕ} {home : Edge → ℕ} {limit m n : ℕ} {take : ℕ → Bool} {spare spare′ a b : ℕ} {t u v w : List ℕ} {e : Bool}
+    → length u ≡ length t → Freed m t u
+    → Entered ids home limit n take spare a b u v true → Entered ids home limit n take spare′ b (3 * n) v w e
+    → Settles ids take n a b t w
+swept long freed fill rest =
+    more-then (λ f g. fill .more f (good-kept long (freed .parents) g)) (rest .more)
+    (λ g h cov keeps fol. settled (fill .slots) (cov .0 refl) keeps (fol .1))
+
+-- one triangle by itself
+pub settled-one : {ids : List ℕ} {n : ℕ} (q : ℕ) {t : ℕ} {f : ℕ → ℕ} → t < n → Tied ids n t (t + 1) n f
+    → Settled ids (taken ids q) n (3 * t) (3 * (t + 1)) f
+settled-one {ids} {n} q {t} {f} lt tied i j la lb le lj ti tj e = go (ℕ-discrete (j / 3) t)
+  where
+    at : i / 3 ≡ t
+    at = omega arith
+
+    link : j / 3 ≢ t → Linked ids n t (j / 3)
+    link ne = record {
+      within = (lt, omega arith);
+      solids = (subst (λ (x : ℕ). solid ids x ≡ true) at (taken-solid ids q i ti), taken-solid ids q j tj);
+      share = subst (λ (x : ℕ). joins (triangle ids x) (triangle ids (j / 3)) ≡ true) at (share-sides ids i j e);
     }
+
+    go : Dec (j / 3 ≡ t) → f (i / 3) ≡ f (j / 3)
+    go (yes z) = ap f (at ∙ sym z)
+    go (no ne) = ap f at ∙ tied (j / 3) (omega arith) (omega arith) (link ne)
+
+-- one more triangle
+pub tied-then : {ids : List ℕ} {n s a b : ℕ} {t u v : List ℕ} → Grows ids t u (Tied ids n s a b) → Grows ids u v (Tied ids n s b (b + 1))
+    → Grows ids t v (Tied ids n s a (b + 1))
+tied-then {s = s} {b = b} p q = more-then p q (λ g h old keeps new j la lb k.
+    elim (decLt j b) [ yes l ↦ keeps s j (old j la l k) | no l ↦ new j (omega arith) lb k ])
 
 -- ---- all passes
 
--- the corners before c are settled
-pub record Joining (ids t : List ℕ) (n c : ℕ) : Type 0 where
+pub settles-none : (ids : List ℕ) (take : ℕ → Bool) (n a : ℕ) {t : List ℕ} → Settles ids take n a a t t
+settles-none ids take n a f g = more-none g (λ i j la lb. absurd (omega arith))
+
+pub settles-then : (ids : List ℕ) (take : ℕ → Bool) (n a b c : ℕ) {t u v : List ℕ} → Settles ids take n a b t u
+    → Settles ids take n b c u v → Settles ids take n a c t v
+settles-then ids take n a b c p q = more-then p q (λ g h old keeps new i j la lc le lj ti tj e.
+    elim (decLt i b) [
+      | yes l ↦ keeps (i / 3) (j / 3) (old i j la l le lj ti tj e)
+      | no l ↦ new i j (omega arith) lc le lj ti tj e
+    ])
+
+-- the sides of the classes below q are settled
+pub record Joining (ids t : List ℕ) (n q : ℕ) : Type 0 where
   pub label : ℕ → ℕ
   pub good : Good ids t label
-  pub done : CornersSettled ids n 0 c label
-  pub within : c ≤ 3 * n
+  pub done : (p : ℕ) → p < q → Settled ids (taken ids p) n 0 (3 * n) label
 
 pub joining-none : {ids t : List ℕ} {n : ℕ} {f : ℕ → ℕ} → Good ids t f → Joining ids t n 0
-joining-none {f = f} g = record { label = f; good = g; done = λ i j la lb. absurd (omega arith); within = omega arith }
+joining-none {f = f} g = record { label = f; good = g; done = λ p l. absurd (omega arith) }
 
-pub joining-next : {ids t u : List ℕ} {n c d : ℕ} → Joining ids t n c → Swept ids n c d t u → Joining ids u n d
-joining-next {ids} {t} {u} {n} {c} {d} z w = record { label = p .label; good = p .good; done = done; within = w .within }
+pub joining-next : {ids t u : List ℕ} {n q : ℕ} → Joining ids t n q → Settles ids (taken ids q) n 0 (3 * n) t u → Joining ids u n (q + 1)
+joining-next {ids} {t} {u} {n} {q} z w = record { label = new .label; good = new .good; done = done }
   where
-    p : More ids u (z .label) (CornersSettled ids n c d)
-    p = w .more (z .label) (z .good)
+    new : More ids u (z .label) (Settled ids (taken ids q) n 0 (3 * n))
+    new = w (z .label) (z .good)
 
-    done : CornersSettled ids n 0 d (p .label)
-    done i j la lb le lj si sj e =
-        elim (decLt i c) [
-          | yes l ↦ p .keeps (i / 3) (j / 3) (z .done i j la l le lj si sj e)
-          | no l ↦ p .holds i j (omega arith) lb le lj si sj e
+    done : (p : ℕ) → p < q + 1 → Settled ids (taken ids p) n 0 (3 * n) (new .label)
+    done p l i j la lb le lj ti tj e =
+        elim (decLt p q) [
+          | yes old ↦ new .keeps (i / 3) (j / 3) (z .done p old i j la lb le lj ti tj e)
+          | no now ↦ (let same : p ≡ q = omega arith in
+              new .holds i j la lb le lj (subst (λ (x : ℕ). taken ids x i ≡ true) same ti) (subst (λ (x : ℕ). taken ids x j ≡ true) same tj) e)
         ]
 
-pub joined-all : {ids t : List ℕ} {n c : ℕ} → length t ≡ n → Joining ids t n c → 3 * n ≤ c → Whole ids t
-joined-all {ids} {t} {n} {c} long z l = record { label = z .label; good = z .good; follows = follows }
+-- linked triangles have sides with one edge, and its class is one of the three
+pub joined-all : {ids t : List ℕ} {n q : ℕ} → length t ≡ n → Joining ids t n q → 3 ≤ q → Whole ids t
+joined-all {ids} {t} {n} {q} long z three = record { label = z .label; good = z .good; follows = follows }
   where
     follows : (x y : ℕ) → Linked ids (length t) x y → z .label x ≡ z .label y
     follows x y k =
-        let r = key-share ids x y (k .share) in
+        let r = sides-share ids x y (k .share) in
         let i = r .0 in
         let j = r .1 in
         let ei : i / 3 ≡ x = r .2 in
         let ej : j / 3 ≡ y = r .3 in
-        let si : solid ids (i / 3) ≡ true = ap (solid ids) ei ∙ k .solids .0 in
-        let sj : solid ids (j / 3) ≡ true = ap (solid ids) ej ∙ k .solids .1 in
+        let p = edgeClass (sideEdge ids i) in
+        let lp : p < q = omega (arith, class-below (sideEdge ids i)) in
+        let ti : taken ids p i ≡ true = taken-here ids p i (ap (solid ids) ei ∙ k .solids .0) refl in
+        let tj : taken ids p j ≡ true = taken-here ids p j (ap (solid ids) ej ∙ k .solids .1) (ap edgeClass (sym (r .4))) in
         let li : i < 3 * n = omega (arith, k .within .0) in
         let lj : j < 3 * n = omega (arith, k .within .1) in
         let one : z .label (i / 3) ≡ z .label (j / 3) = elim (decLt j i) [
-          | yes m ↦ sym (z .done j i (omega arith) (omega arith) (omega arith) li sj si (sym (r .4)))
-          | no m ↦ z .done i j (omega arith) (omega arith) (omega arith) lj si sj (r .4)
+          | yes m ↦ sym (z .done p lp j i (omega arith) lj (omega arith) li tj ti (sym (r .4)))
+          | no m ↦ z .done p lp i j (omega arith) li (omega arith) lj ti tj (r .4)
         ] in
         sym (ap (z .label) ei) ∙ one ∙ ap (z .label) ej

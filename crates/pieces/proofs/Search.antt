@@ -6,22 +6,24 @@ use native.Mathlib.Omega.{arith}
 use Rattle.table.specs.inner.Rows.{nextRow, dist}
 use Rattle.table.proofs.Search.{dist-here, home-below}
 use Rattle.table.proofs.Turn.{Looking, look-first, turn-ends, turn-through, turn-next}
-use Rattle.pieces.specs.inner.Slots.{cornerHome, Sought}
+use Rattle.ids.specs.EdgeChain.{Edge}
+use Rattle.pieces.specs.inner.Sides.{sideHome, Sought}
 
-pub home-in : (odd n k : ℕ) → 0 < n → cornerHome odd n k < n
-unfolding cornerHome
-home-in odd n k some = home-below n ((k * odd) % 4294967296) some (omega arith)
+pub home-in : (low high n : ℕ) (e : Edge) → 0 < n → sideHome low high n e < n
+unfolding sideHome
+home-in low high n e some =
+    home-below n (((e .low * low) % 4294967296 + (e .high * high) % 4294967296) % 4294967296) some (omega arith)
 
 -- the search stands at row r, with so many rows left
-pub record Seeking (n limit at : ℕ) (key mark : ℕ → ℕ) (k r left : ℕ) : Type 0 where
+pub record Seeking {K : Type 0} (n limit at : ℕ) (key : ℕ → K) (mark : ℕ → ℕ) (k : K) (r left : ℕ) : Type 0 where
   pub looking : Looking n at key mark k r
   pub rows : dist n at r + left ≡ limit
   pub some : 0 < left
 
-pub seek-first : {n limit at : ℕ} {key mark : ℕ → ℕ} {k : ℕ} → at < n → 0 < limit → Seeking n limit at key mark k at limit
+pub seek-first : {K : Type 0} {n limit at : ℕ} {key : ℕ → K} {mark : ℕ → ℕ} {k : K} → at < n → 0 < limit → Seeking n limit at key mark k at limit
 seek-first {n = n} {at = at} home some = record { looking = look-first home; rows = omega (arith, dist-here n at home); some = some }
 
-module _ {n limit at : ℕ} {key mark : ℕ → ℕ} {k r left : ℕ} (s : Seeking n limit at key mark k r left) where
+module _ {K : Type 0} {n limit at : ℕ} {key : ℕ → K} {mark : ℕ → ℕ} {k : K} {r left : ℕ} (s : Seeking n limit at key mark k r left) where
   pub seek-ends : (0 < mark r → key r ≡ k) → Sought n limit at key mark k r
   seek-ends h =
       let inside = s .looking .within in

@@ -8,7 +8,7 @@ use native.Mathlib.Omega.{arith}
 use lib.ListN.{length, take, drop, length-append}
 use lib.Seq.{take-append-seam}
 use lib.Ieee.{Float}
-use Rattle.ids.specs.Pieces.{shareId, pieces}
+use Rattle.ids.specs.Pieces.{shareEdge, pieces}
 use Rattle.rows.specs.declared.PlanarSurface.{PlanarSurface}
 use Rattle.rows.specs.Rows.{flatten, rowsOf}
 use Rattle.rows.proofs.Flat.{rows-flat, length-flatten}
@@ -36,7 +36,7 @@ rows-first rows l = rw (← length-flatten rows, take-append-seam (flatten rows)
 
 answerText : List ℕ → Bool → Profile → List Float → Answer → List ℕ
 answerText ids clip profile s (Answer.Record q) =
-    listingOf (flagged clip profile q) (rowsOf (take (4 * q .«surface_count») s)) (pieces shareId ids)
+    listingOf (flagged clip profile q) (rowsOf (take (4 * q .«surface_count») s)) (pieces shareEdge ids)
 answerText ids clip profile s (Answer.Refused n) = refusedLine n
 
 answerRows : Answer → ℕ
@@ -77,7 +77,7 @@ module _ (vs : List Float) (ids : List ℕ) (u : Float) (clip : Bool) (profile :
       text-of = rw (made .answers, made .surfaces, text-by (checkOf vs ids u (length w) (length r) (length s)), hw, hr, hs)
 
       pub record-text : (q : MeshQto) → a ≡ Answer.Record q
-          → listingOf (flagged clip profile q) (rowsOf (take (4 * q .«surface_count») s′)) (pieces shareId ids)
+          → listingOf (flagged clip profile q) (rowsOf (take (4 * q .«surface_count») s′)) (pieces shareEdge ids)
           ≡ meshText vs ids u clip profile
       unfolding answerText
       record-text q e = sym (ap (answerText ids clip profile s′) e) ∙ text-of

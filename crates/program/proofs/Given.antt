@@ -9,7 +9,7 @@ use lib.ListN.{length, take}
 use lib.Ieee.{Float}
 use Rattle.ids.specs.Triangles.{triangleCount}
 use Rattle.ids.specs.Lent.{refusal, unlessRefused, mostEntries}
-use Rattle.ids.specs.Pieces.{shareId, pieces}
+use Rattle.ids.specs.Pieces.{shareEdge, pieces}
 use Rattle.rows.specs.Rows.{rowsOf}
 use Rattle.record.specs.declared.MeshQto.{MeshQto}
 use Rattle.record.specs.declared.Profile.{Profile}
@@ -29,7 +29,7 @@ countIn (PieceCount.Refused n) = 0
 
 pub pieces-counted : (ids area : List ℕ) (r : PieceCount) (after : List ℕ) → length ids ≤ 1536 → 512 ≤ length area
     → PiecesGiven ids area r after
-    → countIn r ≡ pieces shareId ids
+    → countIn r ≡ pieces shareEdge ids
 unfolding countIn unlessRefused refusal
 pieces-counted ids area r after hi ha given =
     rw (given .answers, le-ltb mostEntries (length ids) (omega arith), le-ltb (length area) (triangleCount ids) (omega arith))

@@ -2,7 +2,7 @@
 use mathlib.Core.Path.{_≡_}
 use mathlib.Core.List.{List}
 use Prim.Native.Nat.{ℕ}
-use Rattle.ids.specs.Pieces.{shareId, pieces}
+use Rattle.ids.specs.Pieces.{shareEdge, pieces}
 use Rattle.ids.specs.Reversed.{reversed}
 use Rattle.refusals.specs.declared.Check.{Check}
 use Rattle.glove.specs.Turned.{TurnedRecords}
@@ -21,8 +21,8 @@ IsFull m = checkMesh (meshFloats m) (m .ids) (meshUnit m) ≡ Check.Full
 -- stands behind top and bottom has changed places; volume is negated, and a zero may have either sign. The rows are those of the first with
 -- opposite normals, put in order.
 pub record TurnedListings (m m′ : Contents) (text text′ : List ℕ) : Type 0 where
-  pub lists : text ≡ listingOf (meshRecord m) (meshRows m) (pieces shareId (m .ids))
-  pub lists′ : text′ ≡ listingOf (meshRecord m′) (turnedRows (meshRows m)) (pieces shareId (m .ids))
+  pub lists : text ≡ listingOf (meshRecord m) (meshRows m) (pieces shareEdge (m .ids))
+  pub lists′ : text′ ≡ listingOf (meshRecord m′) (turnedRows (meshRows m)) (pieces shareEdge (m .ids))
   pub turned : TurnedRecords (meshRecord m) (meshRecord m′)
 
 pub record TurnedTexts (m m′ : Contents) (text text′ : List ℕ) : Type 0 where

@@ -5,7 +5,7 @@ use Prim.Native.Nat.{ℕ}
 use lib.Dec.{T, eqb}
 use lib.IntN.{ℤ}
 use lib.Ieee.{Float, binary32, ofBits}
-use Rattle.ids.specs.Pieces.{shareId, pieces}
+use Rattle.ids.specs.Pieces.{shareEdge, pieces}
 use Rattle.rows.specs.declared.PlanarSurface.{PlanarSurface}
 use Rattle.verdict.specs.declared.Quality.{Quality}
 use Rattle.record.specs.declared.MeshQto.{MeshQto}
@@ -45,8 +45,8 @@ pub record IsOpen (m : Contents) : Type 0 where
 -- the listings of their records, with the same rows and pieces: they differ in four lines at most, which are reliable, method, best and
 -- prism
 pub record OpenListings (m m′ : Contents) (text text′ : List ℕ) : Type 0 where
-  pub lists : text ≡ listingOf (meshRecord m) (meshRows m) (pieces shareId (m .ids))
-  pub lists′ : text′ ≡ listingOf (meshRecord m′) (meshRows m) (pieces shareId (m .ids))
+  pub lists : text ≡ listingOf (meshRecord m) (meshRows m) (pieces shareEdge (m .ids))
+  pub lists′ : text′ ≡ listingOf (meshRecord m′) (meshRows m) (pieces shareEdge (m .ids))
   pub is-open : IsOpen m′
   pub agree : AgreeButBest (meshRecord m) (meshRecord m′)
 

@@ -6,7 +6,7 @@ use mathlib.Core.List.{List, [], _++_}
 use lib.Dec.{eqb}
 use lib.ListN.{length, drop}
 use lib.Ieee.{Float, binary32, ofBits}
-use Rattle.ids.specs.Pieces.{shareId, pieces}
+use Rattle.ids.specs.Pieces.{shareEdge, pieces}
 use Rattle.rows.specs.declared.PlanarSurface.{PlanarSurface}
 use Rattle.record.specs.declared.MeshQto.{MeshQto}
 use Rattle.record.specs.declared.Profile.{Profile}
@@ -24,7 +24,7 @@ use Rattle.listing.specs.Listing.{listingOf, refusedLine}
 
 -- the record with its flags, listed with its rows and the pieces of the ids
 unfoldable pub listed : List ℕ → Bool → Profile → MeshQto → List PlanarSurface → List ℕ
-listed ids clip profile q rows = listingOf (flagged clip profile q) rows (pieces shareId ids)
+listed ids clip profile q rows = listingOf (flagged clip profile q) rows (pieces shareEdge ids)
 
 -- by what 01's table says: `refused N`, or the listing; the zero record has one too
 unfoldable pub textAt : Check → List Float → List ℕ → Float → Bool → Profile → List ℕ

@@ -2,7 +2,7 @@
 ghost use mathlib.Core.Path.{_≡_};
 ghost use Prim.Native.Nat.{_+_, _*_, _/_, _≤_};
 ghost use lib.ListN.{length, take};
-ghost use Rattle.ids.specs.Pieces.{shareId, pieces as piecesIn};
+ghost use Rattle.ids.specs.Pieces.{shareEdge, pieces as piecesIn};
 ghost use Rattle.rows.specs.Rows.{rowsOf};
 ghost use Rattle.record.specs.Flags.{flagged};
 ghost use Rattle.listing.specs.Listing.{listingOf, refusedLine};
@@ -25,7 +25,7 @@ pub const TEXT: usize = 18784;
 // The number of pieces: with this work area it is never refused.
 fn pieces_of(ids: &[u32], work: &mut [u32]) -> u32
     requires { ⌜ (length (now ids) ≤ 1536) × (512 ≤ length (now work)) ⌝ }
-    ensures { λ r. ⌜ r ≡ piecesIn shareId (now (ids .entry)) ⌝ }
+    ensures { λ r. ⌜ r ≡ piecesIn shareEdge (now (ids .entry)) ⌝ }
 {
     let count = pieces::pieces(ids, work);
     match count {

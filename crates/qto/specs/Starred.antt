@@ -8,7 +8,7 @@ use Rattle.ieee.specs.Integral.{halfAway}
 use Rattle.ieee.specs.Root.{root}
 use Rattle.ids.specs.EdgeChain.{boundaryFree, overIncident, closedManifold}
 use Rattle.ids.specs.FaceNet.{maxAbs, allCancel}
-use Rattle.ids.specs.Pieces.{shareId, pieces}
+use Rattle.ids.specs.Pieces.{shareEdge, pieces}
 use Rattle.ids.specs.Examples.{tetrahedron, neighbour}
 use Rattle.volume.specs.declared.Method.{Method}
 use Rattle.record.specs.declared.MeshQto.{MeshQto}
@@ -20,7 +20,7 @@ pub record Starred : Type 0 where
   -- 012 023 031 132: boundary-free, no face sum above 1, one piece
   pub tetrahedron-free : boundaryFree tetrahedron ≡ true
   pub tetrahedron-faces : maxAbs tetrahedron ≡ 1
-  pub tetrahedron-pieces : pieces shareId tetrahedron ≡ 1
+  pub tetrahedron-pieces : pieces shareEdge tetrahedron ≡ 1
   -- 012 210 333: boundary-free, faces cancel
   pub sheet-free : boundaryFree (0 ∷ 1 ∷ 2 ∷ 2 ∷ 1 ∷ 0 ∷ 3 ∷ 3 ∷ 3 ∷ []) ≡ true
   pub sheet-cancels : allCancel (0 ∷ 1 ∷ 2 ∷ 2 ∷ 1 ∷ 0 ∷ 3 ∷ 3 ∷ 3 ∷ []) ≡ true
@@ -48,4 +48,4 @@ pub record Starred : Type 0 where
   pub defect-alone : (q : MeshQto) (d : ProfileDefect) → q .«volume_method» ≡ Method.Mesh
       → flagged false (Profile.Invalid d) q .«volume_method» ≡ Method.MeshProfileInvalid
   -- two tetrahedra sharing one id: one piece
-  pub one-common-id : pieces shareId (tetrahedron ++ neighbour) ≡ 1
+  pub one-common-id : pieces shareEdge (tetrahedron ++ neighbour) ≡ 1

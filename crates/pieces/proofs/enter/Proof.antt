@@ -1,101 +1,127 @@
--- `pieces::enter` meets its contract. A corner of a repeated-id triangle asks for nothing; a row found is joined, a free one filled.
--- Assumes nothing.
-use mathlib.Core.Path.{_≡_, refl, sym, _∙_}
-use mathlib.Core.Bool.{false, true≢false}
-use Prim.Native.Nat.{_/_}
+-- `pieces::enter` meets its contract: one side after the other. Assumes nothing.
+use mathlib.Core.Path.{_≡_, sym, ap, _∙_, subst}
+use mathlib.Core.Bool.{true, false, _&&_}
+use Prim.Native.Nat.{ℕ, _+_, _*_, _/_, min, max}
 use native.Mathlib.Omega.{arith}
 use borrow.Author.Tests.{not-true, not-false}
 use borrow.Author.Needs.{needs}
+use Rattle.ids.specs.Triangles.{triangle}
+use Rattle.ids.specs.EdgeChain.{Edge, edge}
 use Rattle.ids.specs.Pieces.{solid}
-use Rattle.pieces.proofs.Joins.{good-forest}
-use Rattle.pieces.proofs.Search.{home-in}
-use Rattle.pieces.proofs.Rows.{followed-past, followed-free, entered-same, never-past, AtRow, entered-joined, entered-held}
+use Rattle.ids.proofs.Shared.{side}
+use Rattle.pieces.specs.inner.Passes.{SlotsReady, Enters}
+use Rattle.pieces.proofs.Sides.{side-at, side-first, flat-not}
+use Rattle.pieces.proofs.Rows.{entered-none}
+use Rattle.pieces.proofs.Passes.{ready-then, enters-then}
 use Rattle.pieces.proofs.enter.Statement.{statement}
 use Rattle.pieces.proofs.enter.Tie as tie
 
-distinct-at-requires : tie.Need-distinct-at-requires
-distinct-at-requires c κs =
-    let st = c .before .before in
-    record { few = st .pre .0 .sized .few; here = omega (arith, st .pre .0 .sized .long) }
-
 returns : tie.Need-returns
-unfolding solid
+unfolding solid triangle
 returns c =
-    let test = c .before in
-    let st = test .before .before .before in
-    let flat : solid (st .args .ids .now) (st .args .c / 3) ≡ false = sym (test .distinct-at .ensures)
-    ∙ not-true (test .distinct-at .result) (c .if1 .taken) in
-    entered-same (st .pre .0 .slots) (λ e y. true≢false (sym y ∙ flat)) (λ f y. absurd (true≢false (sym y ∙ flat))) (λ free some. refl)
+    let st = c .before .before .before .before .before .before .before in
+    let ids = st .args .ids .now in
+    let t = st .args .t in
+    let told = c .before .distinct in
+    let flat : solid ids t ≡ false = sym (told .ensures) ∙ not-true (told .result) (c .if1 .taken) in (
+      entered-none (st .pre .0 .slots) (λ i la lb. let e : i / 3 ≡ t = omega arith in
+          flat-not ids (st .args .plan .class) i (ap (solid ids) e ∙ flat)),
+      omega arith,
+    )
 
--- where the search came back, in the end from the start
-abbrev start : tie.After-seek → tie.Start
-start c = c .before .before .before .before .before .before
+edge-is : (u v : ℕ) {low high : ℕ} → low ≡ min u v → high ≡ max u v → edge u v ≡ record { low = low; high = high }
+edge-is u v p q = λ i. record { low = sym p i; high = sym q i }
+
+-- a triangle of distinct ids
+module _ (c : tie.Else1) where
+  abbrev st : tie.Start
+  st = c .before .before .before .before .before .before .before
+
+  of-solid : (x : ℕ) → x / 3 ≡ st .args .t → solid (st .args .ids .now) (x / 3) ≡ true
+  unfolding solid triangle
+  of-solid x e =
+      let told = c .before .distinct in
+      ap (solid (st .args .ids .now)) e ∙ sym (told .ensures) ∙ not-false (told .result) (c .if1 .left)
+
+enter-side-requires : tie.Need-enter-side-requires
+unfolding side triangle
+enter-side-requires c κs =
+    let k = c .before .before .before in
+    let start = st k in
+    record {
+      ready = start .pre .0;
+      here = omega (arith, start .pre .1);
+      of-solid = of-solid k _ (omega arith);
+      is = side-first (start .args .ids .now) (start .args .t) ∙ edge-is _ _ (c .before .lesser .ensures) (c .greater .ensures);
+    }
+
+-- after the first side
+module _ (c : tie.After-enter-side) where
+  abbrev first : tie.Else1
+  first = c .before .before .before .before
+
+  ready-1 : SlotsReady (st first .args .plan) (st first .args .ids .now) (c .enter-side .last .1 .0)
+  ready-1 = ready-then _ (st first .pre .0) (c .enter-side .kept .1 .0) (c .enter-side .ensures .0)
+
+enter-side-requires-2 : tie.Need-enter-side-requires-2
+unfolding side triangle
+enter-side-requires-2 c κs =
+    let one = c .before .before .before .before .before in
+    let start = st (first one) in
+    record {
+      ready = ready-1 one;
+      here = omega (arith, start .pre .1, one .enter-side .kept .1 .0);
+      of-solid = of-solid (first one) _ (omega arith);
+      is = side-at (start .args .ids .now) (start .args .t) 1 (omega arith) ∙ edge-is _ _ (c .before .lesser2 .ensures) (c .greater2 .ensures);
+    }
+
+-- after the second
+module _ (c : tie.After-enter-side2) where
+  abbrev second : tie.After-enter-side
+  second = c .before .before .before .before .before .before
+
+  ready-2 : SlotsReady (st (first second) .args .plan) (st (first second) .args .ids .now) (c .enter-side2 .last .1 .0)
+  ready-2 = ready-then _ (ready-1 second) (c .enter-side2 .kept .1 .0) (c .enter-side2 .ensures .0)
+
+add-enter-side-2 : tie.Need-add-enter-side-2
+add-enter-side-2 c =
+    let start = st (first (second (c .before .before .before))) in
+    record { fits = omega (arith, start .pre .0 .sized .few, start .pre .0 .sized .long, start .pre .1) }
+
+enter-side-requires-3 : tie.Need-enter-side-requires-3
+unfolding side triangle
+enter-side-requires-3 c κs =
+    let two = c .before .before .before .before .before in
+    let one = second two in
+    let start = st (first one) in
+    record {
+      ready = ready-2 two;
+      here = omega (arith, start .pre .1, one .enter-side .kept .1 .0, two .enter-side2 .kept .1 .0);
+      of-solid = of-solid (first one) _ (omega arith);
+      is = side-at (start .args .ids .now) (start .args .t) 2 (omega arith) ∙ edge-is _ _ (c .before .lesser3 .ensures) (c .greater3 .ensures);
+    }
 
 returns-2 : tie.Need-returns-2
 returns-2 c =
-    let st = start (c .before) in
-    let q = c .before .seek .ensures in
-    let none = never-past (st .pre .0 .limited .0) (home-in _ _ _ (omega arith)) q in
-    entered-same (st .pre .0 .slots) (λ e y. true≢false (sym e)) (followed-past (st .pre .0 .slots) (st .args .c) q (c .if2 .taken))
-    (λ free some. absurd (none free (c .if2 .taken)))
-
--- the row that was found, and what it holds
-module _ (c : tie.After-slot) where
-  abbrev seek : tie.After-seek
-  seek = c .before .before .before
-
-  abbrev st : tie.Start
-  st = start seek
-
-  row : AtRow (st .args .ids .now) (st .args .work .now) (st .args .odd) (st .args .limit) (st .args .c) (seek .seek .result)
-      (c .slot .result)
-  unfolding solid
-  row =
-      let test = seek .before .before in
-      record {
-        slots = st .pre .0 .slots;
-        sought = seek .seek .ensures;
-        inside = omega (arith, seek .seek .ensures .within, c .before .before .if2 .left);
-        corner = st .pre .1;
-        of-solid = sym (test .before .distinct-at .ensures) ∙ not-false (test .before .distinct-at .result) (test .if1 .left);
-        holds = c .slot .ensures;
-      }
-
-join-requires : tie.Need-join-requires
-join-requires c κs =
-    let s = c .before .before in
-    let held = st s .pre .0 .slots .corners (seek s .seek .result) (row s .inside) in
-    let long = st s .pre .0 .sized in (
-      omega (arith, s .slot .ensures, c .before .if3 .taken, held),
-      omega arith,
-      omega (arith, long .long, long .few),
-      good-forest (st s .pre .0 .labelled),
+    let three = c .before .before .before .before .before in
+    let two = three .before .before .before .before .before .before in
+    let one = second two in
+    let a = one .enter-side in
+    let b = two .enter-side2 in
+    let d = three .enter-side3 in
+    let ab = enters-then _ (a .kept .1 .0) (a .ensures .0) (b .ensures .0) (λ z. omega (arith, a .ensures .1)) (omega arith) in
+    let all = enters-then _ (b .kept .1 .0 ∙ a .kept .1 .0) ab (d .ensures .0) (λ z. omega (arith, a .ensures .1, b .ensures .1)) (omega arith) in
+    let start = st (first one) in
+    let e : 3 * start .args .t + 2 + 1 ≡ 3 * (start .args .t + 1) = omega arith in (
+      subst (λ (x : ℕ). Enters (start .args .plan) (start .args .ids .now) (start .args .spare) (3 * start .args .t) x (start .args .work .now)
+          (d .last .1 .0) ((a .result .entered && b .result .entered) && d .result .entered)) e all,
+      omega (arith, a .ensures .1, b .ensures .1, d .ensures .1),
     )
-
-returns-3 : tie.Need-returns-3
-returns-3 c =
-    let joined = c .before .before in
-    let test = joined .before .before in
-    entered-joined (row (test .before)) _ (st (test .before) .args .spare) (joined .join .kept .0) (test .if3 .taken)
-    (joined .join .ensures)
-
-returns-4 : tie.Need-returns-4
-returns-4 c =
-    let s = c .before .before in
-    let free = followed-free (st s .pre .0 .slots) (st s .args .c) (seek s .seek .ensures)
-    (sym (s .slot .ensures) ∙ c .before .if3 .left) in
-    entered-same (st s .pre .0 .slots) (λ e y. true≢false (sym e)) free (λ free some. absurd (omega arith))
-
-returns-5 : tie.Need-returns-5
-returns-5 c =
-    let held = c .before .before in
-    let test = held .before .before in
-    let s = test .before .before in
-    entered-held (row s) _ (st s .args .spare) (test .before .if3 .left) (test .if4 .left) (held .hold .ensures)
 
 pub enter-spec : {M : Type 1} → statement M
 enter-spec =
     tie.close
-    (tie.spec distinct-at-requires returns (λ c κs. search needs) (λ c. search needs) returns-2 (λ c κs. search needs) (λ c. search needs)
-    join-requires (λ c. search needs) returns-3 (λ c. search needs) returns-4 (λ c. search needs) (λ c κs. search needs)
-    (λ c. search needs) (λ c. search needs) returns-5)
+    (tie.spec (λ c. search needs) (λ c. search needs) (λ c. search needs) (λ c. search needs) (λ c. search needs) (λ c. search needs)
+    (λ c. search needs) (λ c. search needs) (λ c. search needs) (λ c κs. search needs) returns (λ c κs. search needs) (λ c κs. search needs)
+    enter-side-requires (λ c. search needs) (λ c κs. search needs) (λ c κs. search needs) enter-side-requires-2 add-enter-side-2
+    (λ c κs. search needs) (λ c κs. search needs) enter-side-requires-3 (λ c. search needs) returns-2)

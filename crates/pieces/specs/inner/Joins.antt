@@ -8,9 +8,9 @@ use lib.Dec.{eqb}
 use lib.ListN.{length}
 use Rattle.ids.specs.Triangles.{Triangle, triangle, triangleCount}
 use Rattle.table.specs.inner.Words.{Lends}
-use Rattle.forest.specs.inner.Words.{parentIn, heldIn}
+use Rattle.forest.specs.inner.Words.{parentIn}
 use Rattle.forest.specs.inner.Labels.{LabelledBy}
-use Rattle.ids.specs.Pieces.{solid, shareId}
+use Rattle.ids.specs.Pieces.{solid, shareEdge}
 
 -- one word a triangle, for as many ids as are not refused
 abbrev pub OneWordEach : List ℕ → List ℕ → Type 0
@@ -18,7 +18,7 @@ OneWordEach ids t = Lends (triangleCount ids) ids t
 
 -- what joins two triangles
 abbrev pub joins : Triangle → Triangle → Bool
-joins = shareId
+joins = shareEdge
 
 -- two distinct-id triangles of n that are to be joined
 pub record Linked (ids : List ℕ) (n x y : ℕ) : Type 0 where
@@ -45,10 +45,9 @@ pub record More (ids u : List ℕ) (f : ℕ → ℕ) (Q : (ℕ → ℕ) → Type
   pub keeps : (x y : ℕ) → f x ≡ f y → label x ≡ label y
   pub holds : Q label
 
--- what a routine that only joins does from t to u: the slots stay, and Q holds of the labels behind it
-pub record Grown (ids t u : List ℕ) (Q : (ℕ → ℕ) → Type 0) : Type 0 where
-  pub slots : (i : ℕ) → heldIn u i ≡ heldIn t i
-  pub more : (f : ℕ → ℕ) → Good ids t f → More ids u f Q
+-- what a routine does from t to u: the labels get coarser only as far as the joins ask, and Q holds of them
+abbrev pub Grows : List ℕ → List ℕ → List ℕ → ((ℕ → ℕ) → Type 0) → Type 0
+Grows ids t u Q = (f : ℕ → ℕ) → Good ids t f → More ids u f Q
 
 -- when all is joined: labels that are as coarse as the joins ask, and no coarser
 pub record Whole (ids t : List ℕ) : Type 0 where

@@ -74,7 +74,7 @@ unfolding groups sumBy
 total w r [] = refl
 total w r (t ∷ ts) = omega (arith, split-sum w (r t) (groups r ts), total w r ts)
 
-times-mem : (x : ℕ) (l : List ℕ) → mem x l ≡ true → 0 < times eqb x l
+pub times-mem : (x : ℕ) (l : List ℕ) → mem x l ≡ true → 0 < times eqb x l
 unfolding any sumBy bit
 times-mem x [] h = absurd (false≢true h)
 times-mem x (y ∷ l) h = go (eqb x y) h (times-mem x l)
@@ -83,7 +83,7 @@ times-mem x (y ∷ l) h = go (eqb x y) h (times-mem x l)
     go true h f = omega arith
     go false h f = omega (arith, f h)
 
-mem-times : (x : ℕ) (l : List ℕ) → 0 < times eqb x l → mem x l ≡ true
+pub mem-times : (x : ℕ) (l : List ℕ) → 0 < times eqb x l → mem x l ≡ true
 unfolding any sumBy bit
 mem-times x [] h = absurd (omega arith)
 mem-times x (y ∷ l) h = go (eqb x y) h (mem-times x l)
@@ -114,6 +114,22 @@ pub record Group (joined : ℕ → ℕ → Bool) (ts g : List ℕ) : Type 0 wher
 
 pub part-mem : (g ts : List ℕ) → ((w : ℕ → ℕ) → sumBy w g ≤ sumBy w ts) → (x : ℕ) → mem x g ≡ true → mem x ts ≡ true
 part-mem g ts h x m = mem-times x ts (omega (arith, times-mem x g m, h (λ y. bit (eqb x y))))
+
+-- a group has one label
+abbrev pub One : (ℕ → ℕ) → List ℕ → Type 0
+One f g = (x y : ℕ) → mem x g ≡ true → mem y g ≡ true → f x ≡ f y
+
+bit-same : (a b : Bool) → (a ≡ true → b ≡ true) → (b ≡ true → a ≡ true) → bit a ≡ bit b
+bit-same true true f g = refl
+bit-same true false f g = absurd (false≢true (f refl))
+bit-same false true f g = absurd (false≢true (g refl))
+bit-same false false f g = refl
+
+pub bit-true : (a b : Bool) → bit a ≡ bit b → b ≡ true → a ≡ true
+unfolding bit
+bit-true true b e h = refl
+bit-true false true e h = absurd (omega arith)
+bit-true false false e h = h
 
 module _ (joined : ℕ → ℕ → Bool) (both : (x y : ℕ) → joined x y ≡ true → joined y x ≡ true) where
   -- an element of the touched groups
@@ -192,10 +208,6 @@ module _ (joined : ℕ → ℕ → Bool) (both : (x y : ℕ) → joined x y ≡ 
   abbrev pub Follows : List ℕ → (ℕ → ℕ) → Type 0
   Follows ts f = (x y : ℕ) → mem x ts ≡ true → mem y ts ≡ true → joined x y ≡ true → f x ≡ f y
 
-  -- a group has one label
-  abbrev One : (ℕ → ℕ) → List ℕ → Type 0
-  One f g = (x y : ℕ) → mem x g ≡ true → mem y g ≡ true → f x ≡ f y
-
   touched-one : (f : ℕ → ℕ) (t : ℕ) (ts : List ℕ) (gs : List (List ℕ)) → Each (Group joined ts) gs → Each (One f) gs
       → ((y : ℕ) → mem y ts ≡ true → joined t y ≡ true → f t ≡ f y)
       → (x : ℕ) → mem x (touched (joined t) gs) ≡ true → f t ≡ f x
@@ -229,6 +241,10 @@ module _ (joined : ℕ → ℕ → Bool) (both : (x y : ℕ) → joined x y ≡ 
   groups-one f [] h = tt
   groups-one f (t ∷ ts) h = one-next f t ts h (groups-one f ts (λ x y mx my j. h x y (or-right (eqb x t) _ mx) (or-right (eqb y t) _ my) j))
 
+  -- to be in a group or not is such a labelling
+  pub in-or-out : (ts g : List ℕ) → Group joined ts g → Follows ts (λ x. bit (mem x g))
+  in-or-out ts g k x y mx my j = bit-same (mem x g) (mem y g) (k .shut x y my j) (k .shut y x mx (both x y j))
+
   -- ---- the count
 
   sum-same : (v w : ℕ → ℕ) (l : List ℕ) → ((x : ℕ) → mem x l ≡ true → v x ≡ w x) → sumBy v l ≡ sumBy w l
@@ -245,17 +261,6 @@ module _ (joined : ℕ → ℕ → Bool) (both : (x y : ℕ) → joined x y ≡ 
   each-both P Q [] a b = tt
   each-both P Q (g ∷ gs) a b = ((a .0, b .0), each-both P Q gs (a .1) (b .1))
 
-  bit-same : (a b : Bool) → (a ≡ true → b ≡ true) → (b ≡ true → a ≡ true) → bit a ≡ bit b
-  bit-same true true f g = refl
-  bit-same true false f g = absurd (false≢true (f refl))
-  bit-same false true f g = absurd (false≢true (g refl))
-  bit-same false false f g = refl
-
-  bit-true : (a : Bool) → 0 < bit a → a ≡ true
-  unfolding bit
-  bit-true true h = refl
-  bit-true false h = absurd (omega arith)
-
   module _ (ts : List ℕ) (once : (x : ℕ) → times eqb x ts ≤ 1) (f : ℕ → ℕ) (follows : Follows ts f)
       (inner : (h : ℕ → ℕ) → Follows ts h → (x : ℕ) → mem x ts ≡ true → h (f x) ≡ h x) where
     in-group : (g : List ℕ) → Group joined ts g × One f g → sumBy (λ x. bit (eqb (f x) x)) g ≡ 1
@@ -263,11 +268,9 @@ module _ (joined : ℕ → ℕ → Bool) (both : (x y : ℕ) → joined x y ≡ 
     in-group g k =
         let x = k .0 .some .0 in
         let mx = k .0 .some .1 in
-        let label : Follows ts (λ z. bit (mem z g)) =
-        λ y z my mz j. bit-same (mem y g) (mem z g) (k .0 .shut y z mz j) (k .0 .shut z y my (both y z j)) in
-        let same : bit (mem (f x) g) ≡ bit (mem x g) = inner (λ z. bit (mem z g)) label x (part-mem g ts (k .0 .part) x mx) in
-        let full : bit (mem x g) ≡ 1 = ap bit mx in
-        let root : mem (f x) g ≡ true = bit-true (mem (f x) g) (omega arith) in
+        let same : bit (mem (f x) g) ≡ bit (mem x g) =
+        inner (λ z. bit (mem z g)) (in-or-out ts g (k .0)) x (part-mem g ts (k .0 .part) x mx) in
+        let root = bit-true (mem (f x) g) (mem x g) same mx in
         sum-same (λ y. bit (eqb (f y) y)) (λ y. bit (eqb (f x) y)) g (λ y my. ap (λ (z : ℕ). bit (eqb z y)) (k .1 y x my mx))
         ∙ (omega (arith, times-mem (f x) g root, k .0 .part (λ y. bit (eqb (f x) y)), once (f x)))
 

@@ -20,4 +20,6 @@ pub mod Alike
 pub mod Opposite
 pub mod Walks
 pub mod Joined
+pub mod Coarser
+pub mod ByIds
 pub mod ReversedAlike

@@ -1,9 +1,10 @@
 -- Two triangles share an edge where a side of the one is a side of the other; so sharing goes both ways, and turning both over leaves it.
--- The same of a shared id, as 01 had it: an edge shared is two ids shared. Assumes nothing.
+-- Sharing an id, as 01 had it, goes both ways too, and where an edge is shared an id is. Assumes nothing.
 use mathlib.Core.Path.{_≡_, refl, sym, ap, _∙_}
 use mathlib.Core.Bool.{Bool, true, false, _||_}
-use Prim.Native.Nat.{ℕ, zero, suc, _<_}
+use Prim.Native.Nat.{ℕ, zero, suc, _<_, min}
 use native.Mathlib.Nat.{min-comm, max-comm}
+use native.Mathlib.Decide.{decLt}
 use native.Mathlib.Omega.{arith}
 use borrow.Author.Tests.{eqb-true}
 use lib.Dec.{eqb}
@@ -104,3 +105,34 @@ share-turned s t =
       edge-comm (s .b) (s .a),
     )
     (or-turn (hasEdge t (edge (s .a) (s .b))) (hasEdge t (edge (s .b) (s .c))) (hasEdge t (edge (s .c) (s .a))))
+
+-- ---- ids
+
+-- the id at corner k
+unfoldable corner : Triangle → ℕ → ℕ
+corner t zero = t .a
+corner t (suc zero) = t .b
+corner t (suc (suc k)) = t .c
+
+pub id-both : (s t : Triangle) → shareId s t ≡ true → shareId t s ≡ true
+unfolding has shareId corner
+id-both s t h = meeting-both eqb eqb-true eqb-refl (corner s) (corner t) h
+
+lower-at : (t : Triangle) (i j : ℕ) → i < 3 → j < 3 → (k : ℕ) × (k < 3) × (min (corner t i) (corner t j) ≡ corner t k)
+lower-at t i j li lj = elim (decLt (corner t i) (corner t j)) [ yes l ↦ (i, li, omega arith) | no l ↦ (j, lj, omega arith) ]
+
+-- the lower id of a side is the id at a corner
+low-corner : (t : Triangle) (k : ℕ) → (i : ℕ) × (i < 3) × (side t k .low ≡ corner t i)
+unfolding side corner
+low-corner t zero = lower-at t 0 1 (omega arith) (omega arith)
+low-corner t (suc zero) = lower-at t 1 2 (omega arith) (omega arith)
+low-corner t (suc (suc k)) = lower-at t 2 0 (omega arith) (omega arith)
+
+pub edge-id : (s t : Triangle) → shareEdge s t ≡ true → shareId s t ≡ true
+unfolding has shareId corner
+edge-id s t h =
+    let r = side-share s t h in
+    let p = low-corner s (r .0) in
+    let q = low-corner t (r .1) in
+    meeting-at eqb eqb-true eqb-refl (corner s) (corner t) (p .0) (q .0) (p .1) (q .1)
+    (sym (p .2) ∙ ap (λ (e : Edge). e .low) (r .4) ∙ q .2)

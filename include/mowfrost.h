@@ -61,8 +61,9 @@ uint32_t mf_is_closed_manifold(const uint32_t *ids, size_t ids_len, uint32_t *wo
  * each way; else 0, and 0 where ids_len is below 9 or no multiple of 3. Asks for 4 * ids_len words. */
 uint32_t mf_winding_coherent(const uint32_t *ids, size_t ids_len, uint32_t *work, size_t work_len);
 
-/* The number of pieces: groups of triangles, joined wherever two share an id. A triangle that repeats an id does not
- * count. Asks for ids_len / 3 words. */
+/* The number of pieces: groups of triangles, joined wherever two share an edge, whichever way each walks it. With one id
+ * in common and no edge they are not joined, so two solids that touch at a corner are two pieces; an edge joins all that
+ * use it. A triangle that repeats an id does not count and joins nothing. Asks for ids_len / 3 words. */
 uint32_t mf_pieces(const uint32_t *ids, size_t ids_len, uint32_t *work, size_t work_len);
 
 /* ---- the record

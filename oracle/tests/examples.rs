@@ -1,5 +1,6 @@
-//! Document 01's checked examples that speak of meshes or ids, and its cube to the letter, with 02's three lines (A1): on the Rust, but
-//! for refusals, pieces and counts, which 000 does not have; there the oracle's own form of the documents' words is run.
+//! Document 01's checked examples that speak of meshes or ids, and its cube to the letter, with 02's three lines (A1) and
+//! 02's pieces (A2): on the Rust, but for refusals, pieces and counts, which 000 does not have; there the oracle's own
+//! form of the documents' words is run.
 
 use mowfrost_oracle::counts::Counts;
 use mowfrost_oracle::exception::{cube_exceeds, is_near};
@@ -78,10 +79,12 @@ fn ten_ids_are_not_boundary_free() {
     assert!(!probe::edge_chain(&ids("012 023 031 132 0")).0);
 }
 
+/// One piece in 01; 02's A2 makes them two.
 #[test]
-fn two_tetrahedra_sharing_one_id_are_one_piece() {
-    assert_eq!(pieces(&ids("012 023 031 132 345 356 364 465")), 1);
+fn two_tetrahedra_sharing_one_id_are_two_pieces() {
+    assert_eq!(pieces(&ids("012 023 031 132 345 356 364 465")), 2);
     assert_eq!(pieces(&ids("012 023 031 132 456 467 475 576")), 2);
+    assert_eq!(pieces(&ids("012 023 031 132 234 245 253 354")), 1, "sharing an edge");
 }
 
 #[test]

@@ -3,7 +3,6 @@
 use mowfrost_oracle::file::{push_record, read, write};
 use mowfrost_oracle::kinds::{mesh, KINDS};
 use mowfrost_oracle::listing::listing;
-use mowfrost_oracle::pieces::pieces;
 use mowfrost_oracle::random::Random;
 use mowfrost_oracle::reach::{Reach, WANTED};
 use std::io::Write;
@@ -135,36 +134,6 @@ fn faults_get_the_refusal_that_01_orders() {
     assert_eq!(read(&file(&two)).err(), Some(6));
     let behind = [good.to_vec(), vec![(4, vec![0, 0]), (4, vec![0, 0])]].concat();
     assert_eq!(read(&file(&behind)).err(), Some(5));
-}
-
-/// Groups by joining until nothing changes: slow and plain.
-fn pieces_by_joining(ids: &[u32]) -> u32 {
-    let triangles: Vec<&[u32]> = ids.chunks_exact(3).filter(|t| t[0] != t[1] && t[1] != t[2] && t[0] != t[2]).collect();
-    let mut group: Vec<usize> = (0..triangles.len()).collect();
-    let mut changed = true;
-    while changed {
-        changed = false;
-        for a in 0..triangles.len() {
-            for b in 0..triangles.len() {
-                if group[a] < group[b] && triangles[a].iter().any(|id| triangles[b].contains(id)) {
-                    (group[b], changed) = (group[a], true);
-                }
-            }
-        }
-    }
-    group.sort_unstable();
-    group.dedup();
-    group.len() as u32
-}
-
-#[test]
-fn pieces_are_the_groups_of_shared_ids() {
-    let mut random = Random::new(SEED);
-    for _ in 0..3_000 {
-        let (length, reached) = (random.below(40), random.within(1, 40) as usize);
-        let ids: Vec<u32> = (0..length).map(|_| (random.below(reached) as u32).wrapping_sub(3)).collect();
-        assert_eq!(pieces(&ids), pieces_by_joining(&ids), "{ids:?}");
-    }
 }
 
 fn run(words: &[&str], input: &[u8]) -> (Option<i32>, String, String) {

@@ -4,6 +4,7 @@ use mowfrost_oracle::counts::Counts;
 use mowfrost_oracle::file::{read, MeshFile, MOST};
 use mowfrost_oracle::frames;
 use mowfrost_oracle::listing::{listing, replayed};
+use mowfrost_oracle::pieces::pieces;
 use mowfrost_oracle::reach::{Reach, WANTED};
 use mowfrost_oracle::record::{compute, Answer, Exception, Lent, Record};
 use mowfrost_oracle::sent::FULL;
@@ -193,6 +194,30 @@ fn triangles_are_counted() {
         text.lines().skip(15).take(5).collect::<Vec<_>>().join(", "),
         "pieces 512, used 1, range 511, sliver 0, surfaces 1"
     );
+}
+
+/// What A2 joins, by hand.
+#[test]
+fn pieces_are_counted() {
+    for (name, count) in [
+        ("the cube", 1),
+        ("2 ids", 0),
+        ("nine zeros: 000 000 000", 0),
+        ("two tetrahedra sharing one id: 012 023 031 132 345 356 364 465", 2),
+        ("two tetrahedra apart: 012 023 031 132 456 467 475 576", 2),
+        ("an edge of four uses: 012 023 031 132 014 046 061 164", 1),
+        ("1,536 ids, one triangle over and over", 1),
+        ("8 floats and 1,536 ids", 512),
+        ("a2: two plinths with one common corner", 2),
+        ("a2: two plinths with one common edge", 1),
+        ("a2: repeated ids between two: 012 034 001 003", 2),
+    ] {
+        assert_eq!(pieces(&mesh(name).ids), count, "{name}");
+    }
+    let corners = |name: &str| mesh(name).vertices.len() / 3;
+    assert_eq!(corners("a2: two plinths with one common corner"), 15);
+    assert_eq!(corners("a2: two plinths with one common edge"), 14);
+    assert_eq!(record("a2: two plinths with one common corner").volume, 4.0 + 9.0);
 }
 
 #[test]

@@ -3,12 +3,23 @@
 use super::routines::MOST_IDS;
 use crate::random::Random;
 
-/// All lists of up to nine ids out of three: with fewer than nine no chain has an edge.
+/// All lists of up to nine ids out of three: with fewer than nine no chain has an edge. Then those out of more, each once
+/// whatever its ids are called: a new one is the least that has not come yet. There a triangle can share no id with
+/// another, one, two or all three.
 pub fn all_short() -> Vec<Vec<u32>> {
+    let new = |list: &[u32]| list.iter().max().map_or(0, |id| id + 1);
+    let mut all = all_to_nine(|_| 2);
+    all.extend(all_to_nine(new).into_iter().filter(|list| new(list) > 3));
+    all
+}
+
+/// All lists of up to nine ids, each of them at most what those before it allow.
+fn all_to_nine(most: impl Fn(&[u32]) -> u32) -> Vec<Vec<u32>> {
     let mut all = vec![Vec::new()];
     let mut longest = all.clone();
     for _ in 0..9 {
-        longest = longest.iter().flat_map(|list| (0..3).map(|id| [list.as_slice(), &[id]].concat())).collect();
+        longest =
+            longest.iter().flat_map(|list| (0..=most(list)).map(|id| [list.as_slice(), &[id]].concat())).collect();
         all.extend(longest.iter().cloned());
     }
     all
@@ -45,17 +56,49 @@ pub fn strip(triangles: usize) -> Vec<u32> {
     (0..triangles as u32).flat_map(|i| if i % 2 == 0 { [i, i + 1, i + 2] } else { [i + 1, i, i + 2] }).collect()
 }
 
+const BOX: [u32; 36] =
+    [0, 2, 3, 0, 3, 1, 4, 5, 7, 4, 7, 6, 0, 1, 5, 0, 5, 4, 2, 6, 7, 2, 7, 3, 0, 4, 6, 0, 6, 2, 1, 3, 7, 1, 7, 5];
+
 /// Separate closed boxes: eight ids and twelve triangles each.
 pub fn boxes(triangles: usize) -> Vec<u32> {
-    const BOX: [u32; 36] =
-        [0, 2, 3, 0, 3, 1, 4, 5, 7, 4, 7, 6, 0, 1, 5, 0, 5, 4, 2, 6, 7, 2, 7, 3, 0, 4, 6, 0, 6, 2, 1, 3, 7, 1, 7, 5];
     (0..(triangles / 12).max(1) as u32).flat_map(|k| BOX.map(|id| 8 * k + id)).collect()
 }
 
+/// Closed boxes in a row, two at least, each sharing a corner with the next.
+pub fn plinths(triangles: usize) -> Vec<u32> {
+    (0..(triangles / 12).max(2) as u32).flat_map(|k| BOX.map(|id| 7 * k + id)).collect()
+}
+
+const TETRAHEDRON: [u32; 12] = [0, 1, 2, 0, 2, 3, 0, 3, 1, 1, 3, 2];
+
 /// Closed tetrahedra in a row, each sharing one id with the next.
 pub fn beads(triangles: usize) -> Vec<u32> {
-    const BEAD: [u32; 12] = [0, 1, 2, 0, 2, 3, 0, 3, 1, 1, 3, 2];
-    (0..(triangles / 4).max(1) as u32).flat_map(|k| BEAD.map(|id| 3 * k + id)).collect()
+    (0..(triangles / 4).max(1) as u32).flat_map(|k| TETRAHEDRON.map(|id| 3 * k + id)).collect()
+}
+
+/// Closed tetrahedra in a row, two at least, each sharing an edge with the next: it is used four times.
+pub fn hinges(triangles: usize) -> Vec<u32> {
+    (0..(triangles / 4).max(2) as u32).flat_map(|k| TETRAHEDRON.map(|id| 2 * k + id)).collect()
+}
+
+/// Fans of four triangles around one vertex, which is all that they have in common: closed, open, closed, ..
+pub fn fans(triangles: usize) -> Vec<u32> {
+    let rim = |k: u32, i: u32| 1 + 5 * k + if k.is_multiple_of(2) { i % 4 } else { i };
+    (0..triangles as u32).flat_map(|t| [0, rim(t / 4, t % 4), rim(t / 4, t % 4 + 1)]).collect()
+}
+
+/// Two strips of two triangles or more that have the first vertex and the last in common, and no edge.
+pub fn eye(triangles: usize) -> Vec<u32> {
+    let one = strip((triangles / 2).max(2));
+    let last = one.len() as u32 / 3 + 1;
+    let other = one.iter().map(|&id| if id == 0 || id == last { id } else { id + last });
+    one.iter().copied().chain(other).collect()
+}
+
+/// A strip whose last triangle shares an edge with its first.
+pub fn ring(triangles: usize) -> Vec<u32> {
+    let around = triangles.max(3) as u32;
+    (0..around).flat_map(|i| [i, (i + 1) % around, (i + 2) % around]).collect()
 }
 
 /// All triangles on one edge.
@@ -70,7 +113,7 @@ pub fn pile(triangles: usize) -> Vec<u32> {
 
 pub type Shape = fn(usize) -> Vec<u32>;
 
-pub const SHAPES: [(&str, Shape); 8] = [
+pub const SHAPES: [(&str, Shape); 13] = [
     ("torus", torus),
     ("soup", soup),
     ("fan", fan),
@@ -79,6 +122,11 @@ pub const SHAPES: [(&str, Shape); 8] = [
     ("beads", beads),
     ("book", book),
     ("pile", pile),
+    ("plinths", plinths),
+    ("hinges", hinges),
+    ("fans", fans),
+    ("eye", eye),
+    ("ring", ring),
 ];
 
 // ---- what is done to them
@@ -104,20 +152,24 @@ fn raised(ids: &mut [u32], random: &mut Random) {
     }
 }
 
-/// One fault: a triangle away, turned, twice, or with an id of another; or ids left over.
+/// One fault: a triangle away, turned, twice, or with an id of another; two ids made one; or ids left over.
 fn spoilt(ids: &mut Vec<u32>, random: &mut Random) {
     let triangles = ids.len() / 3;
     if triangles == 0 {
         return;
     }
     let t = 3 * random.below(triangles);
-    match random.below(7) {
+    match random.below(8) {
         0 => drop(ids.drain(t..t + 3)),
         1 => ids.swap(t + 1, t + 2),
         2 => ids.extend_from_within(t..t + 3),
         3 => ids.extend([ids[t], ids[t + 2], ids[t + 1]]),
         4 => ids[t + random.below(3)] = ids[random.below(ids.len())],
         5 => ids[t + 1] = ids[t],
+        6 => {
+            let (one, other) = (ids[t], ids[random.below(ids.len())]);
+            ids.iter_mut().filter(|id| **id == one).for_each(|id| *id = other);
+        }
         _ => (0..random.within(1, 2)).for_each(|_| ids.push(random.below(9) as u32)),
     }
 }

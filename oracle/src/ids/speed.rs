@@ -1,5 +1,5 @@
 //! `oracle speed ids`: how long a routine takes on a list, and how long the original, in one process. For pieces the
-//! other side is a plain union-find over a `HashMap`.
+//! other side is a plain union-find over a `HashMap` of edges.
 
 use super::lists::{boxes, fan, mixed, soup, torus, Shape};
 use super::routines::{Routine, MOST_IDS, ROUTINES};

@@ -1,6 +1,6 @@
 //! The meshes that the crate `replay` holds, so that the gate has some of the Rust's answers without the Rust: those made
-//! by hand for document 01's examples, limits and orders, for what A1 counts and for A9's pairs, then of each kind the smallest
-//! and the one that reaches most.
+//! by hand for document 01's examples, limits and orders, for what A1 counts and A2 joins and for A9's pairs, then of each kind the
+//! smallest and the one that reaches most.
 
 pub mod examples;
 mod faults;
@@ -10,6 +10,7 @@ mod limits;
 mod places;
 pub mod readings;
 mod thresholds;
+mod touching;
 
 use crate::file::{write, MeshFile};
 use crate::kinds::{mesh, KINDS};
@@ -58,6 +59,7 @@ pub fn by_hand() -> Vec<Stored> {
     places::places(&mut list);
     left_out::left_out(&mut list);
     gloves::gloves(&mut list);
+    touching::touches(&mut list);
     list.0
 }
 
@@ -65,6 +67,12 @@ pub fn by_hand() -> Vec<Stored> {
 const SEED: u64 = 2026;
 const LOOKED_AT: u64 = 60;
 const LONGEST: usize = 4096;
+
+/// What one file reaches. Its pieces have no say in it, so that the choice stays when a document joins them otherwise.
+fn reached(bytes: &[u8]) -> Vec<&'static str> {
+    let reach = Reach::of([bytes.to_vec()].into_iter());
+    reach.counts().map(|(what, _)| what).filter(|what| !what.ends_with(" piece")).collect()
+}
 
 /// Of each kind the smallest, the smallest that comes elsewhere, and the one that reaches most. Near the one exception
 /// stand those by hand alone, where the power is exact on every machine.
@@ -75,7 +83,6 @@ fn found(list: &mut List) {
         files.retain(|(_, bytes)| bytes.len() <= LONGEST && list.0.iter().all(|stored| stored.bytes != *bytes));
         files.retain(|(_, bytes)| listing(bytes).1 == Exception::Apart);
         files.sort_by_key(|(number, bytes)| (bytes.len(), *number));
-        let reached = |bytes: &Vec<u8>| Reach::of([bytes.clone()].into_iter()).counts().map(|(what, _)| what).collect();
         let reached: Vec<Vec<&str>> = files.iter().map(|(_, bytes)| reached(bytes)).collect();
         let first = (!files.is_empty()).then_some(0);
         let second = (0..files.len()).find(|&i| reached[i] != reached[0]);

@@ -72,20 +72,20 @@ fn limit_of(n: usize) -> usize
     if n < 64 { n } else { 64 }
 }
 
-// A number by chance from another: no rule that edges could keep leads from one pass's factors to the next one's.
+// An odd number from another, as by chance: no rule that edges could keep leads from one pass's factors to the next one's.
 fn stirred(x: u32) -> u32 {
     let y = x as u64 * 2246822507 % 0x1_0000_0000;
     let z = (y + y / 8192) % 0x1_0000_0000;
     let w = z * 3266489909 % 0x1_0000_0000;
-    ((w + w / 65536) % 0x1_0000_0000) as u32
+    ((w + w / 65536) % 0x1_0000_0000 / 2 * 2 + 1) as u32
 }
 
 // The pass over a class from triangle `from` on, with n slots.
 fn plan_of(class: u64, from: usize, n: usize) -> Plan
-    requires { ⌜ from < 4294967295 ⌝ }
+    requires { ⌜ from < 4294900000 ⌝ }
     ensures { λ p. ⌜ (p .class ≡ class) × (p .limit ≡ min n 64) ⌝ }
 {
-    let low = stirred(from as u32 + 1);
+    let low = stirred(from as u32 + 795);
     Plan {
         class,
         low,

@@ -8,7 +8,7 @@ use Rattle.ieee.specs.Order.{greatest, least}
 use Rattle.ieee.specs.Root.{closestRoot, digits, floorRoot, root, rootRound}
 use Rattle.ieee.specs.Rounded.{rounded}
 use Rattle.ids.specs.EdgeChain.{around, boundaryFree, chain, crowded, enough, overIncident, present, sameEdge, step, unbalanced}
-use Rattle.ids.specs.Pieces.{any, apart, groups, has, pieces, shareEdge, solid, solids, those, touched}
+use Rattle.ids.specs.Pieces.{any, apart, groups, hasEdge, pieces, shareEdge, solid, solids, those, touched}
 use Rattle.ids.specs.Triangles.{distinct, overTriangles, triangle}
 use Rattle.ids.specs.Uses.{bit, counting, keys, keysThat, maxBy, signedSum, sumBy, uses}
 use Rattle.vertices.specs.Vertices.{cornersInRange, inRange}
@@ -64,7 +64,7 @@ unfolding cubeFile floatsOf cubeRows surfaceRows buckets bucketsTo withSurface p
 cube-rows = refl
 
 cube-pieces : pieces shareEdge (cubeFile .ids) ≡ 1
-unfolding cubeFile pieces groups apart touched any has shareEdge those solid solids distinct triangle
+unfolding cubeFile pieces groups apart touched any hasEdge sameEdge shareEdge those solid solids distinct triangle
 cube-pieces = refl
 
 pub cube-printed : CubePrinted

@@ -47,5 +47,5 @@ pub record Starred : Type 0 where
       → flagged true (Profile.Invalid d) q .«volume_method» ≡ Method.MeshUnclipped
   pub defect-alone : (q : MeshQto) (d : ProfileDefect) → q .«volume_method» ≡ Method.Mesh
       → flagged false (Profile.Invalid d) q .«volume_method» ≡ Method.MeshProfileInvalid
-  -- two tetrahedra sharing one id: one piece
-  pub one-common-id : pieces shareEdge (tetrahedron ++ neighbour) ≡ 1
+  -- two tetrahedra sharing one id: one piece in 01, two by 02 (A2), since no edge is common
+  pub one-common-id : pieces shareEdge (tetrahedron ++ neighbour) ≡ 2

@@ -16,7 +16,7 @@ use Rattle.forest.specs.inner.Words.{heldIn, Freed}
 use Rattle.pieces.specs.inner.Joins.{joins, Linked, Good, More, Grows, Whole}
 use Rattle.pieces.specs.inner.Sides.{sideEdge, edgeClass, taken, sideHome, Slots}
 use Rattle.pieces.specs.inner.Passes.{Has, Covered, Followed, Entered, homeIn, SlotsReady, Enters, Settled, Settles, Tied}
-use Rattle.pieces.specs.declared.Plan.{Plan}
+use Rattle.pieces.specs.declared.sweep.Plan.{Plan}
 use Rattle.pieces.proofs.Sides.{share-sides, sides-share, class-below, taken-solid, taken-here}
 use Rattle.pieces.proofs.Joins.{more-none, more-then, labelled-then, good-kept}
 

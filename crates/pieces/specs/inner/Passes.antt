@@ -8,7 +8,7 @@ use lib.ListN.{length}
 use Rattle.forest.specs.inner.Words.{heldIn}
 use Rattle.ids.specs.EdgeChain.{Edge}
 use Rattle.ids.specs.Pieces.{solid}
-use Rattle.pieces.specs.declared.Plan.{Plan}
+use Rattle.pieces.specs.declared.sweep.Plan.{Plan}
 use Rattle.pieces.specs.inner.Joins.{OneWordEach, Linked, Labelled, Grows}
 use Rattle.pieces.specs.inner.Sides.{sideEdge, taken, sideHome, slotEdge, Limited, Slots}
 

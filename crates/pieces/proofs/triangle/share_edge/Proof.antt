@@ -1,10 +1,10 @@
--- `pieces::share_edge` meets its contract. Assumes nothing.
+-- `pieces::triangle::share_edge` meets its contract. Assumes nothing.
 use mathlib.Core.Path.{_≡_, _∙_}
 use borrow.Author.Needs.{needs}
 use Rattle.ids.specs.Triangles.{triangle}
 use Rattle.ids.specs.Pieces.{shareEdge}
-use Rattle.pieces.proofs.share_edge.Statement.{statement}
-use Rattle.pieces.proofs.share_edge.Tie as tie
+use Rattle.pieces.proofs.triangle.share_edge.Statement.{statement}
+use Rattle.pieces.proofs.triangle.share_edge.Tie as tie
 
 returns : tie.Need-returns
 unfolding shareEdge triangle

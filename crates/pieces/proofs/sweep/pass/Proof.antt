@@ -1,4 +1,4 @@
--- `pieces::pass` meets its contract. The slots are freed, filled, and the triangles behind looked up. Assumes nothing.
+-- `pieces::sweep::pass` meets its contract. The slots are freed, filled, and the triangles behind looked up. Assumes nothing.
 use mathlib.Core.Path.{_≡_, _∙_, subst}
 use Prim.Native.Nat.{ℕ, _*_}
 use native.Mathlib.Omega.{arith}
@@ -9,8 +9,8 @@ use Rattle.pieces.specs.inner.Sides.{taken}
 use Rattle.pieces.proofs.Joins.{good-kept}
 use Rattle.pieces.proofs.Rows.{slots-free}
 use Rattle.pieces.proofs.Passes.{ready-then, swept}
-use Rattle.pieces.proofs.pass.Statement.{statement}
-use Rattle.pieces.proofs.pass.Tie as tie
+use Rattle.pieces.proofs.sweep.pass.Statement.{statement}
+use Rattle.pieces.proofs.sweep.pass.Tie as tie
 
 -- the slots are free
 module _ (c : tie.After-plan-of) where

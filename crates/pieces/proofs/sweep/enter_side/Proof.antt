@@ -1,4 +1,4 @@
--- `pieces::enter_side` meets its contract. A side of another class asks for nothing; a row found is joined, a free one filled.
+-- `pieces::sweep::enter_side` meets its contract. A side of another class asks for nothing; a row found is joined, a free one filled.
 -- Assumes nothing.
 use mathlib.Core.Path.{_≡_, sym, ap, _∙_, subst}
 use mathlib.Core.Logic.{_≢_}
@@ -14,8 +14,8 @@ use Rattle.pieces.proofs.Sides.{taken-not}
 use Rattle.pieces.proofs.Joins.{good-forest}
 use Rattle.pieces.proofs.Search.{home-in}
 use Rattle.pieces.proofs.Rows.{entered-none, AtRow, entered-not, entered-joined, entered-held}
-use Rattle.pieces.proofs.enter_side.Statement.{statement}
-use Rattle.pieces.proofs.enter_side.Tie as tie
+use Rattle.pieces.proofs.sweep.enter_side.Statement.{statement}
+use Rattle.pieces.proofs.sweep.enter_side.Tie as tie
 
 returns : tie.Need-returns
 returns c =

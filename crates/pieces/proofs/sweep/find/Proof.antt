@@ -1,4 +1,4 @@
--- `pieces::find` meets its contract, by the law of a turn: each row passed is used by another edge, and the rows passed and those left
+-- `pieces::sweep::find` meets its contract, by the law of a turn: each row passed is used by another edge, and the rows passed and those left
 -- make the limit.
 -- Assumes nothing.
 use mathlib.Core.Path.{_≡_, sym, ap, _∙_}
@@ -12,8 +12,8 @@ use Rattle.ids.proofs.Same.{edge-eq, edge-refl, same-ne}
 use Rattle.forest.specs.inner.Words.{heldIn}
 use Rattle.pieces.specs.inner.Sides.{sideEdge, slotEdge}
 use Rattle.pieces.proofs.Search.{Seeking, seek-first, seek-ends, seek-none, seek-on}
-use Rattle.pieces.proofs.find.Statement.{statement}
-use Rattle.pieces.proofs.find.Tie as tie
+use Rattle.pieces.proofs.sweep.find.Statement.{statement}
+use Rattle.pieces.proofs.sweep.find.Tie as tie
 
 abbrev Inv-loop : tie.InvT-loop
 Inv-loop ids work low high at limit n r₀ left₀ r left =

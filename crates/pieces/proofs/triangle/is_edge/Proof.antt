@@ -1,4 +1,4 @@
--- `pieces::is_edge` meets its contract. Assumes nothing.
+-- `pieces::triangle::is_edge` meets its contract. Assumes nothing.
 use mathlib.Core.Path.{_≡_, refl, sym, _∙_}
 use Prim.Native.Nat.{_<_}
 use native.Mathlib.Omega.{arith}
@@ -7,8 +7,8 @@ use lib.ListN.{length}
 use Rattle.ids.specs.EdgeChain.{sameEdge}
 use Rattle.pieces.specs.inner.Sides.{sideEdge}
 use Rattle.pieces.proofs.Sides.{after-in}
-use Rattle.pieces.proofs.is_edge.Statement.{statement}
-use Rattle.pieces.proofs.is_edge.Tie as tie
+use Rattle.pieces.proofs.triangle.is_edge.Statement.{statement}
+use Rattle.pieces.proofs.triangle.is_edge.Tie as tie
 
 -- the corner after c is one of the ids
 inside : (c : tie.After-after) → c .after .result < length (c .before .before .before .args .ids .now)

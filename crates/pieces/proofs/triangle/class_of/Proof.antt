@@ -1,9 +1,9 @@
--- `pieces::class_of` meets its contract. Assumes nothing.
+-- `pieces::triangle::class_of` meets its contract. Assumes nothing.
 use mathlib.Core.Path.{refl}
 use borrow.Author.Needs.{needs}
 use Rattle.pieces.specs.inner.Sides.{edgeClass}
-use Rattle.pieces.proofs.class_of.Statement.{statement}
-use Rattle.pieces.proofs.class_of.Tie as tie
+use Rattle.pieces.proofs.triangle.class_of.Statement.{statement}
+use Rattle.pieces.proofs.triangle.class_of.Tie as tie
 
 returns : tie.Need-returns
 unfolding edgeClass

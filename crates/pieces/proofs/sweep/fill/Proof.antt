@@ -1,4 +1,4 @@
--- `pieces::fill` meets its contract. The triangles from `from` on below t are entered. Assumes nothing.
+-- `pieces::sweep::fill` meets its contract. The triangles from `from` on below t are entered. Assumes nothing.
 use mathlib.Core.Path.{_≡_, refl, _∙_}
 use mathlib.Core.Bool.{true}
 use Prim.Native.Nat.{_-_, _*_, _≤_}
@@ -9,8 +9,8 @@ use lib.ListN.{length}
 use Rattle.pieces.specs.inner.Passes.{Enters}
 use Rattle.pieces.proofs.Rows.{entered-none}
 use Rattle.pieces.proofs.Passes.{ready-then, enters-kept, enters-then}
-use Rattle.pieces.proofs.fill.Statement.{statement}
-use Rattle.pieces.proofs.fill.Tie as tie
+use Rattle.pieces.proofs.sweep.fill.Statement.{statement}
+use Rattle.pieces.proofs.sweep.fill.Tie as tie
 
 abbrev Inv-loop : tie.InvT-loop
 Inv-loop ids work₀ plan from n spare₀ t₀ work spare t =

@@ -1,11 +1,11 @@
--- `pieces::start` meets its contract. Assumes nothing.
+-- `pieces::sweep::start` meets its contract. Assumes nothing.
 use Prim.Native.Nat.{ℕ, _*_, _≤_}
 use native.Mathlib.Nat.{mul-le-mul-right}
 use native.Mathlib.Omega.{arith}
 use borrow.Author.Needs.{needs}
 use Rattle.pieces.specs.inner.Sides.{sideHome}
-use Rattle.pieces.proofs.start.Statement.{statement}
-use Rattle.pieces.proofs.start.Tie as tie
+use Rattle.pieces.proofs.sweep.start.Statement.{statement}
+use Rattle.pieces.proofs.sweep.start.Tie as tie
 
 -- a product of two words fits 64 bits
 product : (x y : ℕ) → x ≤ 4294967295 → y ≤ 4294967295 → x * y ≤ 18446744073709551615

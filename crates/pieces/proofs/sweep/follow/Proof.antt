@@ -1,4 +1,4 @@
--- `pieces::follow` meets its contract. The triangles from `from` on below t are looked up. Assumes nothing.
+-- `pieces::sweep::follow` meets its contract. The triangles from `from` on below t are looked up. Assumes nothing.
 use mathlib.Core.Path.{_≡_, refl, _∙_}
 use mathlib.Core.Bool.{false}
 use Prim.Native.Nat.{_-_, _*_, _≤_}
@@ -8,8 +8,8 @@ use lib.ListN.{length}
 use Rattle.pieces.specs.inner.Passes.{Enters}
 use Rattle.pieces.proofs.Rows.{entered-none}
 use Rattle.pieces.proofs.Passes.{ready-then, enters-then}
-use Rattle.pieces.proofs.follow.Statement.{statement}
-use Rattle.pieces.proofs.follow.Tie as tie
+use Rattle.pieces.proofs.sweep.follow.Statement.{statement}
+use Rattle.pieces.proofs.sweep.follow.Tie as tie
 
 abbrev Inv-loop : tie.InvT-loop
 Inv-loop ids work₀ plan from t₀ work t =

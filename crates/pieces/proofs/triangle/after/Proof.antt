@@ -1,9 +1,9 @@
--- `pieces::after` meets its contract. Assumes nothing.
+-- `pieces::triangle::after` meets its contract. Assumes nothing.
 use mathlib.Core.Path.{sym}
 use borrow.Author.Needs.{needs}
 use Rattle.pieces.proofs.Sides.{after-next, after-last}
-use Rattle.pieces.proofs.after.Statement.{statement}
-use Rattle.pieces.proofs.after.Tie as tie
+use Rattle.pieces.proofs.triangle.after.Statement.{statement}
+use Rattle.pieces.proofs.triangle.after.Tie as tie
 
 returns : tie.Need-returns
 returns c = sym (after-last _ (c .if1 .taken))

@@ -1,4 +1,4 @@
--- `pieces::enter` meets its contract: one side after the other. Assumes nothing.
+-- `pieces::sweep::enter` meets its contract: one side after the other. Assumes nothing.
 use mathlib.Core.Path.{_≡_, sym, ap, _∙_, subst}
 use mathlib.Core.Bool.{true, false, _&&_}
 use Prim.Native.Nat.{ℕ, _+_, _*_, _/_, min, max}
@@ -13,8 +13,8 @@ use Rattle.pieces.specs.inner.Passes.{SlotsReady, Enters}
 use Rattle.pieces.proofs.Sides.{side-at, side-first, flat-not}
 use Rattle.pieces.proofs.Rows.{entered-none}
 use Rattle.pieces.proofs.Passes.{ready-then, enters-then}
-use Rattle.pieces.proofs.enter.Statement.{statement}
-use Rattle.pieces.proofs.enter.Tie as tie
+use Rattle.pieces.proofs.sweep.enter.Statement.{statement}
+use Rattle.pieces.proofs.sweep.enter.Tie as tie
 
 returns : tie.Need-returns
 unfolding solid triangle

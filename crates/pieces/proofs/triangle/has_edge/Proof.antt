@@ -1,12 +1,12 @@
--- `pieces::has_edge` meets its contract. Assumes nothing.
+-- `pieces::triangle::has_edge` meets its contract. Assumes nothing.
 use mathlib.Core.Path.{_≡_, _∙_}
 use native.Mathlib.Omega.{arith}
 use borrow.Author.Needs.{needs}
 use Rattle.ids.specs.Pieces.{hasEdge}
 use Rattle.ids.proofs.Shared.{side}
 use Rattle.pieces.proofs.Sides.{side-at, side-first}
-use Rattle.pieces.proofs.has_edge.Statement.{statement}
-use Rattle.pieces.proofs.has_edge.Tie as tie
+use Rattle.pieces.proofs.triangle.has_edge.Statement.{statement}
+use Rattle.pieces.proofs.triangle.has_edge.Tie as tie
 
 returns : tie.Need-returns
 unfolding hasEdge side

@@ -1,0 +1,243 @@
+// A pass over the triangles with a table of sides in the slots.
+//
+// The slots are a table of sides by their edges: the first side with an edge is entered, and each later one is joined to that one's
+// triangle. There are as many slots as triangles, and up to three times as many edges, so the triangles are gone through several times.
+// Edges fall into three classes that take turns: of a closed surface, with one edge and a half a triangle, a class fills half the
+// slots. A pass enters the sides of a class from some triangle on until the slots are full enough, then only looks the triangles
+// behind up, and the next pass starts where this one stopped entering. Each pass has another hash, and looks at no more than `limit`
+// rows for a side.
+ghost use mathlib.Core.Path.{_≡_};
+ghost use mathlib.Core.Bool.{true, false};
+ghost use Prim.Native.Nat.{_+_, _*_, _≤_, _<_, min};
+ghost use lib.ListN.{length};
+ghost use Rattle.pieces.specs.inner.Joins.{OneWordEach, Labelled};
+ghost use Rattle.pieces.specs.inner.Sides.{taken, sideHome, SoughtIn, Seekable};
+ghost use Rattle.pieces.specs.inner.Passes.{SlotsReady, SideReady, Enters, Settles};
+use crate::triangle::class_of;
+use crate::triangle::is_edge;
+
+// ---- its hash
+
+// The class of edges that a pass takes, the two factors of its hash, and how many rows a search looks at.
+struct Plan {
+    class: u64,
+    low: u32,
+    high: u32,
+    limit: usize,
+}
+
+// How many rows a search looks at, of n: all, if there are few.
+fn limit_of(n: usize) -> usize
+    ensures { λ r. ⌜ r ≡ min n 256 ⌝ }
+{
+    if n < 256 { n } else { 256 }
+}
+
+// An odd number from another, as by chance: no rule that edges could keep leads from one pass's factors to the next one's.
+fn stirred(x: u32) -> u32 {
+    let y = x as u64 * 2246822507 % 0x1_0000_0000;
+    let z = (y + y / 8192) % 0x1_0000_0000;
+    let w = z * 3266489909 % 0x1_0000_0000;
+    ((w + w / 65536) % 0x1_0000_0000 / 2 * 2 + 1) as u32
+}
+
+// The pass over a class from triangle `from` on, with n slots.
+fn plan_of(class: u64, from: usize, n: usize) -> Plan
+    requires { ⌜ from < 4294900000 ⌝ }
+    ensures { λ p. ⌜ (p .class ≡ class) × (p .limit ≡ min n 256) ⌝ }
+{
+    let low = stirred(from as u32 + 795);
+    Plan {
+        class,
+        low,
+        high: stirred(low),
+        limit: limit_of(n),
+    }
+}
+
+// The row at which a search for an edge starts.
+fn start(low: u32, high: u32, plan: Plan, n: usize) -> usize
+    requires { ⌜ (0 < n) × (n < 4294967296) ⌝ }
+    ensures { λ r. ⌜ (r ≡ sideHome (plan .low) (plan .high) n (record { low = low; high = high })) × (r < n) ⌝ }
+{
+    let a = low as u64 * plan.low as u64 % 0x1_0000_0000;
+    let b = high as u64 * plan.high as u64 % 0x1_0000_0000;
+    table::home(((a + b) % 0x1_0000_0000) as u32, n)
+}
+
+// The row, from `at` on and round, that holds a side with the edge or is free; n, if `limit` rows hold others.
+fn find(ids: &[u32], work: &[u32], low: u32, high: u32, at: usize, limit: usize) -> usize
+    requires { ⌜ Seekable (now ids) limit (now work) × (at < length (now work)) ⌝ }
+    ensures { λ r. ⌜ SoughtIn (now (ids .entry)) (now (work .entry)) limit at (record { low = low; high = high }) r ⌝ }
+{
+    let n = work.len();
+    let mut r = at;
+    let mut left = limit;
+    loop {
+        let s = forest::slot(work, r);
+        if s == 0 {
+            return r;
+        }
+        if is_edge(ids, s - 1, low, high) {
+            return r;
+        }
+        left -= 1;
+        if left == 0 {
+            return n;
+        }
+        r = table::next(r, n);
+    }
+}
+
+// ---- entering sides
+
+// What entering gave: whether all is entered, and how many more slots may be filled.
+struct Entry {
+    entered: bool,
+    spare: usize,
+}
+
+// Enters side c, if its edge is of the class: joins it to the side that its row holds, or fills the row if a slot may be filled.
+fn enter_side(
+    ids: &[u32],
+    work: &mut [u32],
+    plan: Plan,
+    spare: usize,
+    c: usize,
+    low: u32,
+    high: u32,
+) -> Entry
+    requires { ⌜ SideReady plan (now ids) (now work) c low high ⌝ }
+    ensures { λ e. ⌜ Enters plan (now (ids .entry)) spare c (c + 1) (now (work .entry)) (now (work .exit)) (e .entered)
+        × (e .spare ≤ spare) ⌝ }
+{
+    if class_of(low, high) != plan.class {
+        return Entry {
+            entered: true,
+            spare,
+        };
+    }
+    let at = start(low, high, plan, work.len());
+    let r = find(ids, work, low, high, at, plan.limit);
+    if r == work.len() {
+        return Entry {
+            entered: false,
+            spare,
+        };
+    }
+    let s = forest::slot(work, r);
+    if s != 0 {
+        forest::join(work, (s - 1) / 3, c / 3);
+        return Entry {
+            entered: true,
+            spare,
+        };
+    }
+    if spare == 0 {
+        return Entry {
+            entered: false,
+            spare,
+        };
+    }
+    forest::hold(work, r, c + 1);
+    Entry {
+        entered: true,
+        spare: spare - 1,
+    }
+}
+
+// Enters the three sides of triangle t, if its ids are distinct.
+fn enter(ids: &[u32], work: &mut [u32], plan: Plan, spare: usize, t: usize) -> Entry
+    requires { ⌜ SlotsReady plan (now ids) (now work) × (t < length (now work)) ⌝ }
+    ensures { λ e. ⌜ Enters plan (now (ids .entry)) spare (3 * t) (3 * (t + 1)) (now (work .entry)) (now (work .exit)) (e .entered)
+        × (e .spare ≤ spare) ⌝ }
+{
+    let at = 3 * t;
+    let a = ids[at];
+    let b = ids[at + 1];
+    let c = ids[at + 2];
+    if !table::distinct(a, b, c) {
+        return Entry {
+            entered: true,
+            spare,
+        };
+    }
+    let ab = enter_side(
+        ids,
+        work,
+        plan,
+        spare,
+        at,
+        table::lesser(a, b),
+        table::greater(a, b),
+    );
+    let bc = enter_side(
+        ids,
+        work,
+        plan,
+        ab.spare,
+        at + 1,
+        table::lesser(b, c),
+        table::greater(b, c),
+    );
+    let ca = enter_side(
+        ids,
+        work,
+        plan,
+        bc.spare,
+        at + 2,
+        table::lesser(c, a),
+        table::greater(c, a),
+    );
+    Entry {
+        entered: (ab.entered & bc.entered) & ca.entered,
+        spare: ca.spare,
+    }
+}
+
+// Enters triangles from `from` on, up to the first that finds no room: which one that is, or their number.
+fn fill(ids: &[u32], work: &mut [u32], plan: Plan, from: usize) -> usize
+    requires { ⌜ SlotsReady plan (now ids) (now work) × (from ≤ length (now work)) ⌝ }
+    ensures { λ next. ⌜ (from ≤ next) × (next ≤ length (now (work .entry)))
+        × Enters plan (now (ids .entry)) 1 (3 * from) (3 * next) (now (work .entry)) (now (work .exit)) true ⌝ }
+{
+    let n = work.len();
+    let mut spare = n - n / 8;
+    let mut t = from;
+    while t < n {
+        let e = enter(ids, work, plan, spare, t);
+        if !e.entered {
+            return t;
+        }
+        spare = e.spare;
+        t += 1;
+    }
+    t
+}
+
+// Looks the triangles from `from` on up: it enters them with no slot to fill.
+fn follow(ids: &[u32], work: &mut [u32], plan: Plan, from: usize)
+    requires { ⌜ SlotsReady plan (now ids) (now work) × (from ≤ length (now work)) ⌝ }
+    ensures { λ _. ⌜ Enters plan (now (ids .entry)) 0 (3 * from) (3 * length (now (work .entry))) (now (work .entry)) (now (work .exit)) false ⌝ }
+{
+    let mut t = from;
+    while t < work.len() {
+        enter(ids, work, plan, 0, t);
+        t += 1;
+    }
+}
+
+// One pass over a class, from triangle `from` on: every side that it entered is joined with all behind it that have its edge. Where it
+// stopped entering.
+pub fn pass(ids: &[u32], work: &mut [u32], class: u64, from: usize) -> usize
+    requires { ⌜ OneWordEach (now ids) (now work) × Labelled (now ids) (now work) × (from < length (now work)) ⌝ }
+    ensures { λ next. ⌜ (from ≤ next) × (next ≤ length (now (work .entry)))
+        × Settles (now (ids .entry)) (taken (now (ids .entry)) class) (length (now (work .entry))) (3 * from) (3 * next)
+        (now (work .entry)) (now (work .exit)) ⌝ }
+{
+    forest::free(work);
+    let plan = plan_of(class, from, work.len());
+    let next = fill(ids, work, plan, from);
+    follow(ids, work, plan, next);
+    next
+}

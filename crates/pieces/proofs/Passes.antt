@@ -137,13 +137,13 @@ settled {ids} {home} {limit} {n} {take} {a} {b} {s} {g} {h} z cov keeps fol i j 
         ∙ fol j (omega arith) lj tj (first .0) (first .1) (first .2) (first .3 ∙ e)
 
 -- the slots freed, filled, and the sides behind looked up
-pub swept : {ids : List ℕ} {home : Edge → ℕ} {limit m n : ℕ} {take : ℕ → Bool} {spare spare′ a b : ℕ} {t u v w : List ℕ} {e : Bool}
+pub swept : {ids : List ℕ} {home : Edge → ℕ} {limit m n : ℕ} {take : ℕ → Bool} {spare spare′ a b c : ℕ} {t u v w : List ℕ} {e e′ : Bool}
     → length u ≡ length t → Freed m t u
-    → Entered ids home limit n take spare a b u v true → Entered ids home limit n take spare′ b (3 * n) v w e
+    → Entered ids home limit n take spare a b u v e → e ≡ true → Entered ids home limit n take spare′ b c v w e′ → c ≡ 3 * n
     → Settles ids take n a b t w
-swept long freed fill rest =
+swept long freed fill filled rest all =
     more-then (λ f g. fill .more f (good-kept long (freed .parents) g)) (rest .more)
-    (λ g h cov keeps fol. settled (fill .slots) (cov .0 refl) keeps (fol .1))
+    (λ g h cov keeps fol. settled (fill .slots) (cov .0 filled) keeps (λ i la lb. fol .1 i la (omega arith)))
 
 -- one triangle by itself
 pub settled-one : {ids : List ℕ} {n : ℕ} (q : ℕ) {t : ℕ} {f : ℕ → ℕ} → t < n → Tied ids n t (t + 1) n f

@@ -7,12 +7,11 @@
 // behind up, and the next pass starts where this one stopped entering. Each pass has another hash, and looks at no more than `limit`
 // rows for a side.
 ghost use mathlib.Core.Path.{_≡_};
-ghost use mathlib.Core.Bool.{true, false};
 ghost use Prim.Native.Nat.{_+_, _*_, _≤_, _<_, min};
 ghost use lib.ListN.{length};
 ghost use Rattle.pieces.specs.inner.Joins.{OneWordEach, Labelled};
 ghost use Rattle.pieces.specs.inner.Sides.{taken, sideHome, SoughtIn, Seekable};
-ghost use Rattle.pieces.specs.inner.Passes.{SlotsReady, SideReady, Enters, Settles};
+ghost use Rattle.pieces.specs.inner.Passes.{SlotsReady, SideReady, Enters, EntersTo, Settles};
 use crate::triangle::class_of;
 use crate::triangle::is_edge;
 
@@ -97,20 +96,23 @@ struct Entry {
     spare: usize,
 }
 
-// Enters side c, if its edge is of the class: joins it to the side that its row holds, or fills the row if a slot may be filled.
+// Enters side c, between ids u and v, if its edge is of the class: joins it to the side that its row holds, or fills the row if a slot may
+// be filled.
 fn enter_side(
     ids: &[u32],
     work: &mut [u32],
     plan: Plan,
     spare: usize,
     c: usize,
-    low: u32,
-    high: u32,
+    u: u32,
+    v: u32,
 ) -> Entry
-    requires { ⌜ SideReady plan (now ids) (now work) c low high ⌝ }
+    requires { ⌜ SideReady plan (now ids) (now work) c u v ⌝ }
     ensures { λ e. ⌜ Enters plan (now (ids .entry)) spare c (c + 1) (now (work .entry)) (now (work .exit)) (e .entered)
         × (e .spare ≤ spare) ⌝ }
 {
+    let low = table::lesser(u, v);
+    let high = table::greater(u, v);
     if class_of(low, high) != plan.class {
         return Entry {
             entered: true,
@@ -162,69 +164,34 @@ fn enter(ids: &[u32], work: &mut [u32], plan: Plan, spare: usize, t: usize) -> E
             spare,
         };
     }
-    let ab = enter_side(
-        ids,
-        work,
-        plan,
-        spare,
-        at,
-        table::lesser(a, b),
-        table::greater(a, b),
-    );
-    let bc = enter_side(
-        ids,
-        work,
-        plan,
-        ab.spare,
-        at + 1,
-        table::lesser(b, c),
-        table::greater(b, c),
-    );
-    let ca = enter_side(
-        ids,
-        work,
-        plan,
-        bc.spare,
-        at + 2,
-        table::lesser(c, a),
-        table::greater(c, a),
-    );
+    let ab = enter_side(ids, work, plan, spare, at, a, b);
+    let bc = enter_side(ids, work, plan, ab.spare, at + 1, b, c);
+    let ca = enter_side(ids, work, plan, bc.spare, at + 2, c, a);
     Entry {
         entered: (ab.entered & bc.entered) & ca.entered,
         spare: ca.spare,
     }
 }
 
-// Enters triangles from `from` on, up to the first that finds no room: which one that is, or their number.
-fn fill(ids: &[u32], work: &mut [u32], plan: Plan, from: usize) -> usize
+// Enters triangles from `from` on: with slots to fill up to the first that finds no room, with none all of them, which only looks them
+// up. Which triangle comes next.
+fn enter_from(ids: &[u32], work: &mut [u32], plan: Plan, most: usize, from: usize) -> usize
     requires { ⌜ SlotsReady plan (now ids) (now work) × (from ≤ length (now work)) ⌝ }
-    ensures { λ next. ⌜ (from ≤ next) × (next ≤ length (now (work .entry)))
-        × Enters plan (now (ids .entry)) 1 (3 * from) (3 * next) (now (work .entry)) (now (work .exit)) true ⌝ }
+    ensures { λ next. ⌜ EntersTo plan (now (ids .entry)) most from next (now (work .entry)) (now (work .exit)) ⌝ }
 {
     let n = work.len();
-    let mut spare = n - n / 8;
+    let filling = 0 < most;
+    let mut spare = most;
     let mut t = from;
     while t < n {
         let e = enter(ids, work, plan, spare, t);
-        if !e.entered {
+        if !e.entered & filling {
             return t;
         }
         spare = e.spare;
         t += 1;
     }
     t
-}
-
-// Looks the triangles from `from` on up: it enters them with no slot to fill.
-fn follow(ids: &[u32], work: &mut [u32], plan: Plan, from: usize)
-    requires { ⌜ SlotsReady plan (now ids) (now work) × (from ≤ length (now work)) ⌝ }
-    ensures { λ _. ⌜ Enters plan (now (ids .entry)) 0 (3 * from) (3 * length (now (work .entry))) (now (work .entry)) (now (work .exit)) false ⌝ }
-{
-    let mut t = from;
-    while t < work.len() {
-        enter(ids, work, plan, 0, t);
-        t += 1;
-    }
 }
 
 // One pass over a class, from triangle `from` on: every side that it entered is joined with all behind it that have its edge. Where it
@@ -236,8 +203,9 @@ pub fn pass(ids: &[u32], work: &mut [u32], class: u64, from: usize) -> usize
         (now (work .entry)) (now (work .exit)) ⌝ }
 {
     forest::free(work);
-    let plan = plan_of(class, from, work.len());
-    let next = fill(ids, work, plan, from);
-    follow(ids, work, plan, next);
+    let n = work.len();
+    let plan = plan_of(class, from, n);
+    let next = enter_from(ids, work, plan, n - n / 8, from);
+    enter_from(ids, work, plan, 0, next);
     next
 }

@@ -4,6 +4,7 @@
 use super::lists::{boxes, fan, mixed, soup, torus, Shape};
 use super::routines::{Routine, MOST_IDS, ROUTINES};
 use crate::random::Random;
+use std::collections::HashSet;
 use std::hint::black_box;
 use std::time::Instant;
 
@@ -48,8 +49,8 @@ pub fn at_the_limit(routine: &Routine) -> impl Iterator<Item = Row> + '_ {
 pub fn worst() -> Vec<Row> {
     let lists = [
         ("edge_chain", "ids against the hash", against_edges()),
-        ("pieces", "ids against the first pass's hash", against_first_pass()),
-        ("pieces", "ids against every pass's hash", against_every_pass()),
+        ("pieces", "edges against the first pass's hash", against_first_pass()),
+        ("pieces", "edges against every pass's hash", against_every_pass()),
     ];
     let named = |name: &str| ROUTINES.iter().find(|routine| routine.name == name).expect("a routine of that name");
     lists.iter().map(|(name, on, ids)| best_of(1, 0.0, named(name), (*on).into(), ids)).collect()
@@ -79,26 +80,60 @@ fn against_edges() -> Vec<u32> {
     ids
 }
 
-/// The odd number of a pass of the piece count from a corner on.
-fn odd_of(from: usize) -> u32 {
-    3_416_884_090_u32.wrapping_mul(from as u32).wrapping_add(3_008_513_259)
+/// What the piece count makes the factors of its hash with.
+fn stirred(x: u32) -> u32 {
+    let y = x.wrapping_mul(2_246_822_507);
+    let z = y.wrapping_add(y / 8192);
+    let w = z.wrapping_mul(3_266_489_909);
+    w.wrapping_add(w / 65_536) | 1
 }
 
-/// Ids that all start at one row in the first pass.
-fn against_first_pass() -> Vec<u32> {
-    let step = inverse(odd_of(0));
-    (0..MOST_IDS as u32).map(|i| i.wrapping_mul(step)).collect()
+/// The two factors of a pass of the piece count from a triangle on.
+fn factors(from: usize) -> (u32, u32) {
+    let low = stirred(from as u32 + 795);
+    (low, stirred(low))
 }
 
-/// Each pass meets 65 ids that start at one row, so that it enters 64 of them and stops.
-fn against_every_pass() -> Vec<u32> {
-    let mut ids = vec![7];
-    while ids.len() < MOST_IDS {
-        let step = inverse(odd_of(ids.len() - 1));
-        ids.extend((1..=65).map(|i: u32| i.wrapping_mul(step)));
+/// A triangle whose three edges start at the first of 32,768 rows in a pass with these factors, and are of the first class.
+fn at_first_row((low, high): (u32, u32), random: &mut Random) -> [u32; 3] {
+    const ROW: usize = 1 << 16;
+    let first_class = |x: u32, y: u32| (x as u64 + y as u64) / 8 % 3 == 0;
+    let both = low.wrapping_add(high);
+    let even = both.trailing_zeros();
+    loop {
+        // a * low + b * high and b * (low + high) are below half a row's share of the hashes, and c lies so much behind b
+        let (ab, b, on) = (random.below(ROW) as u32, random.below(ROW >> even) as u32, random.below(ROW) as u32);
+        let b = b.wrapping_mul(inverse(both >> even));
+        let c = b.wrapping_add(on.wrapping_mul(inverse(high)));
+        let a = ab.wrapping_sub(b.wrapping_mul(high)).wrapping_mul(inverse(low));
+        if a < b && b < c && first_class(a, b) && first_class(b, c) && first_class(a, c) {
+            return [a, b, c];
+        }
     }
-    ids.truncate(MOST_IDS);
-    ids
+}
+
+/// All edges start at one row in the first pass.
+fn against_first_pass() -> Vec<u32> {
+    let mut random = Random::new(7);
+    (0..MOST_IDS / 3).flat_map(|_| at_first_row(factors(0), &mut random)).collect()
+}
+
+/// Each pass meets more edges that start at one row than a search looks at rows, so that it stops there.
+fn against_every_pass() -> Vec<u32> {
+    const LIMIT: usize = 256;
+    let mut random = Random::new(7);
+    let mut triangles = vec![[0, 1, 2]];
+    while triangles.len() < MOST_IDS / 3 {
+        let hash = factors(triangles.len() - 1);
+        let mut edges = HashSet::new();
+        while edges.len() <= LIMIT {
+            let [a, b, c] = at_first_row(hash, &mut random);
+            edges.extend([(a, b), (b, c), (a, c)]);
+            triangles.push([a, b, c]);
+        }
+    }
+    triangles.truncate(MOST_IDS / 3);
+    triangles.concat()
 }
 
 pub fn race(routine: &Routine, on: String, ids: &[u32]) -> Row {

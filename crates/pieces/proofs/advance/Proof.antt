@@ -1,5 +1,5 @@
 -- `pieces::advance` meets its contract: a pass, or behind one that entered nothing the first triangle by itself. Assumes nothing.
-use mathlib.Core.Path.{_≡_, _∙_}
+use mathlib.Core.Path.{_∙_}
 use native.Mathlib.Omega.{arith}
 use borrow.Author.Needs.{needs}
 use Rattle.pieces.proofs.Joins.{labelled-then, more-then}

@@ -1,7 +1,6 @@
 -- `pieces::tie` meets its contract: linked triangles are joined, others are not linked. Assumes nothing.
 use mathlib.Core.Path.{_≡_, sym, ap, _∙_, subst}
-use mathlib.Core.Bool.{Bool, true, false, _&&_, true≢false}
-use Prim.Native.Nat.{ℕ}
+use mathlib.Core.Bool.{true, false, true≢false}
 use native.Mathlib.Omega.{arith}
 use borrow.Author.Needs.{needs}
 use lib.ListN.{length}
@@ -10,7 +9,7 @@ use Rattle.ids.proofs.Same.{both}
 use Rattle.forest.specs.inner.Labels.{merged}
 use Rattle.forest.proofs.Labels.{merged-joins}
 use Rattle.pieces.specs.inner.Joins.{Linked}
-use Rattle.pieces.proofs.Joins.{more-joined, more-none, good-forest}
+use Rattle.pieces.proofs.Joins.{more-joined, more-none}
 use Rattle.pieces.proofs.tie.Statement.{statement}
 use Rattle.pieces.proofs.tie.Tie as tie
 

@@ -4,9 +4,10 @@ use mathlib.Core.Path.{_≡_}
 use mathlib.Core.Bool.{Bool, true}
 use mathlib.Core.List.{List}
 use Prim.Native.Nat.{ℕ, _-_, _*_, _/_, _≤_, _<_}
+use lib.Dec.{ltb}
 use lib.ListN.{length}
 use Rattle.forest.specs.inner.Words.{heldIn}
-use Rattle.ids.specs.EdgeChain.{Edge}
+use Rattle.ids.specs.EdgeChain.{Edge, edge}
 use Rattle.ids.specs.Pieces.{solid}
 use Rattle.pieces.specs.declared.sweep.Plan.{Plan}
 use Rattle.pieces.specs.inner.Joins.{OneWordEach, Linked, Labelled, Grows}
@@ -49,16 +50,23 @@ pub record SlotsReady (plan : Plan) (ids t : List ℕ) : Type 0 where
   pub slots : Slots ids (homeIn plan t) (plan .limit) (length t) (heldIn t)
   pub labelled : Labelled ids t
 
--- side c, of a distinct-id triangle, and its edge
-pub record SideReady (plan : Plan) (ids t : List ℕ) (c low high : ℕ) : Type 0 where
+-- side c, of a distinct-id triangle, between ids u and v
+pub record SideReady (plan : Plan) (ids t : List ℕ) (c u v : ℕ) : Type 0 where
   pub ready : SlotsReady plan ids t
   pub here : c < 3 * length t
   pub of-solid : solid ids (c / 3) ≡ true
-  pub is : sideEdge ids c ≡ record { low = low; high = high }
+  pub is : sideEdge ids c ≡ edge u v
 
 abbrev pub Enters : Plan → List ℕ → ℕ → ℕ → ℕ → List ℕ → List ℕ → Bool → Type 0
 Enters plan ids spare a b t u entered =
     Entered ids (homeIn plan t) (plan .limit) (length t) (taken ids (plan .class)) spare a b t u entered
+
+-- the triangles from `from` on below `next`, and with no slot to fill all of them
+pub record EntersTo (plan : Plan) (ids : List ℕ) (spare from next : ℕ) (t u : List ℕ) : Type 0 where
+  pub ahead : from ≤ next
+  pub within : next ≤ length t
+  pub enters : Enters plan ids spare (3 * from) (3 * next) t u (ltb 0 spare)
+  pub all : spare ≡ 0 → next ≡ length t
 
 -- ---- what passes leave settled
 

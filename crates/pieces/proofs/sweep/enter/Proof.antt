@@ -1,12 +1,11 @@
 -- `pieces::sweep::enter` meets its contract: one side after the other. Assumes nothing.
 use mathlib.Core.Path.{_≡_, sym, ap, _∙_, subst}
 use mathlib.Core.Bool.{true, false, _&&_}
-use Prim.Native.Nat.{ℕ, _+_, _*_, _/_, min, max}
+use Prim.Native.Nat.{ℕ, _+_, _*_, _/_}
 use native.Mathlib.Omega.{arith}
 use borrow.Author.Tests.{not-true, not-false}
 use borrow.Author.Needs.{needs}
 use Rattle.ids.specs.Triangles.{triangle}
-use Rattle.ids.specs.EdgeChain.{Edge, edge}
 use Rattle.ids.specs.Pieces.{solid}
 use Rattle.ids.proofs.Shared.{side}
 use Rattle.pieces.specs.inner.Passes.{SlotsReady, Enters}
@@ -29,9 +28,6 @@ returns c =
       omega arith,
     )
 
-edge-is : (u v : ℕ) {low high : ℕ} → low ≡ min u v → high ≡ max u v → edge u v ≡ record { low = low; high = high }
-edge-is u v p q = λ i. record { low = sym p i; high = sym q i }
-
 -- a triangle of distinct ids
 module _ (c : tie.Else1) where
   abbrev st : tie.Start
@@ -46,19 +42,19 @@ module _ (c : tie.Else1) where
 enter-side-requires : tie.Need-enter-side-requires
 unfolding side triangle
 enter-side-requires c κs =
-    let k = c .before .before .before in
+    let k = c .before in
     let start = st k in
     record {
       ready = start .pre .0;
       here = omega (arith, start .pre .1);
       of-solid = of-solid k _ (omega arith);
-      is = side-first (start .args .ids .now) (start .args .t) ∙ edge-is _ _ (c .before .lesser .ensures) (c .greater .ensures);
+      is = side-first (start .args .ids .now) (start .args .t);
     }
 
 -- after the first side
 module _ (c : tie.After-enter-side) where
   abbrev first : tie.Else1
-  first = c .before .before .before .before
+  first = c .before .before
 
   ready-1 : SlotsReady (st first .args .plan) (st first .args .ids .now) (c .enter-side .last .1 .0)
   ready-1 = ready-then _ (st first .pre .0) (c .enter-side .kept .1 .0) (c .enter-side .ensures .0)
@@ -66,19 +62,19 @@ module _ (c : tie.After-enter-side) where
 enter-side-requires-2 : tie.Need-enter-side-requires-2
 unfolding side triangle
 enter-side-requires-2 c κs =
-    let one = c .before .before .before .before .before in
+    let one = c .before .before .before in
     let start = st (first one) in
     record {
       ready = ready-1 one;
       here = omega (arith, start .pre .1, one .enter-side .kept .1 .0);
       of-solid = of-solid (first one) _ (omega arith);
-      is = side-at (start .args .ids .now) (start .args .t) 1 (omega arith) ∙ edge-is _ _ (c .before .lesser2 .ensures) (c .greater2 .ensures);
+      is = side-at (start .args .ids .now) (start .args .t) 1 (omega arith);
     }
 
 -- after the second
 module _ (c : tie.After-enter-side2) where
   abbrev second : tie.After-enter-side
-  second = c .before .before .before .before .before .before
+  second = c .before .before .before .before
 
   ready-2 : SlotsReady (st (first second) .args .plan) (st (first second) .args .ids .now) (c .enter-side2 .last .1 .0)
   ready-2 = ready-then _ (ready-1 second) (c .enter-side2 .kept .1 .0) (c .enter-side2 .ensures .0)
@@ -91,20 +87,20 @@ add-enter-side-2 c =
 enter-side-requires-3 : tie.Need-enter-side-requires-3
 unfolding side triangle
 enter-side-requires-3 c κs =
-    let two = c .before .before .before .before .before in
+    let two = c .before .before .before in
     let one = second two in
     let start = st (first one) in
     record {
       ready = ready-2 two;
       here = omega (arith, start .pre .1, one .enter-side .kept .1 .0, two .enter-side2 .kept .1 .0);
       of-solid = of-solid (first one) _ (omega arith);
-      is = side-at (start .args .ids .now) (start .args .t) 2 (omega arith) ∙ edge-is _ _ (c .before .lesser3 .ensures) (c .greater3 .ensures);
+      is = side-at (start .args .ids .now) (start .args .t) 2 (omega arith);
     }
 
 returns-2 : tie.Need-returns-2
 returns-2 c =
     let three = c .before .before .before .before .before in
-    let two = three .before .before .before .before .before .before in
+    let two = three .before .before .before .before in
     let one = second two in
     let a = one .enter-side in
     let b = two .enter-side2 in
@@ -122,6 +118,5 @@ pub enter-spec : {M : Type 1} → statement M
 enter-spec =
     tie.close
     (tie.spec (λ c. search needs) (λ c. search needs) (λ c. search needs) (λ c. search needs) (λ c. search needs) (λ c. search needs)
-    (λ c. search needs) (λ c. search needs) (λ c. search needs) (λ c κs. search needs) returns (λ c κs. search needs) (λ c κs. search needs)
-    enter-side-requires (λ c. search needs) (λ c κs. search needs) (λ c κs. search needs) enter-side-requires-2 add-enter-side-2
-    (λ c κs. search needs) (λ c κs. search needs) enter-side-requires-3 (λ c. search needs) returns-2)
+    (λ c. search needs) (λ c. search needs) (λ c. search needs) (λ c κs. search needs) returns enter-side-requires (λ c. search needs)
+    enter-side-requires-2 add-enter-side-2 enter-side-requires-3 (λ c. search needs) returns-2)

@@ -1,8 +1,9 @@
 -- `pieces::sweep::pass` meets its contract. The slots are freed, filled, and the triangles behind looked up. Assumes nothing.
-use mathlib.Core.Path.{_≡_, _∙_, subst}
-use Prim.Native.Nat.{ℕ, _*_}
+use mathlib.Core.Path.{_≡_, refl, _∙_, subst}
+use Prim.Native.Nat.{ℕ, _-_, _*_, _/_}
 use native.Mathlib.Omega.{arith}
 use borrow.Author.Needs.{needs}
+use borrow.Author.Tests.{lt-ltb}
 use lib.ListN.{length}
 use Rattle.pieces.specs.inner.Passes.{SlotsReady, Settles}
 use Rattle.pieces.specs.inner.Sides.{taken}
@@ -34,34 +35,36 @@ module _ (c : tie.After-plan-of) where
         labelled = (z .0, good-kept long (freed .free .ensures .parents) (z .1));
       }
 
-fill-requires : tie.Need-fill-requires
-fill-requires c κs = let k = c .before in (emptied k, omega (arith, long k, st k .pre .2))
+enter-from-requires : tie.Need-enter-from-requires
+enter-from-requires c κs = let k = c .before in (emptied k, omega (arith, long k, st k .pre .2))
 
-follow-requires : tie.Need-follow-requires
-follow-requires c κs =
-    let fill = c .before .before .before in
-    let k = fill .before .before in
-    let kept = fill .fill .kept .1 .0 in
-    (ready-then _ (emptied k) kept (fill .fill .ensures .2), omega (arith, kept, fill .fill .ensures .1))
+enter-from-requires-2 : tie.Need-enter-from-requires-2
+enter-from-requires-2 c κs =
+    let filled = c .before .before .before in
+    let kept = filled .enter-from .kept .1 .0 in
+    let told = filled .enter-from .ensures in
+    (ready-then _ (emptied (filled .before .before)) kept (told .enters), omega (arith, kept, told .within))
 
 returns : tie.Need-returns
 returns c =
-    let followed = c .before .before in
-    let fill = followed .before .before .before .before in
-    let k = fill .before .before in
-    let told = fill .fill .ensures in
-    let kept = fill .fill .kept .1 .0 in
-    let behind = rw kept at (followed .follow .ensures) in
-    let all = swept (long k) (freed k .free .ensures) (told .2) behind in
+    let looked = c .before .before in
+    let filled = looked .before .before .before .before in
+    let k = filled .before .before in
     let start = st k in
-    let ids = start .args .ids .now in (
-      told .0,
-      omega (arith, told .1, long k),
-      subst (λ (q : ℕ). Settles ids (taken ids q) (length (start .args .work .now)) (3 * start .args .from) (3 * fill .fill .result)
-          (start .args .work .now) (followed .follow .last .1 .0)) (k .plan-of .ensures .0) (rw (long k) at all),
+    let ids = start .args .ids .now in
+    let told = filled .enter-from .ensures in
+    let kept = filled .enter-from .kept .1 .0 in
+    let behind = looked .enter-from2 .ensures in
+    let some = lt-ltb 0 (length (freed k .free .last .0) - length (freed k .free .last .0) / 8) (omega (arith, long k, start .pre .2)) in
+    let all = swept (long k) (freed k .free .ensures) (told .enters) some (rw kept at (behind .enters)) (omega (arith, behind .all refl, kept)) in (
+      told .ahead,
+      omega (arith, told .within, long k),
+      subst (λ (q : ℕ). Settles ids (taken ids q) (length (start .args .work .now)) (3 * start .args .from) (3 * filled .enter-from .result)
+          (start .args .work .now) (looked .enter-from2 .last .1 .0)) (k .plan-of .ensures .0) (rw (long k) at all),
     )
 
 pub pass-spec : {M : Type 1} → statement M
 pass-spec =
     tie.close
-    (tie.spec (λ c κs. search needs) (λ c κs. search needs) fill-requires follow-requires (λ c. search needs) returns)
+    (tie.spec (λ c κs. search needs) (λ c κs. search needs) (λ c. search needs) enter-from-requires enter-from-requires-2
+    (λ c. search needs) returns)

@@ -1,5 +1,4 @@
 -- `pieces::triangle::has_edge` meets its contract. Assumes nothing.
-use mathlib.Core.Path.{_≡_, _∙_}
 use native.Mathlib.Omega.{arith}
 use borrow.Author.Needs.{needs}
 use Rattle.ids.specs.Pieces.{hasEdge}

@@ -1,5 +1,4 @@
 -- `pieces::triangle::share_edge` meets its contract. Assumes nothing.
-use mathlib.Core.Path.{_≡_, _∙_}
 use borrow.Author.Needs.{needs}
 use Rattle.ids.specs.Triangles.{triangle}
 use Rattle.ids.specs.Pieces.{shareEdge}

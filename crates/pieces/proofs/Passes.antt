@@ -73,15 +73,16 @@ module _ {ids : List ℕ} {home : Edge → ℕ} {limit n : ℕ} {take : ℕ → 
         more = more-then (p .more) (q .more) (λ g h old keeps new. (covered g h old keeps new, followed g h old keeps new));
       }
     where
-      covered : (g h : ℕ → ℕ) → Asked ids take n a b (heldIn t) (heldIn u) e g → ((x y : ℕ) → g x ≡ g y → h x ≡ h y) → Asked ids take n b′ c (heldIn u) (heldIn v) e′ h → e && e′ ≡ true
-          → Covered ids take n (heldIn v) a c h
+      covered : (g h : ℕ → ℕ) → Asked ids take n a b (heldIn t) (heldIn u) e g → ((x y : ℕ) → g x ≡ g y → h x ≡ h y)
+          → Asked ids take n b′ c (heldIn u) (heldIn v) e′ h → e && e′ ≡ true → Covered ids take n (heldIn v) a c h
       covered g h old keeps new z i la lc tk =
           elim (decLt i b) [
             | yes l ↦ has-kept ids (q .rows) keeps i (old .0 (both e e′ z .0) i la l tk)
             | no l ↦ new .0 (both e e′ z .1) i (omega arith) lc tk
           ]
 
-      followed : (g h : ℕ → ℕ) → Asked ids take n a b (heldIn t) (heldIn u) e g → ((x y : ℕ) → g x ≡ g y → h x ≡ h y) → Asked ids take n b′ c (heldIn u) (heldIn v) e′ h → Followed ids take n (heldIn t) a c h
+      followed : (g h : ℕ → ℕ) → Asked ids take n a b (heldIn t) (heldIn u) e g → ((x y : ℕ) → g x ≡ g y → h x ≡ h y)
+          → Asked ids take n b′ c (heldIn u) (heldIn v) e′ h → Followed ids take n (heldIn t) a c h
       followed g h old keeps new i la lc tk r lr used k =
           let stays : heldIn u r ≡ heldIn t r = p .rows r lr used in
           elim (decLt i b) [
@@ -203,7 +204,8 @@ joining-next {ids} {t} {u} {n} {q} z w = record { label = new .label; good = new
         elim (decLt p q) [
           | yes old ↦ new .keeps (i / 3) (j / 3) (z .done p old i j la lb le lj ti tj e)
           | no now ↦ (let same : p ≡ q = omega arith in
-              new .holds i j la lb le lj (subst (λ (x : ℕ). taken ids x i ≡ true) same ti) (subst (λ (x : ℕ). taken ids x j ≡ true) same tj) e)
+              new .holds i j la lb le lj (subst (λ (x : ℕ). taken ids x i ≡ true) same ti)
+              (subst (λ (x : ℕ). taken ids x j ≡ true) same tj) e)
         ]
 
 -- linked triangles have sides with one edge, and its class is one of the three

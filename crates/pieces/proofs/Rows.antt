@@ -201,6 +201,9 @@ module _ {ids : List ℕ} (t : List ℕ) {home : Edge → ℕ} {limit c r : ℕ}
             label = f;
             good = good-kept (length-set t r _) (parents-stay t r (c + 1) lr) g;
             keeps = λ x y q. q;
-            holds = (λ q i la lb tk. covered-one ids (length t) (heldIn v) f c (has-new f) i la lb, followed w take f (λ l u. absurd (omega arith)));
+            holds = (
+              λ q i la lb tk. covered-one ids (length t) (heldIn v) f c (has-new f) i la lb,
+              followed w take f (λ l u. absurd (omega arith)),
+            );
           };
         }

@@ -20,7 +20,8 @@ pub record Seeking {K : Type 0} (n limit at : ℕ) (key : ℕ → K) (mark : ℕ
   pub rows : dist n at r + left ≡ limit
   pub some : 0 < left
 
-pub seek-first : {K : Type 0} {n limit at : ℕ} {key : ℕ → K} {mark : ℕ → ℕ} {k : K} → at < n → 0 < limit → Seeking n limit at key mark k at limit
+pub seek-first : {K : Type 0} {n limit at : ℕ} {key : ℕ → K} {mark : ℕ → ℕ} {k : K} → at < n → 0 < limit
+    → Seeking n limit at key mark k at limit
 seek-first {n = n} {at = at} home some = record { looking = look-first home; rows = omega (arith, dist-here n at home); some = some }
 
 module _ {K : Type 0} {n limit at : ℕ} {key : ℕ → K} {mark : ℕ → ℕ} {k : K} {r left : ℕ} (s : Seeking n limit at key mark k r left) where

@@ -106,11 +106,12 @@ returns-2 c =
     let b = two .enter-side2 in
     let d = three .enter-side3 in
     let ab = enters-then _ (a .kept .1 .0) (a .ensures .0) (b .ensures .0) (λ z. omega (arith, a .ensures .1)) (omega arith) in
-    let all = enters-then _ (b .kept .1 .0 ∙ a .kept .1 .0) ab (d .ensures .0) (λ z. omega (arith, a .ensures .1, b .ensures .1)) (omega arith) in
+    let all = enters-then _ (b .kept .1 .0 ∙ a .kept .1 .0) ab (d .ensures .0) (λ z. omega (arith, a .ensures .1, b .ensures .1))
+    (omega arith) in
     let start = st (first one) in
     let e : 3 * start .args .t + 2 + 1 ≡ 3 * (start .args .t + 1) = omega arith in (
-      subst (λ (x : ℕ). Enters (start .args .plan) (start .args .ids .now) (start .args .spare) (3 * start .args .t) x (start .args .work .now)
-          (d .last .1 .0) ((a .result .entered && b .result .entered) && d .result .entered)) e all,
+      subst (λ (x : ℕ). Enters (start .args .plan) (start .args .ids .now) (start .args .spare) (3 * start .args .t) x
+          (start .args .work .now) (d .last .1 .0) ((a .result .entered && b .result .entered) && d .result .entered)) e all,
       omega (arith, a .ensures .1, b .ensures .1, d .ensures .1),
     )
 

@@ -123,6 +123,6 @@ returns-5 c =
 pub enter-side-spec : {M : Type 1} → statement M
 enter-side-spec =
     tie.close
-    (tie.spec (λ c κs. search needs) (λ c κs. search needs) (λ c κs. search needs) returns (λ c κs. search needs) (λ c κs. search needs) (λ c. search needs) returns-2
-    (λ c κs. search needs) (λ c. search needs) join-requires (λ c. search needs) returns-3 (λ c. search needs) returns-4 (λ c. search needs)
-    (λ c κs. search needs) (λ c. search needs) (λ c. search needs) returns-5)
+    (tie.spec (λ c κs. search needs) (λ c κs. search needs) (λ c κs. search needs) returns (λ c κs. search needs) (λ c κs. search needs)
+    (λ c. search needs) returns-2 (λ c κs. search needs) (λ c. search needs) join-requires (λ c. search needs) returns-3
+    (λ c. search needs) returns-4 (λ c. search needs) (λ c κs. search needs) (λ c. search needs) (λ c. search needs) returns-5)

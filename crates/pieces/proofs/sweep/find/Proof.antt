@@ -1,6 +1,5 @@
--- `pieces::sweep::find` meets its contract, by the law of a turn: each row passed is used by another edge, and the rows passed and those left
--- make the limit.
--- Assumes nothing.
+-- `pieces::sweep::find` meets its contract, by the law of a turn: each row passed is used by another edge, and the rows passed and those
+-- left make the limit. Assumes nothing.
 use mathlib.Core.Path.{_≡_, sym, ap, _∙_}
 use mathlib.Core.Logic.{_≢_}
 use Prim.Native.Nat.{ℕ, _-_, _<_}

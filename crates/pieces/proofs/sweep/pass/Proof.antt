@@ -56,7 +56,8 @@ returns c =
     let kept = filled .enter-from .kept .1 .0 in
     let behind = looked .enter-from2 .ensures in
     let some = lt-ltb 0 (length (freed k .free .last .0) - length (freed k .free .last .0) / 8) (omega (arith, long k, start .pre .2)) in
-    let all = swept (long k) (freed k .free .ensures) (told .enters) some (rw kept at (behind .enters)) (omega (arith, behind .all refl, kept)) in (
+    let all = swept (long k) (freed k .free .ensures) (told .enters) some (rw kept at (behind .enters))
+    (omega (arith, behind .all refl, kept)) in (
       told .ahead,
       omega (arith, told .within, long k),
       subst (λ (q : ℕ). Settles ids (taken ids q) (length (start .args .work .now)) (3 * start .args .from) (3 * filled .enter-from .result)

@@ -13,6 +13,7 @@ SAYS = {
     "cube": ["closed.", "8 m3, to be relied on", "Surface area:     24 m2"],
     "open-plinth": ["The mesh does not close", "24 m3, reliable only in", "mesh_open:", "bottom:         0 m2"],
     "two-plinths": ["closed.", "4.125 m3, to be relied on", "Pieces:           2", "Box volume:       10.5 m3"],
+    "corner-plinths": ["closed.", "13 m3, to be relied on", "Pieces:           2", "Box volume:       30 m3"],
     "mast-foot-mm": ["closed.", "0.53780186 m3, to be relied on", "inclined:       1.0715294 m2"],
 }
 

@@ -1,8 +1,4 @@
--- Answer is of the contract alone; the others lead from the words of the lent area to the number of the groups.
-pub mod Sides
+-- Answer is of the contract alone; the others lead from what the passes leave to the number of the groups.
 pub mod Answer
-mod Joins
-mod Search
-mod Rows
-mod Passes
+mod Joining
 mod Roots

@@ -15,10 +15,11 @@ use Rattle.forest.specs.inner.Words.{parentIn}
 use Rattle.forest.specs.inner.Labels.{LabelledBy}
 use Rattle.ids.specs.Pieces.{groups, those, solid, solids, pieces}
 use Rattle.ids.specs.Classes.{mem}
-use Rattle.pieces.specs.inner.Joins.{joins, Linked, Whole, isRoot}
+use Rattle.sides.specs.inner.Joins.{joins, Linked}
 use Rattle.ids.proofs.Groups.{counted}
 use Rattle.ids.proofs.Shared.{share-both}
 use Rattle.ids.proofs.Solids.{those-mem, mem-those, those-once}
+use Rattle.pieces.specs.inner.Joined.{Whole, isRoot}
 
 -- ---- the numbers below n that pass
 

@@ -1,7 +1,7 @@
 // Pieces: the number of groups of distinct-id triangles, joined wherever two share an edge, over one lent word a triangle.
-mod triangle; // the sides of a triangle, and what two triangles share
-mod sweep; // a pass over the triangles
-
+//
+// A word has what its triangle hangs on (`forest`) and a slot of the table of sides (`sides`). Once all that share an edge are joined,
+// each piece has one triangle that hangs on itself.
 ghost use mathlib.Core.Path.{_≡_};
 ghost use Prim.Native.Nat.{_+_, _*_, _≤_, _<_};
 ghost use lib.ListN.{length};
@@ -10,12 +10,11 @@ ghost use Rattle.ids.specs.Triangles.{triangleCount};
 ghost use Rattle.ids.specs.Pieces.{shareEdge, pieces as piecesOf};
 ghost use Rattle.table.specs.inner.Rows.{sumTo};
 ghost use Rattle.table.specs.inner.Words.{Leaves};
-ghost use Rattle.pieces.specs.inner.Joins.{OneWordEach, Labelled, Grows, Whole, isRoot};
-ghost use Rattle.pieces.specs.inner.Sides.{taken};
-ghost use Rattle.pieces.specs.inner.Passes.{Settles, Tied};
+ghost use Rattle.sides.specs.inner.Joins.{OneWordEach, Labelled, Grows};
+ghost use Rattle.sides.specs.inner.Sides.{taken};
+ghost use Rattle.sides.specs.inner.Passes.{Settles};
+ghost use Rattle.pieces.specs.inner.Joined.{Tied, Whole, isRoot};
 ghost use Rattle.pieces.specs.Answer.{PiecesGiven};
-use sweep::pass;
-use triangle::share_edge;
 
 // The number of pieces, or the number of the refusal.
 pub enum PieceCount {
@@ -32,7 +31,7 @@ fn tie(ids: &[u32], work: &mut [u32], s: usize, t: usize)
         (Tied (now (ids .entry)) (length (now (work .entry))) s t (t + 1)) ⌝ }
 {
     let solid = table::distinct_at(ids, s) & table::distinct_at(ids, t);
-    if solid & share_edge(ids, s, t) {
+    if solid & sides::share_edge(ids, s, t) {
         forest::join(work, s, t);
     }
 }
@@ -59,7 +58,7 @@ fn advance(ids: &[u32], work: &mut [u32], class: u64, from: usize) -> usize
         × Settles (now (ids .entry)) (taken (now (ids .entry)) class) (length (now (work .entry))) (3 * from) (3 * next)
         (now (work .entry)) (now (work .exit)) ⌝ }
 {
-    let next = pass(ids, work, class, from);
+    let next = sides::pass(ids, work, class, from);
     if from < next {
         return next;
     }

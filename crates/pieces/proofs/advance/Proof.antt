@@ -2,8 +2,8 @@
 use mathlib.Core.Path.{_∙_}
 use native.Mathlib.Omega.{arith}
 use borrow.Author.Needs.{needs}
-use Rattle.pieces.proofs.Joins.{labelled-then, more-then}
-use Rattle.pieces.proofs.Passes.{settled-one}
+use Rattle.sides.proofs.Joins.{labelled-then, more-then}
+use Rattle.pieces.proofs.Joining.{settled-one}
 use Rattle.pieces.proofs.advance.Statement.{statement}
 use Rattle.pieces.proofs.advance.Tie as tie
 

@@ -7,7 +7,7 @@ use lib.ListN.{length}
 use Rattle.ids.specs.Uses.{bit}
 use Rattle.table.specs.inner.Rows.{sumTo}
 use Rattle.table.proofs.Sums.{sumTo-next}
-use Rattle.pieces.specs.inner.Joins.{isRoot}
+use Rattle.pieces.specs.inner.Joined.{isRoot}
 use Rattle.pieces.proofs.count.Statement.{statement}
 use Rattle.pieces.proofs.count.Tie as tie
 

@@ -4,8 +4,8 @@ use Prim.Native.Nat.{_-_}
 use native.Mathlib.Omega.{arith}
 use borrow.Author.Needs.{needs}
 use lib.ListN.{length}
-use Rattle.pieces.proofs.Joins.{good-planted}
-use Rattle.pieces.proofs.Passes.{Joining, joining-none, joining-next, joined-all}
+use Rattle.sides.proofs.Joins.{good-planted}
+use Rattle.pieces.proofs.Joining.{Joining, joining-none, joining-next, joined-all}
 use Rattle.pieces.proofs.join_all.Statement.{statement}
 use Rattle.pieces.proofs.join_all.Tie as tie
 

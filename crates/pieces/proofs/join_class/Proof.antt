@@ -4,10 +4,10 @@ use Prim.Native.Nat.{_-_, _*_, _≤_}
 use native.Mathlib.Omega.{arith}
 use borrow.Author.Needs.{needs}
 use lib.ListN.{length}
-use Rattle.pieces.specs.inner.Sides.{taken}
-use Rattle.pieces.specs.inner.Passes.{Settles}
-use Rattle.pieces.proofs.Joins.{labelled-then}
-use Rattle.pieces.proofs.Passes.{settles-none, settles-then}
+use Rattle.sides.specs.inner.Sides.{taken}
+use Rattle.sides.specs.inner.Passes.{Settles}
+use Rattle.sides.proofs.Joins.{labelled-then}
+use Rattle.pieces.proofs.Joining.{settles-none, settles-then}
 use Rattle.pieces.proofs.join_class.Statement.{statement}
 use Rattle.pieces.proofs.join_class.Tie as tie
 

@@ -4,10 +4,10 @@ use Prim.Native.Nat.{_+_, _-_, _≤_}
 use native.Mathlib.Omega.{arith}
 use borrow.Author.Needs.{needs}
 use lib.ListN.{length}
-use Rattle.pieces.specs.inner.Joins.{Grows}
-use Rattle.pieces.specs.inner.Passes.{Tied}
-use Rattle.pieces.proofs.Joins.{more-none, labelled-then}
-use Rattle.pieces.proofs.Passes.{tied-then}
+use Rattle.sides.specs.inner.Joins.{Grows}
+use Rattle.sides.proofs.Joins.{more-none, labelled-then}
+use Rattle.pieces.specs.inner.Joined.{Tied}
+use Rattle.pieces.proofs.Joining.{tied-then}
 use Rattle.pieces.proofs.settle.Statement.{statement}
 use Rattle.pieces.proofs.settle.Tie as tie
 

@@ -8,8 +8,8 @@ use Rattle.ids.specs.Pieces.{solid}
 use Rattle.ids.proofs.Same.{both}
 use Rattle.forest.specs.inner.Labels.{merged}
 use Rattle.forest.proofs.Labels.{merged-joins}
-use Rattle.pieces.specs.inner.Joins.{Linked}
-use Rattle.pieces.proofs.Joins.{more-joined, more-none}
+use Rattle.sides.specs.inner.Joins.{Linked}
+use Rattle.sides.proofs.Joins.{more-joined, more-none}
 use Rattle.pieces.proofs.tie.Statement.{statement}
 use Rattle.pieces.proofs.tie.Tie as tie
 

@@ -36,22 +36,17 @@ module _ (ids : List ℕ) {n : ℕ} {s s′ f g : ℕ → ℕ} (rows : (r : ℕ)
             ∙ keeps ((s r - 1) / 3) (i / 3) (h .4),
       )
 
-module _ {ids : List ℕ} {home : Edge → ℕ} {limit n : ℕ} {take : ℕ → Bool} {spare spare′ a b b′ c : ℕ} {t u v : List ℕ} {e e′ : Bool}
-    (p : Entered ids home limit n take spare a b t u e) (q : Entered ids home limit n take spare′ b′ c u v e′)
-    (none : spare ≡ 0 → spare′ ≡ 0) where
+module _ {ids : List ℕ} {home : Edge → ℕ} {limit n : ℕ} {take : ℕ → Bool} {a b b′ c : ℕ} {t u v : List ℕ} {e e′ : Bool}
+    (p : Entered ids home limit n take a b t u e) (q : Entered ids home limit n take b′ c u v e′) where
   rows-then : (r : ℕ) → r < n → 0 < heldIn t r → heldIn v r ≡ heldIn t r
   rows-then r l used = q .rows r l (omega (arith, p .rows r l used)) ∙ p .rows r l used
 
-  same-then : spare ≡ 0 → (i : ℕ) → heldIn v i ≡ heldIn t i
-  same-then z i = q .same (none z) i ∙ p .same z i
-
   -- what was entered stays so, whatever is entered then
-  pub entered-kept : Entered ids home limit n take spare a b t v e
+  pub entered-kept : Entered ids home limit n take a b t v e
   entered-kept =
       record {
         slots = q .slots;
         rows = rows-then;
-        same = same-then;
         more = more-then (p .more) (q .more) (λ g h old keeps new. (
           λ z i la lb tk. has-kept ids (q .rows) keeps i (old .0 z i la lb tk),
           λ i la lb tk r lr used k. keeps ((heldIn t r - 1) / 3) (i / 3) (old .1 i la lb tk r lr used k),
@@ -59,12 +54,11 @@ module _ {ids : List ℕ} {home : Edge → ℕ} {limit n : ℕ} {take : ℕ → 
       }
 
   -- sides up to b, and those from b on
-  pub entered-then : b′ ≡ b → Entered ids home limit n take spare a c t v (e && e′)
+  pub entered-then : b′ ≡ b → Entered ids home limit n take a c t v (e && e′)
   entered-then on =
       record {
         slots = q .slots;
         rows = rows-then;
-        same = same-then;
         more = more-then (p .more) (q .more) (λ g h old keeps new. (covered g h old keeps new, followed g h old keeps new));
       }
     where
@@ -89,8 +83,8 @@ module _ {ids : List ℕ} {home : Edge → ℕ} {limit n : ℕ} {take : ℕ → 
 -- ---- the same by a plan
 
 -- words in a pass are so after it entered sides
-pub ready-then : (plan : Plan) {ids t u : List ℕ} {spare a b : ℕ} {e : Bool} → SlotsReady plan ids t → length u ≡ length t
-    → Enters plan ids spare a b t u e → SlotsReady plan ids u
+pub ready-then : (plan : Plan) {ids t u : List ℕ} {a b : ℕ} {e : Bool} → SlotsReady plan ids t → length u ≡ length t
+    → Enters plan ids a b t u e → SlotsReady plan ids u
 ready-then plan z long p =
     record {
       sized = record { few = z .sized .few; long = long ∙ z .sized .long };
@@ -99,18 +93,18 @@ ready-then plan z long p =
       labelled = labelled-then (z .labelled) (p .more);
     }
 
-module _ (plan : Plan) {ids t u v : List ℕ} {spare spare′ a b b′ c : ℕ} {e e′ : Bool} (long : length u ≡ length t)
-    (p : Enters plan ids spare a b t u e) (q : Enters plan ids spare′ b′ c u v e′) (none : spare ≡ 0 → spare′ ≡ 0) where
-  on : Entered ids (homeIn plan t) (plan .limit) (length t) (taken ids (plan .class)) spare′ b′ c u v e′
+module _ (plan : Plan) {ids t u v : List ℕ} {a b b′ c : ℕ} {e e′ : Bool} (long : length u ≡ length t)
+    (p : Enters plan ids a b t u e) (q : Enters plan ids b′ c u v e′) where
+  on : Entered ids (homeIn plan t) (plan .limit) (length t) (taken ids (plan .class)) b′ c u v e′
   on =
-      subst (λ (n : ℕ). Entered ids (sideHome (plan .low) (plan .high) n) (plan .limit) n (taken ids (plan .class)) spare′ b′ c u v e′)
+      subst (λ (n : ℕ). Entered ids (sideHome (plan .low) (plan .high) n) (plan .limit) n (taken ids (plan .class)) b′ c u v e′)
       long q
 
-  pub enters-kept : Enters plan ids spare a b t v e
-  enters-kept = entered-kept p on none
+  pub enters-kept : Enters plan ids a b t v e
+  enters-kept = entered-kept p on
 
-  pub enters-then : b′ ≡ b → Enters plan ids spare a c t v (e && e′)
-  enters-then next = entered-then p on none next
+  pub enters-then : b′ ≡ b → Enters plan ids a c t v (e && e′)
+  enters-then next = entered-then p on next
 
 -- ---- a pass
 
@@ -133,9 +127,9 @@ settled {ids} {home} {limit} {n} {take} {a} {b} {s} {g} {h} z cov keeps fol i j 
         ∙ fol j (omega arith) lj tj (first .0) (first .1) (first .2) (first .3 ∙ e)
 
 -- the slots freed, filled, and the sides behind looked up
-pub swept : {ids : List ℕ} {home : Edge → ℕ} {limit m n : ℕ} {take : ℕ → Bool} {spare spare′ a b c : ℕ} {t u v w : List ℕ} {e e′ : Bool}
+pub swept : {ids : List ℕ} {home : Edge → ℕ} {limit m n : ℕ} {take : ℕ → Bool} {a b c : ℕ} {t u v w : List ℕ} {e e′ : Bool}
     → length u ≡ length t → Freed m t u
-    → Entered ids home limit n take spare a b u v e → e ≡ true → Entered ids home limit n take spare′ b c v w e′ → c ≡ 3 * n
+    → Entered ids home limit n take a b u v e → e ≡ true → Entered ids home limit n take b c v w e′ → c ≡ 3 * n
     → Settles ids take n a b t w
 swept long freed fill filled rest all =
     more-then (λ f g. fill .more f (good-kept long (freed .parents) g)) (rest .more)

@@ -41,14 +41,13 @@ slots-free free =
     }
 
 -- where no side is asked for there is nothing to do
-pub entered-none : {ids : List ℕ} {home : Edge → ℕ} {limit n : ℕ} {take : ℕ → Bool} {spare a b : ℕ} {t : List ℕ} {entered : Bool}
+pub entered-none : {ids : List ℕ} {home : Edge → ℕ} {limit n : ℕ} {take : ℕ → Bool} {a b : ℕ} {t : List ℕ} {entered : Bool}
     → Slots ids home limit n (heldIn t) → ((i : ℕ) → a ≤ i → i < b → take i ≡ false)
-    → Entered ids home limit n take spare a b t t entered
+    → Entered ids home limit n take a b t t entered
 entered-none z none =
     record {
       slots = z;
       rows = λ r l u. refl;
-      same = λ e i. refl;
       more = λ f g. more-none g (
         λ e i la lb h. absurd (false≢true (sym (none i la lb) ∙ h)),
         λ i la lb h. absurd (false≢true (sym (none i la lb) ∙ h)),
@@ -99,14 +98,13 @@ covered-one : (ids : List ℕ) (n : ℕ) (s f : ℕ → ℕ) (c : ℕ) → Has i
 covered-one ids n s f c h i la lb = let e : c ≡ i = omega arith in subst (Has ids n s f) e h
 
 module _ {ids : List ℕ} (t : List ℕ) {home : Edge → ℕ} {limit c r : ℕ} {e : Edge} (w : AtRow ids home limit (length t) (heldIn t) c r e)
-    (take : ℕ → Bool) (spare : ℕ) where
+    (take : ℕ → Bool) where
   -- no row was found, or a free one and none may be filled
-  pub entered-not : (r < length t → heldIn t r ≡ 0) → Entered ids home limit (length t) take spare c (c + 1) t t false
+  pub entered-not : (r < length t → heldIn t r ≡ 0) → Entered ids home limit (length t) take c (c + 1) t t false
   entered-not none =
       record {
         slots = w .slots;
         rows = λ x l u. refl;
-        same = λ q i. refl;
         more = λ f g. more-none g (λ q. absurd (false≢true q), followed w take f (λ l u. absurd (omega (arith, none l))));
       }
 
@@ -125,13 +123,12 @@ module _ {ids : List ℕ} (t : List ℕ) {home : Edge → ℕ} {limit c r : ℕ}
         along (λ (o : ℕ → ℕ). Has ids (length t) o (label f) c) t u (j .slots)
         (r, lr, used, w .sought .found lr .holds used ∙ sym (w .is), one-label f)
 
-    pub entered-joined : Entered ids home limit (length t) take spare c (c + 1) t u true
+    pub entered-joined : Entered ids home limit (length t) take c (c + 1) t u true
     unfolding label
     entered-joined =
         record {
           slots = along (Slots ids home limit (length t)) t u (j .slots) (w .slots);
           rows = λ x l h. j .slots x;
-          same = λ q. j .slots;
           more = more-joined long (row-linked w lr used) j (λ f. (
             λ q i la lb tk. covered-one ids (length t) (heldIn u) (label f) c (has-row f) i la lb,
             followed w take (label f) (λ l h. one-label f),
@@ -190,13 +187,12 @@ module _ {ids : List ℕ} (t : List ℕ) {home : Edge → ℕ} {limit c r : ℕ}
     has-new : (f : ℕ → ℕ) → Has ids (length t) (heldIn v) f c
     has-new f = (r, lr, omega (arith, here), edge-here ∙ sym (w .is), ap f side-here)
 
-    pub entered-held : spare ≢ 0 → Entered ids home limit (length t) take spare c (c + 1) t (withSlot t r (c + 1)) true
+    pub entered-held : Entered ids home limit (length t) take c (c + 1) t (withSlot t r (c + 1)) true
     unfolding v
-    entered-held some =
+    entered-held =
         record {
           slots = slots-held;
           rows = λ x l h. else x (λ q. omega (arith, ap (heldIn t) q));
-          same = λ none. absurd (some none);
           more = λ f g. record {
             label = f;
             good = good-kept (length-set t r _) (parents-stay t r (c + 1) lr) g;

@@ -161,8 +161,7 @@ fn enter_side(
     v: u32,
 ) -> Entry
     requires { ⌜ SideReady plan (now ids) (now work) c u v ⌝ }
-    ensures { λ e. ⌜ Enters plan (now (ids .entry)) spare c (c + 1) (now (work .entry)) (now (work .exit)) (e .entered)
-        × (e .spare ≤ spare) ⌝ }
+    ensures { λ e. ⌜ Enters plan (now (ids .entry)) c (c + 1) (now (work .entry)) (now (work .exit)) (e .entered) ⌝ }
 {
     let low = table::lesser(u, v);
     let high = table::greater(u, v);
@@ -204,8 +203,7 @@ fn enter_side(
 // Enters the three sides of triangle t, if its ids are distinct.
 fn enter(ids: &[u32], work: &mut [u32], plan: Plan, spare: usize, t: usize) -> Entry
     requires { ⌜ SlotsReady plan (now ids) (now work) × (t < length (now work)) ⌝ }
-    ensures { λ e. ⌜ Enters plan (now (ids .entry)) spare (3 * t) (3 * (t + 1)) (now (work .entry)) (now (work .exit)) (e .entered)
-        × (e .spare ≤ spare) ⌝ }
+    ensures { λ e. ⌜ Enters plan (now (ids .entry)) (3 * t) (3 * (t + 1)) (now (work .entry)) (now (work .exit)) (e .entered) ⌝ }
 {
     let at = 3 * t;
     let a = ids[at];

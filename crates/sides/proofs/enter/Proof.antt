@@ -22,11 +22,9 @@ returns c =
     let ids = st .args .ids .now in
     let t = st .args .t in
     let told = c .before .distinct in
-    let flat : solid ids t ≡ false = sym (told .ensures) ∙ not-true (told .result) (c .if1 .taken) in (
-      entered-none (st .pre .0 .slots) (λ i la lb. let e : i / 3 ≡ t = omega arith in
-          flat-not ids (st .args .plan .class) i (ap (solid ids) e ∙ flat)),
-      omega arith,
-    )
+    let flat : solid ids t ≡ false = sym (told .ensures) ∙ not-true (told .result) (c .if1 .taken) in
+    entered-none (st .pre .0 .slots) (λ i la lb. let e : i / 3 ≡ t = omega arith in
+    flat-not ids (st .args .plan .class) i (ap (solid ids) e ∙ flat))
 
 -- a triangle of distinct ids
 module _ (c : tie.Else1) where
@@ -57,7 +55,7 @@ module _ (c : tie.After-enter-side) where
   first = c .before .before
 
   ready-1 : SlotsReady (st first .args .plan) (st first .args .ids .now) (c .enter-side .last .1 .0)
-  ready-1 = ready-then _ (st first .pre .0) (c .enter-side .kept .1 .0) (c .enter-side .ensures .0)
+  ready-1 = ready-then _ (st first .pre .0) (c .enter-side .kept .1 .0) (c .enter-side .ensures)
 
 enter-side-requires-2 : tie.Need-enter-side-requires-2
 unfolding side triangle
@@ -77,7 +75,7 @@ module _ (c : tie.After-enter-side2) where
   second = c .before .before .before .before
 
   ready-2 : SlotsReady (st (first second) .args .plan) (st (first second) .args .ids .now) (c .enter-side2 .last .1 .0)
-  ready-2 = ready-then _ (ready-1 second) (c .enter-side2 .kept .1 .0) (c .enter-side2 .ensures .0)
+  ready-2 = ready-then _ (ready-1 second) (c .enter-side2 .kept .1 .0) (c .enter-side2 .ensures)
 
 add-enter-side-2 : tie.Need-add-enter-side-2
 add-enter-side-2 c =
@@ -105,15 +103,12 @@ returns-2 c =
     let a = one .enter-side in
     let b = two .enter-side2 in
     let d = three .enter-side3 in
-    let ab = enters-then _ (a .kept .1 .0) (a .ensures .0) (b .ensures .0) (λ z. omega (arith, a .ensures .1)) (omega arith) in
-    let all = enters-then _ (b .kept .1 .0 ∙ a .kept .1 .0) ab (d .ensures .0) (λ z. omega (arith, a .ensures .1, b .ensures .1))
-    (omega arith) in
+    let ab = enters-then _ (a .kept .1 .0) (a .ensures) (b .ensures) (omega arith) in
+    let all = enters-then _ (b .kept .1 .0 ∙ a .kept .1 .0) ab (d .ensures) (omega arith) in
     let start = st (first one) in
-    let e : 3 * start .args .t + 2 + 1 ≡ 3 * (start .args .t + 1) = omega arith in (
-      subst (λ (x : ℕ). Enters (start .args .plan) (start .args .ids .now) (start .args .spare) (3 * start .args .t) x
-          (start .args .work .now) (d .last .1 .0) ((a .result .entered && b .result .entered) && d .result .entered)) e all,
-      omega (arith, a .ensures .1, b .ensures .1, d .ensures .1),
-    )
+    let e : 3 * start .args .t + 2 + 1 ≡ 3 * (start .args .t + 1) = omega arith in
+    subst (λ (x : ℕ). Enters (start .args .plan) (start .args .ids .now) (3 * start .args .t) x (start .args .work .now) (d .last .1 .0)
+    ((a .result .entered && b .result .entered) && d .result .entered)) e all
 
 pub enter-spec : {M : Type 1} → statement M
 enter-spec =

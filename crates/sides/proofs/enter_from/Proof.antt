@@ -17,8 +17,8 @@ use Rattle.sides.proofs.enter_from.Tie as tie
 
 abbrev Inv-loop : tie.InvT-loop
 Inv-loop ids work₀ plan most from n filling spare₀ t₀ work spare t =
-    (length work ≡ length work₀) × (from ≤ t) × (t ≤ length work₀) × (spare ≤ most)
-    × Enters plan ids most (3 * from) (3 * t) work₀ work (ltb 0 most)
+    (length work ≡ length work₀) × (from ≤ t) × (t ≤ length work₀)
+    × Enters plan ids (3 * from) (3 * t) work₀ work (ltb 0 most)
 
 abbrev μ-loop : tie.MeasureT-loop
 μ-loop ids work₀ plan most from n filling spare₀ t₀ work spare t = length work₀ - t
@@ -26,13 +26,13 @@ abbrev μ-loop : tie.MeasureT-loop
 loop-holds : tie.Need-loop-holds Inv-loop μ-loop
 loop-holds c =
     let st = c .before .before in
-    (refl, omega arith, st .pre .1, omega arith, entered-none (st .pre .0 .slots) (λ i la lb. absurd (omega arith)))
+    (refl, omega arith, st .pre .1, entered-none (st .pre .0 .slots) (λ i la lb. absurd (omega arith)))
 
 enter-requires : tie.Need-enter-requires Inv-loop μ-loop
 enter-requires c κs =
     let at = c .before .before in
     let st = at .before .before .before in
-    (ready-then _ (st .pre .0) (at .loop .inv .0) (at .loop .inv .4), omega (arith, at .loop .inv .0))
+    (ready-then _ (st .pre .0) (at .loop .inv .0) (at .loop .inv .3), omega (arith, at .loop .inv .0))
 
 returns : tie.Need-returns Inv-loop μ-loop
 returns c =
@@ -44,7 +44,7 @@ returns c =
     record {
       ahead = l .inv .1;
       within = l .inv .2;
-      enters = enters-kept _ (l .inv .0) (l .inv .4) (k .enter .ensures .0) (λ z. omega (arith, l .inv .3));
+      enters = enters-kept _ (l .inv .0) (l .inv .3) (k .enter .ensures);
       all = λ z. absurd (omega (arith, some));
     }
 
@@ -60,18 +60,17 @@ loop-again c =
     let at = k .before .before .before in
     let st = at .before .before .before in
     let l = at .loop in
-    let then = enters-then _ (l .inv .0) (l .inv .4) (k .enter .ensures .0) (λ z. omega (arith, l .inv .3)) refl in (
+    let then = enters-then _ (l .inv .0) (l .inv .3) (k .enter .ensures) refl in (
       omega (arith, k .enter .kept, l .inv .0),
       omega (arith, l .inv .1),
       omega arith,
-      omega (arith, k .enter .ensures .1, l .inv .3),
       rw (goes-on (ltb 0 (st .args .most)) (k .enter .result .entered) (c .if1 .left)) at then,
     )
 
 returns-2 : tie.Need-returns-2 Inv-loop μ-loop
 returns-2 c =
     let l = c .before .loop in
-    record { ahead = l .inv .1; within = l .inv .2; enters = l .inv .4; all = λ z. omega (arith, l .inv .0, l .inv .2) }
+    record { ahead = l .inv .1; within = l .inv .2; enters = l .inv .3; all = λ z. omega (arith, l .inv .0, l .inv .2) }
 
 pub enter-from-spec : {M : Type 1} → statement M
 enter-from-spec =

@@ -40,11 +40,9 @@ returns c =
     let side = start .args .c in
     let other : edgeClass (sideEdge ids side) ≢ start .args .plan .class =
     λ e. c .if1 .taken (told .ensures ∙ sym (ap edgeClass (is k)) ∙ e) in
-    let none = taken-not ids (start .args .plan .class) side other in (
-      entered-none (start .pre .ready .slots)
-          (λ i la lb. subst (λ (x : ℕ). taken ids (start .args .plan .class) x ≡ false) (omega arith) none),
-      omega arith,
-    )
+    let none = taken-not ids (start .args .plan .class) side other in
+    entered-none (start .pre .ready .slots)
+    (λ i la lb. subst (λ (x : ℕ). taken ids (start .args .plan .class) x ≡ false) (omega arith) none)
 
 -- the row that was found
 module _ (c : tie.After-find) where
@@ -69,7 +67,7 @@ module _ (c : tie.After-find) where
 returns-2 : tie.Need-returns-2
 returns-2 c =
     let k = c .before in
-    (entered-not (start k .args .work .now) (row k) _ (start k .args .spare) (λ l. absurd (omega (arith, c .if2 .taken))), omega arith)
+    entered-not (start k .args .work .now) (row k) _ (λ l. absurd (omega (arith, c .if2 .taken)))
 
 -- and what it holds
 module _ (c : tie.After-slot) where
@@ -95,30 +93,21 @@ returns-3 : tie.Need-returns-3
 returns-3 c =
     let joined = c .before .before in
     let s = joined .before .before .before in
-    let begin = start (found s) in (
-      entered-joined (begin .args .work .now) (row (found s)) _ (begin .args .spare) _ (joined .join .kept .0) (inside s)
-          (omega (arith, s .slot .ensures, joined .before .before .if3 .taken)) (rw (s .slot .ensures) at (joined .join .ensures)),
-      omega arith,
-    )
+    entered-joined (start (found s) .args .work .now) (row (found s)) _ _ (joined .join .kept .0) (inside s)
+    (omega (arith, s .slot .ensures, joined .before .before .if3 .taken)) (rw (s .slot .ensures) at (joined .join .ensures))
 
 returns-4 : tie.Need-returns-4
 returns-4 c =
     let s = c .before .before in
-    let begin = start (found s) in (
-      entered-not (begin .args .work .now) (row (found s)) _ (begin .args .spare) (λ l. sym (s .slot .ensures) ∙ c .before .if3 .left),
-      omega arith,
-    )
+    entered-not (start (found s) .args .work .now) (row (found s)) _ (λ l. sym (s .slot .ensures) ∙ c .before .if3 .left)
 
 returns-5 : tie.Need-returns-5
 returns-5 c =
     let held = c .before .before in
     let test = held .before .before in
     let s = test .before .before in
-    let begin = start (found s) in (
-      rw (held .hold .ensures) (entered-held (begin .args .work .now) (row (found s)) _ (begin .args .spare) (inside s)
-          (sym (s .slot .ensures) ∙ test .before .if3 .left) (test .if4 .left)),
-      omega arith,
-    )
+    rw (held .hold .ensures) (entered-held (start (found s) .args .work .now) (row (found s)) _ (inside s)
+    (sym (s .slot .ensures) ∙ test .before .if3 .left))
 
 pub enter-side-spec : {M : Type 1} → statement M
 enter-side-spec =

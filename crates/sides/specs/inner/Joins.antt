@@ -1,5 +1,4 @@
--- Labels of the triangles while they are joined: never coarser than the joins ask, and at the end as coarse. The parts of the piece count
--- keep this.
+-- Labels of the triangles while they are joined: never coarser than the joins ask. Whatever joins keeps this.
 use mathlib.Core.Path.{_≡_}
 use mathlib.Core.Bool.{Bool, true}
 use mathlib.Core.List.{List}

@@ -27,17 +27,14 @@ Followed ids take n s a b f =
     (i : ℕ) → a ≤ i → i < b → take i ≡ true → (r : ℕ) → r < n → 0 < s r → slotEdge ids s r ≡ sideEdge ids i
     → f ((s r - 1) / 3) ≡ f (i / 3)
 
--- what trying to enter the sides from a on below b does, from t to u with n slots of which so many may be filled, and whether all are
--- entered
-pub record Entered (ids : List ℕ) (home : Edge → ℕ) (limit n : ℕ) (take : ℕ → Bool) (spare a b : ℕ) (t u : List ℕ) (entered : Bool) :
-    Type 0 where
-  pub slots : Slots ids home limit n (heldIn u)
-  -- a slot in use stays
-  pub rows : (r : ℕ) → r < n → 0 < heldIn t r → heldIn u r ≡ heldIn t r
-  -- with none to spare, all stay
-  pub same : spare ≡ 0 → (i : ℕ) → heldIn u i ≡ heldIn t i
-  -- where all are entered a row holds each; entered or not, each has one label with the row that held its edge before
-  pub more : Grows ids t u (λ g. (entered ≡ true → SidesCovered ids take n (heldIn u) a b g) × Followed ids take n (heldIn t) a b g)
+-- what trying to enter the sides from a on below b does, from t to u with n slots, and whether all are entered
+pub record Entered (ids : List ℕ) (home : Edge → ℕ) (limit n : ℕ) (take : ℕ → Bool) (a b : ℕ) (t u : List ℕ) (entered : Bool) : Type 0
+  where
+    pub slots : Slots ids home limit n (heldIn u)
+    -- a slot in use stays
+    pub rows : (r : ℕ) → r < n → 0 < heldIn t r → heldIn u r ≡ heldIn t r
+    -- where all are entered a row holds each; entered or not, each has one label with the row that held its edge before
+    pub more : Grows ids t u (λ g. (entered ≡ true → SidesCovered ids take n (heldIn u) a b g) × Followed ids take n (heldIn t) a b g)
 
 -- ---- the same of a pass by its plan, with the words of t
 
@@ -57,16 +54,15 @@ pub record SideReady (plan : Plan) (ids t : List ℕ) (c u v : ℕ) : Type 0 whe
   pub of-solid : solid ids (c / 3) ≡ true
   pub is : sideEdge ids c ≡ edge u v
 
-abbrev pub Enters : Plan → List ℕ → ℕ → ℕ → ℕ → List ℕ → List ℕ → Bool → Type 0
-Enters plan ids spare a b t u entered =
-    Entered ids (homeIn plan t) (plan .limit) (length t) (taken ids (plan .class)) spare a b t u entered
+abbrev pub Enters : Plan → List ℕ → ℕ → ℕ → List ℕ → List ℕ → Bool → Type 0
+Enters plan ids a b t u entered = Entered ids (homeIn plan t) (plan .limit) (length t) (taken ids (plan .class)) a b t u entered
 
--- the triangles from `from` on below `next`, and with no slot to fill all of them
-pub record EntersTo (plan : Plan) (ids : List ℕ) (spare from next : ℕ) (t u : List ℕ) : Type 0 where
+-- the triangles from `from` on below `next`, where so many slots may be filled; with none, all triangles are looked up
+pub record EntersTo (plan : Plan) (ids : List ℕ) (most from next : ℕ) (t u : List ℕ) : Type 0 where
   pub ahead : from ≤ next
   pub within : next ≤ length t
-  pub enters : Enters plan ids spare (3 * from) (3 * next) t u (ltb 0 spare)
-  pub all : spare ≡ 0 → next ≡ length t
+  pub enters : Enters plan ids (3 * from) (3 * next) t u (ltb 0 most)
+  pub all : most ≡ 0 → next ≡ length t
 
 -- ---- what passes leave settled
 

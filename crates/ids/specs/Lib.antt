@@ -1,4 +1,4 @@
--- What document 01 says of lists of ids: their triangles, the edge chain, the face net and the pieces, and what an id routine refuses and
+-- What the documents say of lists of ids: their triangles, the edge chain, the face net and the pieces, and what an id routine refuses and
 -- leaves in its lent area. And ids that are turned inside out (02).
 pub mod Triangles
 pub mod Reversed

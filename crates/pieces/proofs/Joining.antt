@@ -14,8 +14,7 @@ use Rattle.sides.specs.inner.Sides.{sideEdge, edgeClass, taken}
 use Rattle.sides.specs.inner.Passes.{Settled, Settles}
 use Rattle.sides.proofs.Sides.{share-sides, sides-share, class-below, taken-solid, taken-here}
 use Rattle.sides.proofs.Joins.{more-none, more-then}
-use Rattle.pieces.specs.inner.Joined.{Whole}
-use Rattle.pieces.specs.inner.Joined.{Tied}
+use Rattle.pieces.specs.inner.Joined.{Tied, Whole}
 
 -- one triangle by itself
 pub settled-one : {ids : List ℕ} {n : ℕ} (q : ℕ) {t : ℕ} {f : ℕ → ℕ} → t < n → Tied ids n t (t + 1) n f

@@ -1,5 +1,5 @@
--- A pass over the sides: entering some and then others, filling the slots and looking the sides behind up, and what a pass leaves settled;
--- then all passes over a class, and all classes. Assumes nothing.
+-- A pass over the sides: entering some and then others, filling the slots and looking the sides behind up, and what a pass leaves settled.
+-- Assumes nothing.
 use mathlib.Core.Path.{_≡_, sym, ap, _∙_, subst}
 use mathlib.Core.Bool.{Bool, true, _&&_}
 use mathlib.Core.List.{List}
@@ -22,19 +22,17 @@ abbrev Asked : List ℕ → (ℕ → Bool) → ℕ → ℕ → ℕ → (ℕ → 
 Asked ids take n a b s s′ e f = (e ≡ true → SidesCovered ids take n s′ a b f) × Followed ids take n s a b f
 
 -- what a row has stays so where used slots stay and labels get coarser
-module _ (ids : List ℕ) {n : ℕ} {s s′ f g : ℕ → ℕ} (rows : (r : ℕ) → r < n → 0 < s r → s′ r ≡ s r)
-    (keeps : (x y : ℕ) → f x ≡ f y → g x ≡ g y) where
-  has-kept : (i : ℕ) → Has ids n s f i → Has ids n s′ g i
-  has-kept i h =
-      let r = h .0 in
-      let e : s′ r ≡ s r = rows r (h .1) (h .2) in (
-        r,
-        h .1,
-        rw e (h .2),
-        ap (λ (x : ℕ). sideEdge ids (x - 1)) e ∙ h .3,
-        ap (λ (x : ℕ). g ((x - 1) / 3)) e
-            ∙ keeps ((s r - 1) / 3) (i / 3) (h .4),
-      )
+has-kept : (ids : List ℕ) {n : ℕ} {s s′ f g : ℕ → ℕ} → ((r : ℕ) → r < n → 0 < s r → s′ r ≡ s r)
+    → ((x y : ℕ) → f x ≡ f y → g x ≡ g y) → (i : ℕ) → Has ids n s f i → Has ids n s′ g i
+has-kept ids {s = s} {s′ = s′} {g = g} rows keeps i h =
+    let r = h .0 in
+    let e : s′ r ≡ s r = rows r (h .1) (h .2) in (
+      r,
+      h .1,
+      rw e (h .2),
+      ap (λ (x : ℕ). sideEdge ids (x - 1)) e ∙ h .3,
+      ap (λ (x : ℕ). g ((x - 1) / 3)) e ∙ keeps ((s r - 1) / 3) (i / 3) (h .4),
+    )
 
 module _ {ids : List ℕ} {home : Edge → ℕ} {limit n : ℕ} {take : ℕ → Bool} {a b b′ c : ℕ} {t u v : List ℕ} {e e′ : Bool}
     (p : Entered ids home limit n take a b t u e) (q : Entered ids home limit n take b′ c u v e′) where

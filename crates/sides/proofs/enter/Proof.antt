@@ -15,10 +15,13 @@ use Rattle.sides.proofs.Passes.{ready-then, enters-then}
 use Rattle.sides.proofs.enter.Statement.{statement}
 use Rattle.sides.proofs.enter.Tie as tie
 
+abbrev begin : tie.After-distinct → tie.Start
+begin c = c .before .before .before .before .before .before
+
 returns : tie.Need-returns
 unfolding solid triangle
 returns c =
-    let st = c .before .before .before .before .before .before .before in
+    let st = begin (c .before) in
     let ids = st .args .ids .now in
     let t = st .args .t in
     let told = c .before .distinct in
@@ -29,7 +32,7 @@ returns c =
 -- a triangle of distinct ids
 module _ (c : tie.Else1) where
   abbrev st : tie.Start
-  st = c .before .before .before .before .before .before .before
+  st = begin (c .before)
 
   of-solid : (x : ℕ) → x / 3 ≡ st .args .t → solid (st .args .ids .now) (x / 3) ≡ true
   unfolding solid triangle

@@ -1,17 +1,15 @@
 -- The point test (000, `point_in_triangle`): where a point of the plane lies by a triangle. f32, each step rounded once.
+use Prim.Native.Nat.{ℕ}
 use mathlib.Core.Bool.{Bool, true, false, not, _||_}
 use lib.Ieee.{Float, lt, eq}
 use Rattle.ieee.specs.Magnitude.{magnitude}
 use Rattle.ieee.specs.Single.{_⊖_, _⊗_, nought, tiny}
 use Rattle.grid.specs.declared.Flat.{Flat}
+use Rattle.grid.specs.declared.Place.{Place}
 
 -- the doubled signed area of the triangle p, q, r: on which side of the line from q to r the point p lies
 unfoldable pub side : Float → Float → Float → Float → Float → Float → Float
 side px py qx qy rx ry = (px ⊖ rx) ⊗ (qy ⊖ ry) ⊖ (qx ⊖ rx) ⊗ (py ⊖ ry)
-
--- where a point lies
-pub data Place : Type 0 where
-  inside onEdge outside : Place
 
 -- some of three values is below 0, is above 0, is 0
 abbrev pub someNegative : Float → Float → Float → Bool
@@ -25,11 +23,11 @@ someZero d e f = eq d nought || (eq e nought || eq f nought)
 
 -- by whether some is negative, some is positive, some is zero: outside where both signs occur, else on an edge where one is zero
 unfoldable pub placeBy : Bool → Bool → Bool → Place
-placeBy true true z = outside
-placeBy true false true = onEdge
-placeBy true false false = inside
-placeBy false p true = onEdge
-placeBy false p false = inside
+placeBy true true z = Place.Outside
+placeBy true false true = Place.OnEdge
+placeBy true false false = Place.Inside
+placeBy false p true = Place.OnEdge
+placeBy false p false = Place.Inside
 
 unfoldable pub placeOf : Float → Float → Float → Place
 placeOf d e f = placeBy (someNegative d e f) (somePositive d e f) (someZero d e f)
@@ -40,14 +38,22 @@ place px py t =
     placeOf (side px py (t .ax) (t .ay) (t .bx) (t .by)) (side px py (t .bx) (t .by) (t .cx) (t .cy))
     (side px py (t .cx) (t .cy) (t .ax) (t .ay))
 
--- edges included
+-- edges included, and excluded
 unfoldable pub notOutside : Place → Bool
-notOutside inside = true
-notOutside onEdge = true
-notOutside outside = false
+notOutside Place.Inside = true
+notOutside Place.OnEdge = true
+notOutside Place.Outside = false
 
-unfoldable pub pointIn : Float → Float → Flat → Bool
-pointIn px py t = notOutside (place px py t)
+unfoldable pub isInside : Place → Bool
+isInside Place.Inside = true
+isInside Place.OnEdge = false
+isInside Place.Outside = false
+
+-- a number for each case: the further in, the greater
+unfoldable pub placeNumber : Place → ℕ
+placeNumber Place.Outside = 0
+placeNumber Place.OnEdge = 1
+placeNumber Place.Inside = 2
 
 -- does a triangle count? Not where its doubled area has a magnitude under 1e-12
 unfoldable pub counts : Flat → Bool

@@ -1,8 +1,11 @@
 // The point test, and the arithmetic of a grid of cells over a box. Internal: `paint` and `raster` use it.
 ghost use mathlib.Core.Path.{_≡_};
 ghost use Prim.Native.Nat.{_≤_, _<_};
-ghost use Rattle.grid.specs.Point.{pointIn, counts as isCounted};
+ghost use lib.ListN.{length};
+ghost use Rattle.grid.specs.Point.{place, placeNumber, counts as isCounted};
 ghost use Rattle.grid.specs.Grid.{cellsIn, cellAlong, firstCell, lastCell, centreOf, gridOf};
+ghost use Rattle.grid.specs.inner.Centred.{Centred};
+ghost use Rattle.grid.specs.inner.Edges.{edgeIf};
 ghost use Rattle.grid.specs.inner.Sized.{GridSized};
 
 // A triangle in the plane.
@@ -25,12 +28,26 @@ pub struct Grid {
     pub ny: usize,
 }
 
+// Where a point lies by a triangle.
+pub enum Place {
+    Inside,
+    OnEdge,
+    Outside,
+}
+
 // ---- the point test
 
-// Is the point not outside? 000 asks for the signs of three differences. They are those of comparing the two products, since
-// a difference of floats is never rounded to zero. The first sign decides which ones of the others matter.
-pub fn point_in_triangle(px: f32, py: f32, t: Flat) -> bool
-    ensures { λ r. ⌜ r ≡ pointIn px py t ⌝ }
+// Of a point that is not outside: on an edge where one of the values is zero.
+fn edge_if(zero: bool) -> Place
+    ensures { λ r. ⌜ r ≡ edgeIf zero ⌝ }
+{
+    if zero { Place::OnEdge } else { Place::Inside }
+}
+
+// Where the point lies. 000 asks for the signs of three differences. They are those of comparing the two products, since a difference
+// of floats is never rounded to zero. The first sign decides which ones of the others matter.
+pub fn point_in_triangle(px: f32, py: f32, t: Flat) -> Place
+    ensures { λ r. ⌜ r ≡ place px py t ⌝ }
 {
     let d = (px - t.bx) * (t.ay - t.by);
     let d_less = (t.ax - t.bx) * (py - t.by);
@@ -39,12 +56,32 @@ pub fn point_in_triangle(px: f32, py: f32, t: Flat) -> bool
     let f = (px - t.ax) * (t.cy - t.ay);
     let f_less = (t.cx - t.ax) * (py - t.ay);
     if d < d_less {
-        return !((e_less < e) | (f_less < f));
+        if (e_less < e) | (f_less < f) {
+            return Place::Outside;
+        }
+        return edge_if((e - e_less == 0.0) | (f - f_less == 0.0));
     }
     if d_less < d {
-        return !((e < e_less) | (f < f_less));
+        if (e < e_less) | (f < f_less) {
+            return Place::Outside;
+        }
+        return edge_if((e - e_less == 0.0) | (f - f_less == 0.0));
     }
-    !(((e < e_less) & (f_less < f)) | ((e_less < e) & (f < f_less)))
+    if ((e < e_less) & (f_less < f)) | ((e_less < e) & (f < f_less)) {
+        return Place::Outside;
+    }
+    edge_if((d - d_less == 0.0) | ((e - e_less == 0.0) | (f - f_less == 0.0)))
+}
+
+// A number for each case: the further in, the greater.
+pub fn place_number(place: Place) -> u8
+    ensures { λ r. ⌜ r ≡ placeNumber place ⌝ }
+{
+    match place {
+        Place::Inside => 2,
+        Place::OnEdge => 1,
+        Place::Outside => 0,
+    }
 }
 
 // Is the doubled area's magnitude not under 1e-12?
@@ -110,6 +147,18 @@ pub fn centre(x: f32, w: f32, i: usize) -> f32
     ensures { λ r. ⌜ r ≡ centreOf x w i ⌝ }
 {
     x + (i as u16 as f32 + 0.5) * w
+}
+
+// The centres of the first cells, as many as the list is long: what a row asks for again and again.
+pub fn centres(list: &mut [f32], x: f32, w: f32)
+    requires { ⌜ length (now list) ≤ 256 ⌝ }
+    ensures { λ _. ⌜ Centred x w (now (list .exit)) ⌝ }
+{
+    let mut i = 0;
+    while i < list.len() {
+        list[i] = centre(x, w, i);
+        i += 1;
+    }
 }
 
 // ---- both axes

@@ -1,7 +1,7 @@
 -- Loops over the columns of a row and over the rows of a box: what is painted so far, from the first on and below the next. Assumes
 -- nothing.
 use mathlib.Core.Path.{_≡_, refl, sym, ap, _∙_}
-use mathlib.Core.Bool.{Bool, true, false, _&&_, _||_, and-false, or-false}
+use mathlib.Core.Bool.{Bool, true, false, _&&_, _||_, and-true, and-false}
 use mathlib.Core.List.{List}
 use Prim.Native.Nat.{ℕ, _+_, _*_, _/_, _%_, _≤_, _<_, max}
 use native.Mathlib.Omega.{arith}
@@ -12,11 +12,11 @@ use lib.Ieee.{Float}
 use borrow.Author.Tests.{lt-ltb, le-ltb, le-leb, lt-leb, eq-eqb, ne-eqb, eqb-true}
 use Rattle.grid.specs.declared.Flat.{Flat}
 use Rattle.grid.specs.declared.Grid.{Grid}
-use Rattle.grid.specs.Point.{pointIn}
+use Rattle.grid.specs.Point.{place, placeNumber}
 use Rattle.grid.specs.Grid.{centreOf}
-use Rattle.paint.specs.Covered.{between, hits}
-use Rattle.paint.specs.inner.Painted.{Adds}
-use Rattle.paint.proofs.Painting.{adds-none, adds-same, adds-both}
+use Rattle.paint.specs.Covered.{between, centreLies}
+use Rattle.paint.specs.inner.Painted.{onlyIf, centreNumber, Adds}
+use Rattle.paint.proofs.Painting.{only-or, only-same, adds-none, adds-same, adds-both}
 
 -- ---- sizes
 
@@ -49,16 +49,16 @@ sofar-last lo hi i p l m =
       ]
     ]
 
-sofar-next : (lo i p : ℕ) (h : Bool) → lo ≤ i → (sofar lo i p && h) || (eqb p i && h) ≡ sofar lo (i + 1) p && h
+sofar-next : (lo i p : ℕ) → lo ≤ i → sofar lo i p || eqb p i ≡ sofar lo (i + 1) p
 unfolding sofar
-sofar-next lo i p h l =
+sofar-next lo i p l =
     elim (decLt p lo) [
       | yes a ↦ rw (lt-leb lo p a, ne-eqb p i (λ e. omega arith))
       | no a ↦ elim (ℕ-discrete p i) [
         | yes b ↦ rw (le-leb lo p (omega arith), le-ltb p i (omega arith), lt-ltb p (i + 1) (omega arith), eq-eqb p i b)
         | no b ↦ elim (decLt p i) [
-          | yes c ↦ rw (ne-eqb p i b, lt-ltb p i c, lt-ltb p (i + 1) (omega arith), or-false (leb lo p && true && h))
-          | no c ↦ rw (ne-eqb p i b, le-ltb p i (omega arith), le-ltb p (i + 1) (omega arith), or-false (leb lo p && false && h))
+          | yes c ↦ rw (le-leb lo p (omega arith), ne-eqb p i b, lt-ltb p i c, lt-ltb p (i + 1) (omega arith))
+          | no c ↦ rw (le-leb lo p (omega arith), ne-eqb p i b, le-ltb p i (omega arith), le-ltb p (i + 1) (omega arith))
         ]
       ]
     ]
@@ -83,51 +83,60 @@ cell-at n i j k l =
       ]
     ]
 
-within : (q x y z h : Bool) → (x && h) || (y && h) ≡ z && h → (q && (x && h)) || ((q && y) && h) ≡ q && (z && h)
-within true x y z h e = e
-within false x y z h e = refl
+-- ---- in row j, or in the columns from lo to hi: what is there so far and what is next
 
-and-same : (b h h′ : Bool) → (b ≡ true → h′ ≡ h) → b && h′ ≡ b && h
-and-same true h h′ e = e refl
-and-same false h h′ e = refl
+both-in : (q x y z : Bool) → x || y ≡ z → (q && x) || (q && y) ≡ q && z
+both-in true x y z e = e
+both-in false x y z e = refl
 
--- what cell k says of the columns from lo on, below i, in row j
-unfoldable pub rowSofar : Grid → Flat → ℕ → ℕ → ℕ → ℕ → Bool
-rowSofar g t j lo i k = eqb (k / g .nx) j && (sofar lo i (k % g .nx) && hits g t (k % g .nx) (k / g .nx))
+either-in : (q x y z : Bool) → x || y ≡ z → (x && q) || (y && q) ≡ z && q
+either-in true x y z e = rw (and-true x, and-true y, and-true z) e
+either-in false x y z e = rw (and-false x, and-false y, and-false z)
+
+-- what is said of cell k by the columns from lo on, below i, in row j
+unfoldable pub rowSofar : Grid → Flat → ℕ → ℕ → ℕ → ℕ → ℕ
+rowSofar g t j lo i k = onlyIf (eqb (k / g .nx) j && sofar lo i (k % g .nx)) (centreNumber g t (k % g .nx) (k / g .nx))
 
 module _ (g : Grid) (t : Flat) (j lo : ℕ) where
   pub row-first : (s : List ℕ) → Adds s s (rowSofar g t j lo lo)
   unfolding rowSofar
   row-first s = adds-none s (rowSofar g t j lo lo) (λ k. rw (sofar-none lo (k % g .nx), and-false (eqb (k / g .nx) j)))
 
-  hit : (k i : ℕ) (px py : Float) → i < g .nx → px ≡ centreOf (g .x) (g .w) i → py ≡ centreOf (g .y) (g .h) j → k ≡ j * g .nx + i
-      → pointIn px py t ≡ hits g t (k % g .nx) (k / g .nx)
-  unfolding hits
-  hit k i px py l ex ey e = rw (e, row-of (g .nx) i j l, column-of (g .nx) i j l, ex, ey)
+  number-at : (k i : ℕ) (px py : Float) → i < g .nx → px ≡ centreOf (g .x) (g .w) i → py ≡ centreOf (g .y) (g .h) j → k ≡ j * g .nx + i
+      → placeNumber (place px py t) ≡ centreNumber g t (k % g .nx) (k / g .nx)
+  unfolding centreNumber centreLies
+  number-at k i px py l ex ey e = rw (e, row-of (g .nx) i j l, column-of (g .nx) i j l, ex, ey)
 
   pub row-next : {s u v : List ℕ} (i : ℕ) (px py : Float) → i < g .nx → lo ≤ i → px ≡ centreOf (g .x) (g .w) i
-      → py ≡ centreOf (g .y) (g .h) j
-      → Adds s u (rowSofar g t j lo i) → Adds u v (λ k. eqb k (j * g .nx + i) && pointIn px py t) → Adds s v (rowSofar g t j lo (i + 1))
+      → py ≡ centreOf (g .y) (g .h) j → Adds s u (rowSofar g t j lo i)
+      → Adds u v (λ k. onlyIf (eqb k (j * g .nx + i)) (placeNumber (place px py t))) → Adds s v (rowSofar g t j lo (i + 1))
   unfolding rowSofar
   row-next i px py l m ex ey a b = adds-same (rowSofar g t j lo (i + 1)) (adds-both a b) more
     where
-      more : (k : ℕ) → rowSofar g t j lo i k || (eqb k (j * g .nx + i) && pointIn px py t) ≡ rowSofar g t j lo (i + 1) k
+      more : (k : ℕ) → max (rowSofar g t j lo i k) (onlyIf (eqb k (j * g .nx + i)) (placeNumber (place px py t)))
+          ≡ rowSofar g t j lo (i + 1) k
       more k =
           let n = g .nx in
-          let h = hits g t (k % n) (k / n) in
-          rw (and-same (eqb k (j * n + i)) h (pointIn px py t) (λ q. hit k i px py l ex ey (eqb-true k (j * n + i) q)), cell-at n i j k l)
-          (within (eqb (k / n) j) (sofar lo i (k % n)) (eqb (k % n) i) (sofar lo (i + 1) (k % n)) h (sofar-next lo i (k % n) h m))
+          let here = centreNumber g t (k % n) (k / n) in
+          let inRow = eqb (k / n) j in
+          rw (
+            only-same (eqb k (j * n + i)) (placeNumber (place px py t)) here
+                (λ q. number-at k i px py l ex ey (eqb-true k (j * n + i) q)),
+            cell-at n i j k l,
+            only-or (inRow && sofar lo i (k % n)) (inRow && eqb (k % n) i) here,
+            both-in inRow (sofar lo i (k % n)) (eqb (k % n) i) (sofar lo (i + 1) (k % n)) (sofar-next lo i (k % n) m),
+          )
 
   pub row-last : {s u : List ℕ} (hi i : ℕ) → hi < i → i ≤ max lo (hi + 1) → Adds s u (rowSofar g t j lo i)
-      → Adds s u (λ k. eqb (k / g .nx) j && (between lo hi (k % g .nx) && hits g t (k % g .nx) (k / g .nx)))
+      → Adds s u (λ k. onlyIf (eqb (k / g .nx) j && between lo hi (k % g .nx)) (centreNumber g t (k % g .nx) (k / g .nx)))
   unfolding rowSofar
   row-last hi i l m a = adds-same _ a (λ k. rw (sofar-last lo hi i (k % g .nx) l m))
 
 -- ---- a box
 
--- what cell k says of the rows from first on, below j, in the columns from lo to hi
-unfoldable pub boxSofar : Grid → Flat → ℕ → ℕ → ℕ → ℕ → ℕ → Bool
-boxSofar g t lo hi first j k = sofar first j (k / g .nx) && (between lo hi (k % g .nx) && hits g t (k % g .nx) (k / g .nx))
+-- what is said of cell k by the rows from first on, below j, in the columns from lo to hi
+unfoldable pub boxSofar : Grid → Flat → ℕ → ℕ → ℕ → ℕ → ℕ → ℕ
+boxSofar g t lo hi first j k = onlyIf (sofar first j (k / g .nx) && between lo hi (k % g .nx)) (centreNumber g t (k % g .nx) (k / g .nx))
 
 module _ (g : Grid) (t : Flat) (lo hi first : ℕ) where
   pub box-first : (s : List ℕ) → Adds s s (boxSofar g t lo hi first first)
@@ -135,14 +144,23 @@ module _ (g : Grid) (t : Flat) (lo hi first : ℕ) where
   box-first s = adds-none s (boxSofar g t lo hi first first) (λ k. rw (sofar-none first (k / g .nx)))
 
   pub box-next : {s u v : List ℕ} (j : ℕ) → first ≤ j → Adds s u (boxSofar g t lo hi first j)
-      → Adds u v (λ k. eqb (k / g .nx) j && (between lo hi (k % g .nx) && hits g t (k % g .nx) (k / g .nx)))
+      → Adds u v (λ k. onlyIf (eqb (k / g .nx) j && between lo hi (k % g .nx)) (centreNumber g t (k % g .nx) (k / g .nx)))
       → Adds s v (boxSofar g t lo hi first (j + 1))
   unfolding boxSofar
-  box-next j m a b =
-      adds-same (boxSofar g t lo hi first (j + 1)) (adds-both a b)
-      (λ k. sofar-next first j (k / g .nx) (between lo hi (k % g .nx) && hits g t (k % g .nx) (k / g .nx)) m)
+  box-next j m a b = adds-same (boxSofar g t lo hi first (j + 1)) (adds-both a b) more
+    where
+      more : (k : ℕ) → max (boxSofar g t lo hi first j k)
+          (onlyIf (eqb (k / g .nx) j && between lo hi (k % g .nx)) (centreNumber g t (k % g .nx) (k / g .nx)))
+          ≡ boxSofar g t lo hi first (j + 1) k
+      more k =
+          let n = g .nx in
+          let inside = between lo hi (k % n) in
+          rw (
+            only-or (sofar first j (k / n) && inside) (eqb (k / n) j && inside) (centreNumber g t (k % n) (k / n)),
+            either-in inside (sofar first j (k / n)) (eqb (k / n) j) (sofar first (j + 1) (k / n)) (sofar-next first j (k / n) m),
+          )
 
   pub box-last : {s u : List ℕ} (last j : ℕ) → last < j → j ≤ max first (last + 1) → Adds s u (boxSofar g t lo hi first j)
-      → Adds s u (λ k. between first last (k / g .nx) && (between lo hi (k % g .nx) && hits g t (k % g .nx) (k / g .nx)))
+      → Adds s u (λ k. onlyIf (between first last (k / g .nx) && between lo hi (k % g .nx)) (centreNumber g t (k % g .nx) (k / g .nx)))
   unfolding boxSofar
   box-last last j l m a = adds-same _ a (λ k. rw (sofar-last first last j (k / g .nx) l m))

@@ -1,5 +1,7 @@
--- What painting adds to a raster: a byte, a row, a box, a triangle, all triangles; and what it says of a cell that it is covered.
+-- What painting adds to a raster: a byte, a row, a box, a triangle, all triangles; and what it says of a cell that it is covered, or on the
+-- rim.
 mod Painting
 mod Boxes
 mod Covering
+pub mod Numbers
 pub mod Meaning

@@ -1,56 +1,57 @@
 -- What is painted adds up: nothing more, the same in other words, one after the other, and what one byte says after a store. Assumes
 -- nothing.
-use mathlib.Core.Path.{_≡_, refl, ap, _∙_}
-use mathlib.Core.Logic.{_≢_}
-use mathlib.Core.Bool.{Bool, true, false, _&&_, _||_, and-false, or-true, or-false, or-assoc}
+use mathlib.Core.Path.{_≡_, refl, sym, ap, _∙_}
+use mathlib.Core.Bool.{Bool, true, false, _||_}
 use mathlib.Core.List.{List}
-use Prim.Native.Nat.{ℕ, _<_}
+use Prim.Native.Nat.{ℕ, _≤_, _<_, max}
 use native.Mathlib.Omega.{arith}
 use native.Mathlib.Decide.{ℕ-discrete}
 use lib.Dec.{eqb}
 use lib.ListN.{length, getD, set, length-set}
 use lib.Seq.{getD-set-same, getD-set-other}
 use borrow.Author.Tests.{eq-eqb, ne-eqb}
-use Rattle.ids.specs.Uses.{bit}
-use Rattle.paint.specs.inner.Painted.{Shows, Adds}
+use Rattle.paint.specs.inner.Painted.{onlyIf, Adds}
+
+-- ---- numbers that are there only if something holds
+
+pub only-or : (a b : Bool) (n : ℕ) → max (onlyIf a n) (onlyIf b n) ≡ onlyIf (a || b) n
+only-or true true n = omega arith
+only-or true false n = omega arith
+only-or false b n = omega arith
+
+pub only-same : (b : Bool) (n m : ℕ) → (b ≡ true → n ≡ m) → onlyIf b n ≡ onlyIf b m
+only-same true n m e = e refl
+only-same false n m e = refl
+
+-- ---- what is added
 
 -- nothing more is said
-pub adds-none : (t : List ℕ) (h : ℕ → Bool) → ((k : ℕ) → h k ≡ false) → Adds t t h
-adds-none t h e = record { says = λ f s k l. s k l ∙ ap bit (rw (e k, or-false (f k))) }
+pub adds-none : (t : List ℕ) (h : ℕ → ℕ) → ((k : ℕ) → h k ≡ 0) → Adds t t h
+adds-none t h e = record { long = refl; says = λ k l. omega (arith, e k) }
 
 -- the same in other words
-pub adds-same : {s t : List ℕ} {h : ℕ → Bool} (h′ : ℕ → Bool) → Adds s t h → ((k : ℕ) → h k ≡ h′ k) → Adds s t h′
-adds-same h′ a e = record { says = λ f s k l. a .says f s k l ∙ ap (λ (z : Bool). bit (f k || z)) (e k) }
+pub adds-same : {s t : List ℕ} {h : ℕ → ℕ} (h′ : ℕ → ℕ) → Adds s t h → ((k : ℕ) → h k ≡ h′ k) → Adds s t h′
+adds-same h′ a e = record { long = a .long; says = λ k l. omega (arith, a .says k l, e k) }
 
 -- one after the other
-pub adds-both : {s t u : List ℕ} {h h′ : ℕ → Bool} → Adds s t h → Adds t u h′ → Adds s u (λ k. h k || h′ k)
-adds-both {s} {t} {u} {h} {h′} a b =
-    record { says = λ f w k l. b .says (λ k. f k || h k) (a .says f w) k l ∙ ap bit (or-assoc (f k) (h k) (h′ k)) }
+pub adds-both : {s t u : List ℕ} {h h′ : ℕ → ℕ} → Adds s t h → Adds t u h′ → Adds s u (λ k. max (h k) (h′ k))
+adds-both a b =
+    record { long = b .long ∙ a .long; says = λ k l. omega (arith, a .says k l, b .says k (omega (arith, l, a .long))) }
 
-bit-one : (a : Bool) → bit a ≢ 0 → a ≡ true
-unfolding bit
-bit-one true h = refl
-bit-one false h = absurd (h refl)
-
--- byte k, where b is to be said of it
-module _ (t : List ℕ) (k : ℕ) (b : Bool) where
-  -- there is nothing to say
-  pub adds-false : b ≡ false → Adds t t (λ i. eqb i k && b)
-  adds-false e = adds-none t (λ i. eqb i k && b) (λ i. rw (e, and-false (eqb i k)))
-
-  -- it was said already
-  pub adds-again : k < length t → getD t k 0 ≢ 0 → Adds t t (λ i. eqb i k && b)
-  adds-again lk ne = record { says = λ f s i l. s i l ∙ ap bit (go f s i (ℕ-discrete i k)) }
+-- byte k, of which n is to be said
+module _ (t : List ℕ) (k n : ℕ) where
+  -- it says as much already
+  pub adds-nothing : n ≤ getD t k 0 → Adds t t (λ i. onlyIf (eqb i k) n)
+  adds-nothing most = record { long = refl; says = λ i l. go i (ℕ-discrete i k) }
     where
-      go : (f : ℕ → Bool) → Shows t f → (i : ℕ) → Dec (i ≡ k) → f i ≡ f i || (eqb i k && b)
-      go f s i (yes e) = let y : f i ≡ true = rw e (bit-one (f k) (λ z. ne (s k lk ∙ z))) in rw y
-      go f s i (no e) = rw (ne-eqb i k e, or-false (f i))
+      go : (i : ℕ) → Dec (i ≡ k) → getD t i 0 ≡ max (getD t i 0) (onlyIf (eqb i k) n)
+      go i (yes e) = rw (e, eq-eqb k k refl) (omega (arith, most))
+      go i (no e) = rw (ne-eqb i k e) (omega arith)
 
   -- it is said now
-  pub adds-one : k < length t → b ≡ true → Adds t (set t k 1) (λ i. eqb i k && b)
-  unfolding bit
-  adds-one lk e = record { says = λ f s i l. go f s i l (ℕ-discrete i k) }
+  pub adds-one : k < length t → getD t k 0 ≤ n → Adds t (set t k n) (λ i. onlyIf (eqb i k) n)
+  adds-one lk least = record { long = length-set t k n; says = λ i l. go i (ℕ-discrete i k) }
     where
-      go : (f : ℕ → Bool) → Shows t f → (i : ℕ) → i < length (set t k 1) → Dec (i ≡ k) → getD (set t k 1) i 0 ≡ bit (f i || (eqb i k && b))
-      go f s i l (yes q) = rw (q, e, eq-eqb k k refl, or-true (f k)) (getD-set-same t k 1 0 lk)
-      go f s i l (no q) = rw (ne-eqb i k q, or-false (f i)) (getD-set-other t k i 1 0 q ∙ s i (omega (arith, l, length-set t k 1)))
+      go : (i : ℕ) → Dec (i ≡ k) → getD (set t k n) i 0 ≡ max (getD t i 0) (onlyIf (eqb i k) n)
+      go i (yes e) = rw (e, eq-eqb k k refl) (omega (arith, getD-set-same t k n 0 lk, least))
+      go i (no e) = rw (ne-eqb i k e) (omega (arith, getD-set-other t k i n 0 e))

@@ -1,7 +1,9 @@
--- Which cells of a grid a mesh covers (01, Raster; 000, `footprint_raw`), seen along the axis that is neither u nor v.
+-- Which cells of a grid a mesh covers (01, Raster; 000, `footprint_raw`), and which of these are on the rim (02, A3), seen along the axis
+-- that is neither u nor v.
 use mathlib.Core.Path.{_≡_}
+use mathlib.Core.Logic.{_≢_}
 use Prim.Native.Nat.{ℕ, zero, suc, _<_}
-use mathlib.Core.Bool.{Bool, true, false, _&&_, _||_}
+use mathlib.Core.Bool.{Bool, true, false, not, _&&_, _||_, cond}
 use mathlib.Core.List.{List}
 use lib.Dec.{leb}
 use lib.Ieee.{Float}
@@ -9,7 +11,8 @@ use Rattle.ids.specs.Triangles.{Triangle, triangle, triangleCount}
 use Rattle.vertices.specs.Vertices.{coordinate, cornersInRange}
 use Rattle.grid.specs.declared.Flat.{Flat}
 use Rattle.grid.specs.declared.Grid.{Grid}
-use Rattle.grid.specs.Point.{pointIn, counts}
+use Rattle.grid.specs.declared.Place.{Place}
+use Rattle.grid.specs.Point.{place, notOutside, isInside, counts}
 use Rattle.grid.specs.Grid.{firstCell, lastCell, centreOf}
 
 -- ---- one triangle, on the axes u and v
@@ -37,17 +40,17 @@ inColumns g t i =
 unfoldable pub inRows : Grid → Flat → ℕ → Bool
 inRows g t j = between (firstCell (g .y) (g .h) (g .ny) (t .ay) (t .by) (t .cy)) (lastCell (g .y) (g .h) (g .ny) (t .ay) (t .by) (t .cy)) j
 
--- is the centre of the cell in column i and row j not outside the triangle?
-unfoldable pub hits : Grid → Flat → ℕ → ℕ → Bool
-hits g t i j = pointIn (centreOf (g .x) (g .w) i) (centreOf (g .y) (g .h) j) t
+-- where the centre of the cell in column i and row j lies by the triangle
+unfoldable pub centreLies : Grid → Flat → ℕ → ℕ → Place
+centreLies g t i j = place (centreOf (g .x) (g .w) i) (centreOf (g .y) (g .h) j) t
 
--- does a triangle in the plane cover the cell? It counts, the cell is in its box, and the centre is not outside
-unfoldable pub fills : Grid → Flat → ℕ → ℕ → Bool
-fills g t i j = counts t && (inRows g t j && (inColumns g t i && hits g t i j))
+-- where the cell lies by a triangle in the plane: where its centre does, if the triangle counts and the cell is in its box; else outside
+unfoldable pub cellLies : Grid → Flat → ℕ → ℕ → Place
+cellLies g t i j = cond (counts t && (inRows g t j && inColumns g t i)) (centreLies g t i j) Place.Outside
 
--- a triangle with an id out of range covers nothing
-unfoldable pub covers : List Float → ℕ → ℕ → Grid → Triangle → ℕ → ℕ → Bool
-covers vs u v g t i j = cornersInRange vs t && fills g (flat vs u v t) i j
+-- by a triangle of the mesh: outside where an id is out of range
+unfoldable pub lies : List Float → ℕ → ℕ → Grid → Triangle → ℕ → ℕ → Place
+lies vs u v g t i j = cond (cornersInRange vs t) (cellLies g (flat vs u v t) i j) Place.Outside
 
 -- ---- all triangles
 
@@ -56,12 +59,29 @@ unfoldable pub some : (ℕ → Bool) → ℕ → Bool
 some f zero = false
 some f (suc n) = some f n || f n
 
--- is the cell in column i and row j covered?
-unfoldable pub covered : List Float → ℕ → ℕ → Grid → List ℕ → ℕ → ℕ → Bool
-covered vs u v g ids i j = some (λ t. covers vs u v g (triangle ids t) i j) (triangleCount ids)
+-- is there a triangle by which the cell in column i and row j lies as is asked?
+abbrev pub someLies : (Place → Bool) → List Float → ℕ → ℕ → Grid → List ℕ → ℕ → ℕ → Bool
+someLies asked vs u v g ids i j = some (λ t. asked (lies vs u v g (triangle ids t) i j)) (triangleCount ids)
 
--- that is to say: some triangle of the list covers it (`covered-tells`, `covered-told`)
+-- is it covered? Some triangle has it not outside
+unfoldable pub covered : List Float → ℕ → ℕ → Grid → List ℕ → ℕ → ℕ → Bool
+covered vs u v g ids i j = someLies notOutside vs u v g ids i j
+
+-- is it on the rim? It is covered, and inside no triangle
+unfoldable pub rim : List Float → ℕ → ℕ → Grid → List ℕ → ℕ → ℕ → Bool
+rim vs u v g ids i j = covered vs u v g ids i j && not (someLies isInside vs u v g ids i j)
+
+-- ---- that is to say
+
+-- some triangle of the list has it inside or on an edge (`covered-tells`, `covered-told`)
 pub record Covered (vs : List Float) (u v : ℕ) (g : Grid) (ids : List ℕ) (i j : ℕ) : Type 0 where
   pub number : ℕ
   pub within : number < triangleCount ids
-  pub by : covers vs u v g (triangle ids number) i j ≡ true
+  pub by : notOutside (lies vs u v g (triangle ids number) i j) ≡ true
+
+-- some triangle has it on an edge, and none inside (`rim-tells`, `rim-told`)
+pub record OnRim (vs : List Float) (u v : ℕ) (g : Grid) (ids : List ℕ) (i j : ℕ) : Type 0 where
+  pub number : ℕ
+  pub within : number < triangleCount ids
+  pub by : lies vs u v g (triangle ids number) i j ≡ Place.OnEdge
+  pub none : (t : ℕ) → t < triangleCount ids → lies vs u v g (triangle ids t) i j ≢ Place.Inside

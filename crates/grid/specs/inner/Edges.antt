@@ -1,0 +1,6 @@
+-- Of a point that is not outside a triangle: by whether one of the three values is zero.
+use mathlib.Core.Bool.{Bool, cond}
+use Rattle.grid.specs.declared.Place.{Place}
+
+abbrev pub edgeIf : Bool → Place
+edgeIf zero = cond zero Place.OnEdge Place.Inside

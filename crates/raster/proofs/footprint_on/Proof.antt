@@ -1,9 +1,9 @@
--- `raster::footprint_on` meets its contract: the part is cleared, so that its bytes show the covered cells once all triangles are painted.
+-- `raster::footprint_on` meets its contract: the part is cleared, so that its bytes say what all triangles paint.
 -- Assumes nothing.
 use mathlib.Core.Path.{_≡_}
 use lib.ListN.{length}
 use Prim.Native.Nat.{_*_, _≤_}
-use Rattle.raster.proofs.Counting.{few-cells, counted, area-of}
+use Rattle.raster.proofs.Counting.{few-cells, counted, footprint-of}
 use Rattle.raster.proofs.Clearing.{zeroed}
 use native.Mathlib.Omega.{arith}
 use borrow.Author.Needs.{needs}
@@ -27,14 +27,14 @@ module _ (c : tie.After-paint-all) where
 returns : tie.Need-returns
 returns c =
     let said = c .before .before in
-    let p = said .before .before .before .before .before in
+    let told = said .before in
+    let p = told .before .before .before .before in
     let z = zeroed _ (start p .args .part .now) _ (start p .pre .3) (cleared p .clear .ensures) in
-    area-of _ _ _ _ _ _ _ (counted _ _ _ _ _ _ _ _ z (long p) (p .paint-all .ensures) (said .before .tally .ensures))
+    footprint-of _ _ _ _ _ _ _ (counted _ _ _ _ _ _ _ _ z (long p) (p .paint-all .ensures) (told .tally .ensures))
     (said .nearest-u32-to-f32 .ensures)
 
 pub footprint-on-spec : {M : Type 1} → statement M
 footprint-on-spec =
     tie.close
-    (tie.spec (λ c κs. search needs) (λ c κs. search needs) (λ c κs. short (c .before .before .before))
-    (λ c. omega (arith, short (c .before .before .before .before), c .tally .ensures .most)) (λ c κs. search needs)
+    (tie.spec (λ c κs. search needs) (λ c κs. search needs) (λ c κs. short (c .before .before .before)) (λ c κs. search needs)
     (λ c. search needs) returns)

@@ -23,13 +23,13 @@ module _ (c : tie.After-greatest323) where
 
 returns : tie.Need-returns
 returns c =
-    let k = c .before in
+    let k = c .before .before in
     let a = start k .args in
     let w = wide k .greatest32 in
     let h = high k .greatest322 in
     let m = k .greatest323 in (
       foot-none (a .vertices .now) (a .ids .now) (a .s) (w .result) (h .result) (m .result) (w .ensures) (h .ensures) (m .ensures)
-          (c .if1 .taken),
+          (c .no-footprint .result) (c .before .if1 .taken) (c .no-footprint .ensures),
       refl,
     )
 
@@ -67,6 +67,6 @@ returns-2 c =
 pub footprint-over-spec : {M : Type 1} → statement M
 footprint-over-spec =
     tie.close
-    (tie.spec (λ c κs. search needs) (λ c κs. search needs) (λ c κs. search needs) returns (λ c κs. search needs) mul-n
+    (tie.spec (λ c κs. search needs) (λ c κs. search needs) (λ c κs. search needs) (λ c κs. search needs) returns (λ c κs. search needs) mul-n
     (λ c κs. search needs) (λ c κs. search needs) (λ c. search needs) (λ c. search needs) part-footprint-on-end (λ c κs. search needs)
     (λ c. search needs) returns-2)

@@ -1,47 +1,69 @@
--- `raster::tally` meets its contract: the sum of the first i bytes counts what they show, whatever that is. Assumes nothing.
+-- `raster::tally` meets its contract: the two numbers count the first i bytes. Assumes nothing.
 use mathlib.Core.Path.{_≡_, refl}
-use mathlib.Core.Bool.{Bool}
-use Prim.Native.Nat.{ℕ, _-_, _*_, _≤_}
+use mathlib.Core.List.{List}
+use Prim.Native.Nat.{ℕ, _+_, _-_, _≤_}
+use mir.Val.{boolByte}
 use native.Mathlib.Omega.{arith}
-use lib.ListN.{length}
+use lib.Dec.{eqb, ltb}
+use lib.ListN.{length, getD}
 use borrow.Author.Needs.{needs}
-use Rattle.paint.specs.inner.Painted.{Shows}
 use Rattle.raster.specs.Footprint.{count}
-use Rattle.raster.proofs.Counting.{count-next}
+use Rattle.raster.proofs.Counting.{count-next, count-most}
 use Rattle.raster.proofs.tally.Statement.{statement}
 use Rattle.raster.proofs.tally.Tie as tie
 
 abbrev Inv-loop : tie.InvT-loop
-Inv-loop part sum₀ i₀ sum i = (i ≤ length part) × (sum ≤ 255 * i) × ((f : ℕ → Bool) → Shows part f → sum ≡ count f i)
+Inv-loop part covered₀ rim₀ i₀ covered rim i =
+    (i ≤ length part) × (covered ≡ count (λ k. ltb 0 (getD part k 0)) i) × (rim ≡ count (λ k. eqb (getD part k 0) 1) i)
 
 abbrev μ-loop : tie.MeasureT-loop
-μ-loop part sum₀ i₀ sum i = length part - i
+μ-loop part covered₀ rim₀ i₀ covered rim i = length part - i
 
 loop-holds : tie.Need-loop-holds Inv-loop μ-loop
 unfolding count
-loop-holds c = (omega arith, omega arith, λ f s. refl)
+loop-holds c = (omega arith, refl, refl)
 
-cast-sum : tie.Need-cast-sum Inv-loop μ-loop
-cast-sum c = omega (arith, c .shared-slice-known .given (c .before .before .loop .i))
+-- the byte that is counted
+module _ (c : tie.In-loop Inv-loop μ-loop) where
+  abbrev at : tie.At-loop Inv-loop μ-loop
+  at = c .before
 
-add-sum : tie.Need-add-sum Inv-loop μ-loop
-add-sum c = omega (arith, c .shared-slice-known .given (c .before .before .loop .i))
+  abbrev start : tie.Start Inv-loop μ-loop
+  start = at .before
+
+  abbrev part : List ℕ
+  part = start .args .part .now
+
+  covered-next : at .loop .covered + boolByte (ltb 0 (getD part (at .loop .i) 0)) ≡ count (λ k. ltb 0 (getD part k 0)) (at .loop .i + 1)
+  covered-next = count-next (λ k. ltb 0 (getD part k 0)) (at .loop .i) (at .loop .covered) (at .loop .inv .1)
+
+  rim-next : at .loop .rim + boolByte (eqb (getD part (at .loop .i) 0) 1) ≡ count (λ k. eqb (getD part k 0) 1) (at .loop .i + 1)
+  rim-next = count-next (λ k. eqb (getD part k 0) 1) (at .loop .i) (at .loop .rim) (at .loop .inv .2)
+
+  few : at .loop .i + 1 ≤ 65536
+  few = omega (arith, c .loop-test .taken, start .pre)
+
+add-covered : tie.Need-add-covered Inv-loop μ-loop
+add-covered c =
+    let k = c .before in
+    omega (arith, covered-next k, count-most (λ j. ltb 0 (getD (part k) j 0)) (at k .loop .i + 1), few k)
+
+add-rim : tie.Need-add-rim Inv-loop μ-loop
+add-rim c =
+    let k = c .before .before in
+    omega (arith, rim-next k, count-most (λ j. eqb (getD (part k) j 0) 1) (at k .loop .i + 1), few k)
 
 loop-again : tie.Need-loop-again Inv-loop μ-loop
-loop-again c =
-    let l = c .before .before .loop in (
-      omega arith,
-      omega (arith, c .shared-slice-known .given (l .i)),
-      λ f s. omega (arith, l .inv .2 f s, s (l .i) (omega arith), count-next f (l .i)),
-    )
+loop-again c = let k = c .before .before in (omega (arith, k .loop-test .taken), covered-next k, rim-next k)
 
 returns : tie.Need-returns Inv-loop μ-loop
 returns c =
     let l = c .before .loop in
-    let e : l .i ≡ length (c .before .before .args .part .now) = omega arith in
-    record { shown = λ f s. rw (← e) (l .inv .2 f s); most = omega arith }
+    let e : l .i ≡ length (c .before .before .args .part .now) = omega (arith, c .loop-test .left, l .inv .0) in
+    record { covered-is = rw (← e) (l .inv .1); rim-is = rw (← e) (l .inv .2) }
 
 pub tally-spec : {M : Type 1} → statement M
 tally-spec =
     tie.close
-    (tie.spec Inv-loop μ-loop loop-holds (λ c. search needs) cast-sum add-sum (λ c. search needs) (λ c. search needs) loop-again returns)
+    (tie.spec Inv-loop μ-loop loop-holds (λ c. search needs) (λ c. tt) add-covered (λ c. search needs) (λ c. tt) add-rim
+    (λ c. search needs) (λ c. search needs) loop-again returns)

@@ -1,13 +1,13 @@
--- What adding up the bytes of a raster gives.
+-- What counting the bytes of a raster gives.
 use mathlib.Core.Path.{_≡_}
-use mathlib.Core.Bool.{Bool}
 use mathlib.Core.List.{List}
-use Prim.Native.Nat.{ℕ, _*_, _≤_}
-use lib.ListN.{length}
-use Rattle.paint.specs.inner.Painted.{Shows}
+use Prim.Native.Nat.{ℕ}
+use lib.Dec.{eqb, ltb}
+use lib.ListN.{length, getD}
+use Rattle.raster.specs.declared.Pair.{Pair}
 use Rattle.raster.specs.Footprint.{count}
 
--- whatever the bytes show, r counts it
-pub record Counts (t : List ℕ) (r : ℕ) : Type 0 where
-  pub shown : (f : ℕ → Bool) → Shows t f → r ≡ count f (length t)
-  pub most : r ≤ 255 * length t
+-- those above 0, and those that are 1
+pub record Counts (t : List ℕ) (r : Pair) : Type 0 where
+  pub covered-is : r .covered ≡ count (λ k. ltb 0 (getD t k 0)) (length t)
+  pub rim-is : r .rim ≡ count (λ k. eqb (getD t k 0) 1) (length t)

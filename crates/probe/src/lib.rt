@@ -12,10 +12,10 @@ ghost use Rattle.ieee.specs.Single.{nought};
 ghost use Rattle.ids.specs.Lent.{cleared, mostEntries};
 ghost use Rattle.vertices.specs.Vertices.{vertexCount};
 ghost use Rattle.weld.specs.Weld.{epsilonOf, welded};
-ghost use Rattle.grid.specs.Point.{pointIn};
+ghost use Rattle.grid.specs.Point.{place, placeNumber};
 ghost use Rattle.vertices.specs.Areas.{rasterBytes};
 ghost use Rattle.raster.specs.Footprint.{footprint};
-ghost use Rattle.probe.specs.inner.Asked.{axisAt, flatAt, floatAt, windowAt};
+ghost use Rattle.probe.specs.inner.Asked.{axisAt, flatAt, floatAt, windowAt, wordsOfPair};
 use grid::Flat;
 use ids::MOST_ENTRIES;
 use raster::Axis;
@@ -59,10 +59,10 @@ pub extern "C" fn probe_welded_indices(
     false
 }
 
-// Is the point q, whose coordinates come first, in the triangle whose corners follow?
+// Where does the point q, whose coordinates come first, lie by the triangle whose corners follow?
 #[no_mangle]
-pub extern "C" fn probe_point_in_triangle(q: &[f32; 8]) -> bool
-    ensures { λ r. ⌜ r ≡ pointIn (floatAt (now (q .entry)) 0) (floatAt (now (q .entry)) 1) (flatAt (now (q .entry))) ⌝ }
+pub extern "C" fn probe_point_in_triangle(q: &[f32; 8]) -> u32
+    ensures { λ r. ⌜ r ≡ placeNumber (place (floatAt (now (q .entry)) 0) (floatAt (now (q .entry)) 1) (flatAt (now (q .entry)))) ⌝ }
 {
     let t = Flat {
         ax: q[2],
@@ -72,7 +72,7 @@ pub extern "C" fn probe_point_in_triangle(q: &[f32; 8]) -> bool
         cx: q[6],
         cy: q[7],
     };
-    grid::point_in_triangle(q[0], q[1], t)
+    grid::place_number(grid::point_in_triangle(q[0], q[1], t)) as u32
 }
 
 // 0 is x, 1 is y, and any other number z.
@@ -88,8 +88,8 @@ fn axis(n: u32) -> Axis
     }
 }
 
-// The footprint, where the raster is long enough; else nothing is done, and the answer is 0. The bounds are the least and the greatest on
-// the first axis, then on the second.
+// The footprint's area, and in cells how many are covered and how many on the rim, where the raster is long enough; else nothing is done,
+// and the answer is 0. The bounds are the least and the greatest on the first axis, then on the second.
 #[no_mangle]
 pub extern "C" fn probe_footprint_raw(
     vertices: &[f32],
@@ -97,9 +97,12 @@ pub extern "C" fn probe_footprint_raw(
     axes: &[u32; 2],
     bounds: &[f32; 4],
     area: &mut [u8],
+    cells: &mut [u32; 2],
 ) -> f32
     ensures { λ r. ⌜ (r ≡ cond (ltb (length (now (area .entry))) rasterBytes) nought
-        (footprint (now (vertices .entry)) (now (ids .entry)) (windowAt (now (axes .entry)) (now (bounds .entry)))))
+        (footprint (now (vertices .entry)) (now (ids .entry)) (windowAt (now (axes .entry)) (now (bounds .entry))) .area))
+        × (now (cells .exit) ≡ cond (ltb (length (now (area .entry))) rasterBytes) (now (cells .entry))
+        (wordsOfPair (footprint (now (vertices .entry)) (now (ids .entry)) (windowAt (now (axes .entry)) (now (bounds .entry))) .cells)))
         × (now (area .exit)
         ≡ cond (ltb (length (now (area .entry))) rasterBytes) (now (area .entry)) (cleared rasterBytes (now (area .entry)))) ⌝ }
 {
@@ -109,5 +112,8 @@ pub extern "C" fn probe_footprint_raw(
     let u = axis(axes[0]);
     let v = axis(axes[1]);
     let s = raster::window_on(u, v, bounds[0], bounds[1], bounds[2], bounds[3]);
-    raster::footprint_raw(vertices, ids, s, area)
+    let found = raster::footprint_raw(vertices, ids, s, area);
+    let pair = found.cells;
+    *cells = [pair.covered, pair.rim];
+    found.area
 }

@@ -1,10 +1,11 @@
--- What numbers in a row mean to the runs: an axis, a triangle in the plane, a window.
+-- What numbers in a row mean to the runs: an axis, a triangle in the plane, a window, a footprint's cells.
 use Prim.Native.Nat.{ℕ, zero, suc}
-use mathlib.Core.List.{List}
+use mathlib.Core.List.{List, [], _∷_}
 use lib.ListN.{getD}
 use lib.Ieee.{Float, nan}
 use Rattle.grid.specs.declared.Flat.{Flat}
 use Rattle.raster.specs.declared.Axis.{Axis}
+use Rattle.raster.specs.declared.Pair.{Pair}
 use Rattle.raster.specs.declared.Window.{Window}
 
 abbrev pub floatAt : List Float → ℕ → Float
@@ -30,3 +31,6 @@ windowAt axes b =
       ymin = floatAt b 2;
       ymax = floatAt b 3;
     }
+
+abbrev pub wordsOfPair : Pair → List ℕ
+wordsOfPair p = p .covered ∷ p .rim ∷ []

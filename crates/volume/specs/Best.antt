@@ -1,4 +1,5 @@
--- Best volume (01): which volume is carried, by what method, whether it is to be trusted, and the prism bound. f32, each step rounded once.
+-- Best volume (01): which volume is carried, by what method, whether it is to be trusted, and the prism bound; and the cells of the footprints
+-- that the prism is made of (02, A3). f32, each step rounded once.
 use Prim.Native.Nat.{ℕ}
 use mathlib.Core.Bool.{Bool, true, false, not, _&&_, cond}
 use mathlib.Core.List.{List}
@@ -7,28 +8,44 @@ use Rattle.ieee.specs.Cube.{cubeAbove}
 use Rattle.ieee.specs.Order.{least}
 use Rattle.ieee.specs.Single.{_⊗_, nought, extent}
 use Rattle.raster.specs.declared.Axis.{Axis}
+use Rattle.raster.specs.declared.Pair.{Pair}
 use Rattle.raster.specs.declared.Window.{Window}
-use Rattle.raster.specs.Footprint.{windowOf, footprint}
+use Rattle.raster.specs.Footprint.{windowOf, noCells, footprint}
 use Rattle.sums.specs.declared.bounds.Bounds.{Bounds}
 use Rattle.verdict.specs.declared.Quality.{Quality}
 use Rattle.volume.specs.declared.Best.{Best}
 use Rattle.volume.specs.declared.Method.{Method}
+use Rattle.volume.specs.declared.Pairs.{Pairs}
 use Rattle.volume.specs.declared.PrismBound.{PrismBound}
 
 -- ---- the prism: the least positive of three products footprint × extent
 
--- a footprint in a window times the extent e on the third axis; 0 where the box is flat on one of them
+-- the window across each axis
+abbrev pub acrossX : Bounds → Window
+acrossX b = windowOf Axis.Y Axis.Z (b .ymin) (b .ymax) (b .zmin) (b .zmax)
+
+abbrev pub acrossY : Bounds → Window
+acrossY b = windowOf Axis.X Axis.Z (b .xmin) (b .xmax) (b .zmin) (b .zmax)
+
+abbrev pub acrossZ : Bounds → Window
+acrossZ b = windowOf Axis.X Axis.Y (b .xmin) (b .xmax) (b .ymin) (b .ymax)
+
+-- is there a footprint in a window, e being the extent on the third axis? Not where the box is flat on one of them
+abbrev pub taken : Window → Float → Bool
+taken s e = lt nought e && (lt (s .xmin) (s .xmax) && lt (s .ymin) (s .ymax))
+
+-- its area times that extent, or 0
 unfoldable pub prismOn : List Float → List ℕ → Window → Float → Float
-prismOn vs ids s e = cond (lt nought e && (lt (s .xmin) (s .xmax) && lt (s .ymin) (s .ymax))) (footprint vs ids s ⊗ e) nought
+prismOn vs ids s e = cond (taken s e) (footprint vs ids s .area ⊗ e) nought
 
 abbrev pub prismX : List Float → List ℕ → Bounds → Float
-prismX vs ids b = prismOn vs ids (windowOf Axis.Y Axis.Z (b .ymin) (b .ymax) (b .zmin) (b .zmax)) (extent (b .xmin) (b .xmax))
+prismX vs ids b = prismOn vs ids (acrossX b) (extent (b .xmin) (b .xmax))
 
 abbrev pub prismY : List Float → List ℕ → Bounds → Float
-prismY vs ids b = prismOn vs ids (windowOf Axis.X Axis.Z (b .xmin) (b .xmax) (b .zmin) (b .zmax)) (extent (b .ymin) (b .ymax))
+prismY vs ids b = prismOn vs ids (acrossY b) (extent (b .ymin) (b .ymax))
 
 abbrev pub prismZ : List Float → List ℕ → Bounds → Float
-prismZ vs ids b = prismOn vs ids (windowOf Axis.X Axis.Y (b .xmin) (b .xmax) (b .ymin) (b .ymax)) (extent (b .zmin) (b .zmax))
+prismZ vs ids b = prismOn vs ids (acrossZ b) (extent (b .zmin) (b .zmax))
 
 -- the lesser of m and p, if p is positive
 unfoldable pub orLess : Float → Float → Float
@@ -43,6 +60,28 @@ orNone p cube = cond (lt p (inf false)) (p ⊗ cube) nought
 
 unfoldable pub prism : List Float → List ℕ → Bounds → Float → Float
 prism vs ids b cube = orNone (leastPositive (prismX vs ids b) (prismY vs ids b) (prismZ vs ids b)) cube
+
+-- ---- the pairs: the cells of the same three footprints
+
+unfoldable pub pairOn : List Float → List ℕ → Window → Float → Pair
+pairOn vs ids s e = cond (taken s e) (footprint vs ids s .cells) noCells
+
+unfoldable pub prismPairs : List Float → List ℕ → Bounds → Pairs
+prismPairs vs ids b =
+    record {
+      z = pairOn vs ids (acrossZ b) (extent (b .zmin) (b .zmax));
+      y = pairOn vs ids (acrossY b) (extent (b .ymin) (b .ymax));
+      x = pairOn vs ids (acrossX b) (extent (b .xmin) (b .xmax));
+    }
+
+abbrev pub noPairs : Pairs
+noPairs = record { z = noCells; y = noCells; x = noCells }
+
+-- an open shell has those of its own prism, p; any other six zeros
+unfoldable pub pairsOf : Quality → Pairs → Pairs
+pairsOf Quality.Closed p = noPairs
+pairsOf Quality.Degenerate p = noPairs
+pairsOf Quality.OpenShell p = p
 
 -- ---- whether the volume of an open shell is to be trusted
 
@@ -73,8 +112,13 @@ openBest v s box p =
     (record { volume = v; method = Method.MeshOpen; reliable = true; prism = PrismBound.Bound p })
     (record { volume = p; method = Method.PrismFallback; reliable = false; prism = PrismBound.Bound p })
 
+abbrev pub closedBest : Float → Best
+closedBest v = record { volume = v; method = Method.Mesh; reliable = true; prism = PrismBound.NotComputed }
+
+abbrev pub degenerateBest : Best
+degenerateBest = record { volume = nought; method = Method.PrismFallback; reliable = false; prism = PrismBound.Bound nought }
+
 unfoldable pub bestOf : Quality → Float → Float → Float → Float → Best
-bestOf Quality.Closed v s box p = record { volume = v; method = Method.Mesh; reliable = true; prism = PrismBound.NotComputed }
-bestOf Quality.Degenerate v s box p =
-    record { volume = nought; method = Method.PrismFallback; reliable = false; prism = PrismBound.Bound nought }
+bestOf Quality.Closed v s box p = closedBest v
+bestOf Quality.Degenerate v s box p = degenerateBest
 bestOf Quality.OpenShell v s box p = openBest v s box p

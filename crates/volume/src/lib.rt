@@ -1,12 +1,14 @@
-// The best volume of a mesh, by its quality: the mesh's own where that is to be trusted, else the prism. Internal: `qto` asks it; the
-// record has its enums.
+// The best volume of a mesh, by its quality: the mesh's own where that is to be trusted, else the prism; and the cells of the prism's
+// footprints. Internal: `qto` asks it; the record has its enums.
 ghost use mathlib.Core.Path.{_≡_};
 ghost use lib.ListN.{length, replicate};
 ghost use Rattle.ieee.specs.Magnitude.{magnitude};
 ghost use Rattle.vertices.specs.Areas.{rasterBytes};
-ghost use Rattle.volume.specs.Best.{prismOn, orLess, orNone, prism as prismOf, openBest, bestOf};
+ghost use Rattle.volume.specs.Best.{prismOn, orLess, orNone, prism as prismOf, closedBest, degenerateBest, openBest, bestOf};
+ghost use Rattle.volume.specs.Best.{pairOn, prismPairs, noPairs, pairsOf};
 ghost use Rattle.volume.specs.Best.{upper as upperOf, collapsed as collapsedOf, trusted as trustedOf};
 use raster::Axis;
+use raster::Pair;
 use raster::Window;
 use sums::Bounds;
 use verdict::Quality;
@@ -34,19 +36,57 @@ pub enum PrismBound {
     Bound(f32),
 }
 
+// The cells of the footprints along z, y and x.
+pub struct Pairs {
+    pub z: Pair,
+    pub y: Pair,
+    pub x: Pair,
+}
+
+pub fn no_pairs() -> Pairs
+    ensures { λ r. ⌜ r ≡ noPairs ⌝ }
+{
+    Pairs {
+        z: raster::no_cells(),
+        y: raster::no_cells(),
+        x: raster::no_cells(),
+    }
+}
+
 // ---- the prism
 
+// On one axis: the prism, and the cells of its footprint.
+pub struct Across {
+    pub prism: f32,
+    pub cells: Pair,
+}
+
 // The footprint in a window times the extent on the third axis. The raster is zero afterwards.
-fn prism_on(vertices: &[f32], indices: &[u32], s: Window, along: f32, raster: &mut [u8]) -> f32
+fn prism_on(
+    vertices: &[f32],
+    indices: &[u32],
+    s: Window,
+    along: f32,
+    raster: &mut [u8],
+) -> Across
     requires { ⌜ length (now raster) ≡ rasterBytes ⌝ }
-    ensures { λ r. ⌜ (r ≡ prismOn (now (vertices .entry)) (now (indices .entry)) s along)
+    ensures { λ r. ⌜ (r .prism ≡ prismOn (now (vertices .entry)) (now (indices .entry)) s along)
+        × (r .cells ≡ pairOn (now (vertices .entry)) (now (indices .entry)) s along)
         × (now (raster .exit) ≡ replicate rasterBytes 0) ⌝ }
 {
     if (along > 0.0) & ((s.xmax > s.xmin) & (s.ymax > s.ymin)) {
-        return raster::footprint_raw(vertices, indices, s, raster) * along;
+        let found = raster::footprint_raw(vertices, indices, s, raster);
+        let cells = found.cells;
+        return Across {
+            prism: found.area * along,
+            cells,
+        };
     }
     raster::clear(raster, 65536);
-    0.0
+    Across {
+        prism: 0.0,
+        cells: raster::no_cells(),
+    }
 }
 
 // The lesser of m and p, if p is positive.
@@ -66,23 +106,36 @@ fn or_none(p: f32, cube: f32) -> f32
     }
 }
 
-fn prism(vertices: &[f32], indices: &[u32], b: Bounds, cube: f32, raster: &mut [u8]) -> f32
+// The prism of a mesh, and the cells of its footprints.
+pub struct PrismAndPairs {
+    pub prism: f32,
+    pub pairs: Pairs,
+}
+
+fn prism(vertices: &[f32], indices: &[u32], b: Bounds, cube: f32, raster: &mut [u8]) -> PrismAndPairs
     requires { ⌜ length (now raster) ≡ rasterBytes ⌝ }
-    ensures { λ r. ⌜ (r ≡ prismOf (now (vertices .entry)) (now (indices .entry)) b cube)
+    ensures { λ r. ⌜ (r .prism ≡ prismOf (now (vertices .entry)) (now (indices .entry)) b cube)
+        × (r .pairs ≡ prismPairs (now (vertices .entry)) (now (indices .entry)) b)
         × (now (raster .exit) ≡ replicate rasterBytes 0) ⌝ }
 {
     let across_z = raster::window_on(Axis::X, Axis::Y, b.xmin, b.xmax, b.ymin, b.ymax);
     let tall = sums::extent(b.zmin, b.zmax);
-    let z = prism_on(vertices, indices, across_z, tall, raster);
+    let on_z = prism_on(vertices, indices, across_z, tall, raster);
     let across_y = raster::window_on(Axis::X, Axis::Z, b.xmin, b.xmax, b.zmin, b.zmax);
     let deep = sums::extent(b.ymin, b.ymax);
-    let y = prism_on(vertices, indices, across_y, deep, raster);
+    let on_y = prism_on(vertices, indices, across_y, deep, raster);
     let across_x = raster::window_on(Axis::Y, Axis::Z, b.ymin, b.ymax, b.zmin, b.zmax);
     let wide = sums::extent(b.xmin, b.xmax);
-    let x = prism_on(vertices, indices, across_x, wide, raster);
+    let on_x = prism_on(vertices, indices, across_x, wide, raster);
     let none = f32::from_bits(0x7f80_0000);
-    let least = or_less(or_less(or_less(none, x), y), z);
-    or_none(least, cube)
+    let least = or_less(or_less(or_less(none, on_x.prism), on_y.prism), on_z.prism);
+    let z = on_z.cells;
+    let y = on_y.cells;
+    let x = on_x.cells;
+    PrismAndPairs {
+        prism: or_none(least, cube),
+        pairs: Pairs { z, y, x },
+    }
 }
 
 // ---- the volume of an open shell
@@ -137,7 +190,36 @@ fn open_best(volume: f32, surface: f32, aabb: f32, prism: f32) -> Best
 
 // ---- by quality
 
-// The best volume, by the magnitude of the mesh's own. The footprints are asked for an open shell alone; the raster is zero afterwards.
+fn closed_best(volume: f32) -> Best
+    ensures { λ r. ⌜ r ≡ closedBest volume ⌝ }
+{
+    Best {
+        volume,
+        method: Method::Mesh,
+        reliable: true,
+        prism: PrismBound::NotComputed,
+    }
+}
+
+fn degenerate_best() -> Best
+    ensures { λ r. ⌜ r ≡ degenerateBest ⌝ }
+{
+    Best {
+        volume: 0.0,
+        method: Method::PrismFallback,
+        reliable: false,
+        prism: PrismBound::Bound(0.0),
+    }
+}
+
+// The best volume, and beside it the pairs.
+pub struct Carried {
+    pub best: Best,
+    pub pairs: Pairs,
+}
+
+// The best volume, by the magnitude of the mesh's own. The footprints are asked for an open shell alone, and once; the raster is zero
+// afterwards.
 pub fn best_volume(
     quality: Quality,
     s: Sizes,
@@ -146,35 +228,36 @@ pub fn best_volume(
     b: Bounds,
     cube: f32,
     raster: &mut [u8],
-) -> Best
+) -> Carried
     requires { ⌜ length (now raster) ≡ rasterBytes ⌝ }
-    ensures { λ r. ⌜ (r ≡ bestOf quality (magnitude (s .volume)) (s .surface) (s .aabb)
+    ensures { λ r. ⌜ (r .best ≡ bestOf quality (magnitude (s .volume)) (s .surface) (s .aabb)
         (prismOf (now (vertices .entry)) (now (indices .entry)) b cube))
+        × (r .pairs ≡ pairsOf quality (prismPairs (now (vertices .entry)) (now (indices .entry)) b))
         × (now (raster .exit) ≡ replicate rasterBytes 0) ⌝ }
 {
     let volume = floats::magnitude32(s.volume);
     match quality {
         Quality::Closed => {
             raster::clear(raster, 65536);
-            Best {
-                volume,
-                method: Method::Mesh,
-                reliable: true,
-                prism: PrismBound::NotComputed,
+            Carried {
+                best: closed_best(volume),
+                pairs: no_pairs(),
             }
         }
         Quality::Degenerate => {
             raster::clear(raster, 65536);
-            Best {
-                volume: 0.0,
-                method: Method::PrismFallback,
-                reliable: false,
-                prism: PrismBound::Bound(0.0),
+            Carried {
+                best: degenerate_best(),
+                pairs: no_pairs(),
             }
         }
         Quality::OpenShell => {
             let p = prism(vertices, indices, b, cube, raster);
-            open_best(volume, s.surface, s.aabb, p)
+            let pairs = p.pairs;
+            Carried {
+                best: open_best(volume, s.surface, s.aabb, p.prism),
+                pairs,
+            }
         }
     }
 }

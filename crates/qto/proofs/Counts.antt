@@ -11,7 +11,7 @@ use Rattle.refusals.specs.declared.Check.{Check}
 use Rattle.refusals.specs.Refusals.{Passes}
 use Rattle.refusals.proofs.Checks.{admitted}
 use Rattle.qto.specs.declared.Answer.{Answer}
-use Rattle.qto.specs.Full.{measuresFrom, measures, recordFrom, recordBy, recordOf}
+use Rattle.qto.specs.Full.{measuresFrom, measures, recordFrom, recordBy, recordOf, takeoffOf}
 use Rattle.qto.specs.Compute.{answerAt}
 use Rattle.qto.specs.Counts.{FullCounts}
 
@@ -22,9 +22,9 @@ unfolding recordOf recordBy recordFrom measures measuresFrom
 counts-of-mesh vs ids u p = counts-add-up vs ids (p .fine)
 
 pub full-counts : FullCounts
-unfolding answerAt
-full-counts vs ids u w r s a w′ r′ s′ q c e k =
-    let full : answerAt Check.Full (recordOf vs ids u) ≡ Answer.Record q =
-    ap (λ (x : Check). answerAt x (recordOf vs ids u)) (sym k) ∙ sym (c .answers) ∙ e in
-    let same : recordOf vs ids u ≡ q = cc in
+unfolding answerAt takeoffOf
+full-counts vs ids u w r s a w′ r′ s′ t c e k =
+    let full : answerAt Check.Full (takeoffOf vs ids u) ≡ Answer.Record t =
+    ap (λ (x : Check). answerAt x (takeoffOf vs ids u)) (sym k) ∙ sym (c .answers) ∙ e in
+    let same : takeoffOf vs ids u ≡ t = cc in
     rw (← same) (counts-of-mesh vs ids u (admitted vs ids u (length w) (length r) (length s) Check.Full refl (sym k) .mesh))

@@ -10,7 +10,6 @@ use native.Mathlib.Nat.{le-trans, mul-le-mul-right}
 use native.Mathlib.Omega.{arith}
 use borrow.Author.Needs.{needs}
 use lib.Dec.{T, lit<, lit≤}
-use lib.ListN.{length}
 use lib.Ieee.{Float, nan, inf, fin, binary32, binary64, lt, le, ofBits}
 use lib.Ieee.Exact.{HasValue}
 use lib.Ieee.Scale.{finite}
@@ -37,16 +36,14 @@ use Rattle.volume.specs.declared.Method.{Method}
 use Rattle.volume.specs.declared.PrismBound.{PrismBound}
 use Rattle.volume.specs.Best.{prism, upper, trusted, openBest, bestOf}
 use Rattle.record.specs.Record.{zeroRecord}
-use Rattle.refusals.specs.declared.Check.{Check}
-use Rattle.refusals.specs.Refusals.{Passes, checkOf}
-use Rattle.refusals.proofs.Checks.{admitted}
-use Rattle.qto.specs.declared.Answer.{Answer}
-use Rattle.qto.specs.Compute.{answerAt}
+use Rattle.refusals.specs.Refusals.{Passes}
+use Rattle.qto.specs.declared.Takeoff.{Takeoff}
 use Rattle.qto.specs.Domain.{FiniteBound, FiniteRecord, FiniteRows, ComputesFinite, RowsFinite}
 use Rattle.qto.specs.Full.{square, cube, totals, volumeOf, surfaceOf, buckets, surfaceRows, measuresFrom, measures, verdict, best}
-use Rattle.qto.specs.Full.{recordFrom, recordBy, recordOf}
+use Rattle.qto.specs.Full.{recordFrom, recordBy, recordOf, takeoffOf}
 use Rattle.qto.proofs.FinitePrism.{prism-finite}
 use Rattle.qto.proofs.Measured.{unit-ends}
+use Rattle.qto.proofs.Outcomes.{of-record}
 
 -- ---- an area of n triangles with the unit's square
 area-finite : (n : ℕ) → n ≤ 32768 → (by : Float) → Within (2 ^ 8) by → (a : Float) → Times n a → T (finite (a ⊗ by))
@@ -217,13 +214,6 @@ unfolding ofBits
 zero-finite = search needs
 
 pub computes-finite : ComputesFinite
-unfolding answerAt
-computes-finite vs ids u w r s a w′ r′ s′ q c e = go (checkOf vs ids u (length w) (length r) (length s)) refl (sym (c .answers) ∙ e)
-  where
-    go : (k : Check) → k ≡ checkOf vs ids u (length w) (length r) (length s) → answerAt k (recordOf vs ids u) ≡ Answer.Record q
-        → FiniteRecord q
-    go (Check.Refuse n) k h = let no : _≡_ {A = ℕ} 0 1 = cc in absurd (omega arith)
-    go Check.Zero k h = let same : zeroRecord ≡ q = cc in rw (← same) zero-finite
-    go Check.Full k h =
-        let same : recordOf vs ids u ≡ q = cc in
-        rw (← same) (record-finite vs ids u (admitted vs ids u (length w) (length r) (length s) Check.Full refl k .mesh))
+unfolding takeoffOf
+computes-finite vs ids u w r s a w′ r′ s′ t c e =
+    of-record (λ (t : Takeoff). FiniteRecord (t .qto)) vs ids u w r s zero-finite (λ p. record-finite vs ids u p) c e

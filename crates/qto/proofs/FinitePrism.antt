@@ -3,7 +3,7 @@
 -- within 2^104, and with the unit's cube within 2^116. Assumes nothing.
 use mathlib.Core.Path.{_≡_, refl, sym, subst}
 use mathlib.Core.Logic.{_⊎_, inl, inr}
-use mathlib.Core.Bool.{Bool, true, false, _||_, _&&_, cond}
+use mathlib.Core.Bool.{Bool, true, false, _||_, cond}
 use mathlib.Core.List.{List}
 use Prim.Native.Nat.{ℕ, zero, suc, _+_, _-_, _*_, _/_, _%_, _^_, _≤_, _<_}
 use native.Mathlib.Nat.{le-of-lt, le-trans, lt-of-le-of-lt, mul-le-mul, mul-le-mul-left}
@@ -18,32 +18,23 @@ use Rattle.ieee.specs.Order.{least}
 use Rattle.ieee.specs.Single.{_⊗_, _⊘_, nought, number, extent}
 use Rattle.ieee.proofs.Numbers.Basic.{size-gt}
 use Rattle.ieee.proofs.Order.Extremes.{least-from}
-use Rattle.ids.specs.Uses.{bit}
 use Rattle.grid.specs.Grid.{cellsIn, gridOf}
 use Rattle.paint.specs.Covered.{covered}
-use Rattle.raster.specs.declared.Axis.{Axis}
 use Rattle.raster.specs.declared.Window.{Window}
-use Rattle.raster.specs.Footprint.{axisNumber, windowOf, count, coveredCells, areaOn, footprintOver, cellSize, footprint}
+use Rattle.raster.specs.declared.Footprint.{Footprint}
+use Rattle.raster.specs.Footprint.{axisNumber, coveredCells, areaOn, footprintOn, noFootprint, footprintOver, cellSize, footprint}
+use Rattle.raster.proofs.Counting.{count-most}
 use Rattle.sums.specs.declared.bounds.Bounds.{Bounds}
 use Rattle.sums.specs.Fine.{fine}
 use Rattle.sums.proofs.FineBoxes.{FineBox, extent-within}
 use Rattle.sums.proofs.Within.{Within, Value, multiple-value, power-value, within-div, within-most, within-mul, within-value}
-use Rattle.volume.specs.Best.{prismOn, orLess, orNone, prism, prismX, prismY, prismZ}
+use Rattle.volume.specs.Best.{acrossX, acrossY, acrossZ, taken, prismOn, orLess, orNone, prism, prismX, prismY, prismZ}
 
 none-within : (k : ℕ) → Within (2 ^ k) nought
 unfolding ofBits
 none-within k = record { finite-is = tt; small = omega arith }
 
 -- ---- a number of cells
-bit-le : (b : Bool) → bit b ≤ 1
-unfolding bit
-bit-le true = omega arith
-bit-le false = omega arith
-
-count-le : (f : ℕ → Bool) (n : ℕ) → count f n ≤ n
-unfolding count
-count-le f zero = omega arith
-count-le f (suc n) = omega (arith, count-le f n, bit-le (f n))
 
 -- n has the power 2 ^ j
 record Digits (n j : ℕ) : Type 0 where
@@ -113,14 +104,14 @@ module _ (vs : List Float) (ids : List ℕ) (u v : ℕ) where
       let m = cellsIn h size in
       let N = cells-some w size in
       let M = cells-some h size in
-      area-within (coveredCells vs u v g ids) n m w h (count-le (λ k. covered vs u v g ids (k % n) (k / n)) (n * m)) (N .0) (N .1)
+      area-within (coveredCells vs u v g ids) n m w h (count-most (λ k. covered vs u v g ids (k % n) (k / n)) (n * m)) (N .0) (N .1)
       (M .0) (M .1) W H
 
-  over-within : (x y w h size : Float) → Within (2 ^ 34) w → Within (2 ^ 34) h → Within (2 ^ 70) (footprintOver vs u v ids x y w h size)
-  unfolding footprintOver
+  over-within : (x y w h size : Float) → Within (2 ^ 34) w → Within (2 ^ 34) h → Within (2 ^ 70) (footprintOver vs u v ids x y w h size .area)
+  unfolding footprintOver footprintOn
   over-within x y w h size W H = go (le w nought || (le h nought || le size nought))
     where
-      go : (b : Bool) → Within (2 ^ 70) (cond b nought (areaOn vs u v ids (gridOf x y w h size)))
+      go : (b : Bool) → Within (2 ^ 70) (cond b noFootprint (footprintOn vs u v ids (gridOf x y w h size)) .area)
       go true = none-within 70
       go false = grid-within x y w h size W H
 
@@ -128,13 +119,13 @@ module _ (vs : List Float) (ids : List ℕ) (u v : ℕ) where
 on-within : (vs : List Float) (ids : List ℕ) (s : Window) (e : Float) → T (fine (s .xmin)) → T (fine (s .xmax)) → T (fine (s .ymin))
     → T (fine (s .ymax)) → Within (2 ^ 34) e → Within (2 ^ 104) (prismOn vs ids s e)
 unfolding prismOn footprint
-on-within vs ids s e p q r t w = go (lt nought e && (lt (s .xmin) (s .xmax) && lt (s .ymin) (s .ymax)))
+on-within vs ids s e p q r t w = go (taken s e)
   where
-    go : (b : Bool) → Within (2 ^ 104) (cond b (footprint vs ids s ⊗ e) nought)
+    go : (b : Bool) → Within (2 ^ 104) (cond b (footprint vs ids s .area ⊗ e) nought)
     go true =
         let l = extent (s .xmin) (s .xmax) in
         let h = extent (s .ymin) (s .ymax) in
-        within-mul binary32 70 34 (footprint vs ids s) e (lit≤ tt)
+        within-mul binary32 70 34 (footprint vs ids s .area) e (lit≤ tt)
         (over-within vs ids (axisNumber (s .u)) (axisNumber (s .v)) (s .xmin) (s .ymin) l h (cellSize l h)
         (extent-within (s .xmin) (s .xmax) p q) (extent-within (s .ymin) (s .ymax) r t))
         w
@@ -168,15 +159,9 @@ prism-finite vs ids b cube p w =
     let e = extent-within (b .xmin) (b .xmax) (p .xmin) (p .xmax) in
     let f = extent-within (b .ymin) (b .ymax) (p .ymin) (p .ymax) in
     let g = extent-within (b .zmin) (b .zmax) (p .zmin) (p .zmax) in
-    let x = on-within vs ids (windowOf Axis.Y Axis.Z (b .ymin) (b .ymax) (b .zmin) (b .zmax)) (extent (b .xmin) (b .xmax)) (p .ymin)
-    (p .ymax)
-    (p .zmin) (p .zmax) e in
-    let y = on-within vs ids (windowOf Axis.X Axis.Z (b .xmin) (b .xmax) (b .zmin) (b .zmax)) (extent (b .ymin) (b .ymax)) (p .xmin)
-    (p .xmax)
-    (p .zmin) (p .zmax) f in
-    let z = on-within vs ids (windowOf Axis.X Axis.Y (b .xmin) (b .xmax) (b .ymin) (b .ymax)) (extent (b .zmin) (b .zmax)) (p .xmin)
-    (p .xmax)
-    (p .ymin) (p .ymax) g in
+    let x = on-within vs ids (acrossX b) (extent (b .xmin) (b .xmax)) (p .ymin) (p .ymax) (p .zmin) (p .zmax) e in
+    let y = on-within vs ids (acrossY b) (extent (b .ymin) (b .ymax)) (p .xmin) (p .xmax) (p .zmin) (p .zmax) f in
+    let z = on-within vs ids (acrossZ b) (extent (b .zmin) (b .zmax)) (p .xmin) (p .xmax) (p .ymin) (p .ymax) g in
     let one = orLess (inf false) (prismX vs ids b) in
     let two = orLess one (prismY vs ids b) in
     none-finite (orLess two (prismZ vs ids b)) cube

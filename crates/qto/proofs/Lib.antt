@@ -1,7 +1,8 @@
--- The record by its parts, what comes back, and that all its numbers are finite and its counts add up.
+-- The record by its parts, what comes back, and that all its numbers are finite, its counts add up and its pairs fit.
 pub mod Outcomes
 pub mod RowsAre
 pub mod Counts
+pub mod Pairs
 mod FinitePrism
 pub mod Finite
 pub mod Starred

@@ -5,19 +5,24 @@ use mathlib.Core.List.{List}
 use lib.ListN.{length}
 use lib.Ieee.{Float}
 use Rattle.ids.specs.Lent.{cleared}
-use Rattle.record.specs.declared.MeshQto.{MeshQto}
 use Rattle.record.specs.Record.{zeroRecord}
 use Rattle.refusals.specs.declared.Check.{Check}
 use Rattle.refusals.specs.Refusals.{checkOf}
 use Rattle.vertices.specs.Areas.{workWords, rasterBytes}
+use Rattle.volume.specs.Best.{noPairs}
 use Rattle.qto.specs.declared.Answer.{Answer}
-use Rattle.qto.specs.Full.{recordOf, surfacesAfter}
+use Rattle.qto.specs.declared.Takeoff.{Takeoff}
+use Rattle.qto.specs.Full.{takeoffOf, surfacesAfter}
+
+-- the zero record, and no pairs
+abbrev pub zeroTakeoff : Takeoff
+zeroTakeoff = record { qto = zeroRecord; pairs = noPairs }
 
 -- a refusal returns its number only
-unfoldable pub answerAt : Check → MeshQto → Answer
-answerAt (Check.Refuse n) q = Answer.Refused n
-answerAt Check.Zero q = Answer.Record zeroRecord
-answerAt Check.Full q = Answer.Record q
+unfoldable pub answerAt : Check → Takeoff → Answer
+answerAt (Check.Refuse n) t = Answer.Refused n
+answerAt Check.Zero t = Answer.Record zeroTakeoff
+answerAt Check.Full t = Answer.Record t
 
 -- refusals and the zero record leave a lent area untouched
 unfoldable pub areaAt : {A : Type 0} → Check → List A → List A → List A
@@ -29,7 +34,7 @@ areaAt Check.Full after area = after
 -- r′ and s′.
 pub record Computes (vs : List Float) (ids : List ℕ) (u : Float) (w r : List ℕ) (s : List Float) (a : Answer) (w′ r′ : List ℕ)
     (s′ : List Float) : Type 0 where
-  pub answers : a ≡ answerAt (checkOf vs ids u (length w) (length r) (length s)) (recordOf vs ids u)
+  pub answers : a ≡ answerAt (checkOf vs ids u (length w) (length r) (length s)) (takeoffOf vs ids u)
   pub work : w′ ≡ areaAt (checkOf vs ids u (length w) (length r) (length s)) (cleared (workWords (length vs) (length ids)) w) w
   pub raster : r′ ≡ areaAt (checkOf vs ids u (length w) (length r) (length s)) (cleared rasterBytes r) r
   pub surfaces : s′ ≡ areaAt (checkOf vs ids u (length w) (length r) (length s)) (surfacesAfter vs ids u s) s

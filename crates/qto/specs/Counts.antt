@@ -5,15 +5,15 @@ use mathlib.Core.List.{List}
 use lib.ListN.{length}
 use lib.Ieee.{Float}
 use Rattle.ids.specs.Triangles.{triangleCount}
-use Rattle.record.specs.declared.MeshQto.{MeshQto}
 use Rattle.refusals.specs.declared.Check.{Check}
 use Rattle.refusals.specs.Refusals.{checkOf}
 use Rattle.qto.specs.declared.Answer.{Answer}
+use Rattle.qto.specs.declared.Takeoff.{Takeoff}
 use Rattle.qto.specs.Compute.{Computes}
 
 abbrev pub FullCounts : Type 0
 FullCounts =
     (vs : List Float) (ids : List ℕ) (u : Float) (w r : List ℕ) (s : List Float) (a : Answer) (w′ r′ : List ℕ) (s′ : List Float)
-    (q : MeshQto)
-    → Computes vs ids u w r s a w′ r′ s′ → a ≡ Answer.Record q → checkOf vs ids u (length w) (length r) (length s) ≡ Check.Full
-    → q .«triangles_used» + q .«triangles_out_of_range» + q .«triangles_sliver» ≡ triangleCount ids
+    (t : Takeoff)
+    → Computes vs ids u w r s a w′ r′ s′ → a ≡ Answer.Record t → checkOf vs ids u (length w) (length r) (length s) ≡ Check.Full
+    → t .qto .«triangles_used» + t .qto .«triangles_out_of_range» + t .qto .«triangles_sliver» ≡ triangleCount ids

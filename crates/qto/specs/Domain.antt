@@ -10,6 +10,7 @@ use Rattle.volume.specs.declared.PrismBound.{PrismBound}
 use Rattle.record.specs.declared.MeshQto.{MeshQto}
 use Rattle.refusals.specs.Refusals.{Passes}
 use Rattle.qto.specs.declared.Answer.{Answer}
+use Rattle.qto.specs.declared.Takeoff.{Takeoff}
 use Rattle.qto.specs.Full.{surfaceRows}
 use Rattle.qto.specs.Compute.{Computes}
 
@@ -41,8 +42,8 @@ FiniteRows (r ∷ rs) = T (finite (r .area)) × FiniteRows rs
 abbrev pub ComputesFinite : Type 0
 ComputesFinite =
     (vs : List Float) (ids : List ℕ) (u : Float) (w r : List ℕ) (s : List Float) (a : Answer) (w′ r′ : List ℕ) (s′ : List Float)
-    (q : MeshQto)
-    → Computes vs ids u w r s a w′ r′ s′ → a ≡ Answer.Record q → FiniteRecord q
+    (t : Takeoff)
+    → Computes vs ids u w r s a w′ r′ s′ → a ≡ Answer.Record t → FiniteRecord (t .qto)
 
 abbrev pub RowsFinite : Type 0
 RowsFinite = (vs : List Float) (ids : List ℕ) (u : Float) → Passes vs ids u → FiniteRows (surfaceRows vs ids u)

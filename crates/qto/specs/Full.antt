@@ -1,4 +1,5 @@
--- Rules of the record (01): the record of a mesh that passes the checks, each float step rounded once, as 000 writes it.
+-- Rules of the record (01): the record of a mesh that passes the checks, each float step rounded once, as 000 writes it; and the pairs beside
+-- it (02, A3).
 use Prim.Native.Nat.{ℕ, _*_}
 use mathlib.Core.List.{List, _++_}
 use lib.ListN.{length, drop}
@@ -21,10 +22,11 @@ use Rattle.weld.specs.Weld.{epsilonOf}
 use Rattle.verdict.specs.declared.Quality.{Quality}
 use Rattle.verdict.specs.Verdict.{quality}
 use Rattle.volume.specs.declared.Best.{Best}
-use Rattle.volume.specs.Best.{prism, bestOf}
+use Rattle.volume.specs.Best.{prism, bestOf, prismPairs, pairsOf}
 use Rattle.record.specs.declared.MeshQto.{MeshQto}
 use Rattle.record.specs.declared.Profile.{Profile}
 use Rattle.qto.specs.declared.Measures.{Measures}
+use Rattle.qto.specs.declared.Takeoff.{Takeoff}
 
 -- u² and u³ in f32
 abbrev pub square : Float → Float
@@ -117,3 +119,9 @@ recordBy vs ids u m q = recordFrom m (boxVolume (box vs) (cube u)) q (best vs id
 
 unfoldable pub recordOf : List Float → List ℕ → Float → MeshQto
 recordOf vs ids u = recordBy vs ids u (measures vs ids u) (verdict vs ids u (measures vs ids u .volume))
+
+-- ---- and beside it, by its verdict, the pairs
+
+unfoldable pub takeoffOf : List Float → List ℕ → Float → Takeoff
+takeoffOf vs ids u =
+    record { qto = recordOf vs ids u; pairs = pairsOf (recordOf vs ids u .«mesh_quality») (prismPairs vs ids (box vs)) }

@@ -1,4 +1,4 @@
--- The record as the C interface has it: 20 words, and refusals as numbers. Flag values that are none are refusal 5, tried first.
+-- The record as the C interface has it, the pairs behind it: 26 words, and refusals as numbers. Flag values that are none are refusal 5, tried first.
 use mathlib.Core.Path.{_≡_}
 use Prim.Native.Nat.{ℕ, _+_}
 use mathlib.Core.Bool.{not, cond}
@@ -8,19 +8,19 @@ use lib.ListN.{length}
 use lib.Ieee.{Float, binary32, toBits}
 use Rattle.ids.specs.Lent.{cleared}
 use Rattle.ids.specs.Uses.{bit}
-use Rattle.record.specs.declared.MeshQto.{MeshQto}
-use Rattle.record.specs.Record.{zeroRecord}
 use Rattle.record.specs.Flags.{flagged}
 use Rattle.record.specs.Numbers.{qualityNumber, methodNumber, profileNumber, profileAt, prismNumber, prismBits, flagsFit}
 use Rattle.refusals.specs.declared.Check.{Check}
 use Rattle.refusals.specs.Refusals.{checkOf}
 use Rattle.vertices.specs.Areas.{workWords, rasterBytes}
-use Rattle.qto.specs.Full.{recordOf, surfacesAfter}
-use Rattle.qto.specs.Compute.{areaAt}
+use Rattle.qto.specs.declared.Takeoff.{Takeoff}
+use Rattle.qto.specs.Full.{takeoffOf, surfacesAfter}
+use Rattle.qto.specs.Compute.{zeroTakeoff, areaAt}
 
--- the 20 words
-unfoldable pub wordsOf : MeshQto → List ℕ
-wordsOf q =
+-- the 26 words
+unfoldable pub wordsOf : Takeoff → List ℕ
+wordsOf t =
+    let q = t .qto in
     qualityNumber (q .«mesh_quality»)
     ∷ bit (q .«volume_reliable»)
     ∷ methodNumber (q .«volume_method»)
@@ -41,10 +41,17 @@ wordsOf q =
     ∷ q .«triangles_used»
     ∷ q .«triangles_out_of_range»
     ∷ q .«triangles_sliver»
+    ∷ t .pairs .z .covered
+    ∷ t .pairs .z .rim
+    ∷ t .pairs .y .covered
+    ∷ t .pairs .y .rim
+    ∷ t .pairs .x .covered
+    ∷ t .pairs .x .rim
     ∷ []
 
-abbrev pub withFlags : ℕ → ℕ → MeshQto → MeshQto
-withFlags clip defect q = flagged (eqb clip 1) (profileAt defect) q
+-- flags are the record's; the pairs stay
+abbrev pub withFlags : ℕ → ℕ → Takeoff → Takeoff
+withFlags clip defect t = record { qto = flagged (eqb clip 1) (profileAt defect) (t .qto); pairs = t .pairs }
 
 -- the number that comes back, and the record's words afterwards
 unfoldable pub numberAt : Check → ℕ
@@ -52,10 +59,10 @@ numberAt (Check.Refuse n) = 0x8000_0000 + n
 numberAt Check.Zero = 0
 numberAt Check.Full = 0
 
-unfoldable pub wordsAt : Check → ℕ → ℕ → MeshQto → List ℕ → List ℕ
-wordsAt (Check.Refuse n) clip defect q words = words
-wordsAt Check.Zero clip defect q words = wordsOf (withFlags clip defect zeroRecord)
-wordsAt Check.Full clip defect q words = wordsOf (withFlags clip defect q)
+unfoldable pub wordsAt : Check → ℕ → ℕ → Takeoff → List ℕ → List ℕ
+wordsAt (Check.Refuse n) clip defect t words = words
+wordsAt Check.Zero clip defect t words = wordsOf (withFlags clip defect zeroTakeoff)
+wordsAt Check.Full clip defect t words = wordsOf (withFlags clip defect t)
 
 unfoldable pub checkFlags : ℕ → ℕ → Check → Check
 checkFlags clip defect c = cond (not (flagsFit clip defect)) (Check.Refuse 5) c
@@ -67,7 +74,7 @@ checkAll vs ids u clip defect w r s = checkFlags clip defect (checkOf vs ids u (
 pub record ComputesNumbered (vs : List Float) (ids : List ℕ) (u : Float) (clip defect : ℕ) (w r : List ℕ) (s : List Float)
     (words : List ℕ) (n : ℕ) (w′ r′ : List ℕ) (s′ : List Float) (words′ : List ℕ) : Type 0 where
   pub number : n ≡ numberAt (checkAll vs ids u clip defect w r s)
-  pub record-words : words′ ≡ wordsAt (checkAll vs ids u clip defect w r s) clip defect (recordOf vs ids u) words
+  pub record-words : words′ ≡ wordsAt (checkAll vs ids u clip defect w r s) clip defect (takeoffOf vs ids u) words
   pub work : w′ ≡ areaAt (checkAll vs ids u clip defect w r s) (cleared (workWords (length vs) (length ids)) w) w
   pub raster : r′ ≡ areaAt (checkAll vs ids u clip defect w r s) (cleared rasterBytes r) r
   pub surfaces : s′ ≡ areaAt (checkAll vs ids u clip defect w r s) (surfacesAfter vs ids u s) s

@@ -1,8 +1,9 @@
-// `compute`: the takeoff of one mesh. It answers or refuses by document 01's table; the record comes by value, its surface rows
-// in the lent surface area.
+// `compute`: the takeoff of one mesh. It answers or refuses by document 01's table; the record comes by value, and beside it the pairs of
+// its footprints; its surface rows in the lent surface area.
+ghost use mathlib.Core.Path.{_≡_};
 ghost use lib.ListN.{length};
 ghost use Rattle.refusals.specs.inner.Admitted.{Admitted};
-ghost use Rattle.qto.specs.Compute.{Computes};
+ghost use Rattle.qto.specs.Compute.{Computes, zeroTakeoff};
 ghost use Rattle.qto.specs.inner.Steps.{Arrangeable, Arranged, Measurable, Measured};
 ghost use Rattle.qto.specs.inner.Steps.{Recordable, RecordedBy, Recorded};
 use record::MeshQto;
@@ -14,6 +15,7 @@ use refusals::Check;
 use sums::Areas;
 use sums::Bounds;
 use verdict::Sizes;
+use volume::Pairs;
 use walk::TriangleCounts;
 
 // ---- what is measured
@@ -86,7 +88,13 @@ fn measure(
 
 // ---- the record
 
-// The record of a mesh, by its measures. Work words and raster are zero afterwards.
+// The record of a mesh, and beside it the pairs of the z, y and x footprints.
+pub struct Takeoff {
+    pub qto: MeshQto,
+    pub pairs: Pairs,
+}
+
+// The record of a mesh and its pairs, by its measures. Work words and raster are zero afterwards.
 fn record_by(
     vertices: &[f32],
     indices: &[u32],
@@ -95,7 +103,7 @@ fn record_by(
     m: Measures,
     work: &mut [u32],
     raster: &mut [u8],
-) -> MeshQto
+) -> Takeoff
     requires { ⌜ Recordable (now vertices) (now indices) b m (now work) (now raster) ⌝ }
     ensures { λ r. ⌜ RecordedBy (now (vertices .entry)) (now (indices .entry)) «unit_scale» m r (now (work .exit)) (now (raster .exit)) ⌝ }
 {
@@ -108,10 +116,12 @@ fn record_by(
         aabb,
     };
     let q = verdict::classify_mesh_quality(vertices, indices, eps, s, work);
-    let best = volume::best_volume(q, s, vertices, indices, b, cube, raster);
+    let carried = volume::best_volume(q, s, vertices, indices, b, cube, raster);
+    let pairs = carried.pairs;
+    let best = carried.best;
     let method = best.method;
     let prism = best.prism;
-    MeshQto {
+    let qto = MeshQto {
         volume_m3: m.volume,
         aabb_volume_m3: aabb,
         surface_area_m2: m.surface,
@@ -131,7 +141,8 @@ fn record_by(
         triangles_used: m.triangles.used,
         triangles_out_of_range: m.triangles.out_of_range,
         triangles_sliver: m.triangles.sliver,
-    }
+    };
+    Takeoff { qto, pairs }
 }
 
 // The full record: parts of the lent areas from their front. The rows' index stands where the edge part will stand.
@@ -142,7 +153,7 @@ fn full(
     work: &mut [u32],
     raster: &mut [u8],
     surfaces: &mut [f32],
-) -> MeshQto
+) -> Takeoff
     requires { ⌜ Admitted (now vertices) (now indices) «unit_scale» (length (now work)) (length (now raster)) (length (now surfaces)) ⌝ }
     ensures { λ r. ⌜ Recorded (now (vertices .entry)) (now (indices .entry)) «unit_scale»
         (now (work .entry)) (now (raster .entry)) (now (surfaces .entry))
@@ -164,8 +175,18 @@ fn full(
     )
 }
 
+// The zero record, and no pairs.
+fn zero_takeoff() -> Takeoff
+    ensures { λ r. ⌜ r ≡ zeroTakeoff ⌝ }
+{
+    Takeoff {
+        qto: record::zero_record(),
+        pairs: volume::no_pairs(),
+    }
+}
+
 pub enum Answer {
-    Record(MeshQto),
+    Record(Takeoff),
     Refused(u8),
 }
 
@@ -192,7 +213,7 @@ pub fn compute(
     );
     match c {
         Check::Refuse(n) => Answer::Refused(n),
-        Check::Zero => Answer::Record(record::zero_record()),
+        Check::Zero => Answer::Record(zero_takeoff()),
         Check::Full => {
             Answer::Record(full(vertices, indices, unit_scale, work, raster, surfaces))
         }

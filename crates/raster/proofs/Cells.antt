@@ -24,7 +24,7 @@ unfolding cellsOn coveredCells rimCells rim
 on-grid vs u v ids g few =
     record { rim-most = count-and _ _ (g .nx * g .ny); covered-most = le-trans (count-most _ (g .nx * g .ny)) few }
 
-none-fits : PairFits noCells
+pub none-fits : PairFits noCells
 none-fits = record { rim-most = omega arith; covered-most = omega arith }
 
 either-fits : (b : Bool) (f : Footprint) → PairFits (f .cells) → PairFits (cond b noFootprint f .cells)

@@ -33,7 +33,7 @@ returns-2 c =
     let k = c .before .before .before in
     let a = start k .args in
     zero (a .vertices .now) (a .indices .now) (a .unit-scale) (a .work .now) (a .raster .now) (a .surfaces .now) (k .checked .result)
-    (k .checked .ensures) _ (c .before .enum-told .given .1) (c .zero-record .ensures)
+    (k .checked .ensures) _ (c .before .enum-told .given .1) (c .zero-takeoff .ensures)
 
 returns-3 : tie.Need-returns-3
 returns-3 c =

@@ -12,11 +12,12 @@ use Rattle.sums.specs.declared.bounds.Bounds.{Bounds}
 use Rattle.sums.specs.Box.{box}
 use Rattle.rows.specs.Rows.{flatten, rowsOf, scaled, sorted, largest, smallest}
 use Rattle.rows.specs.Plain.{allPlain}
-use Rattle.record.specs.declared.MeshQto.{MeshQto}
+use Rattle.volume.specs.Best.{prismPairs, pairsOf}
 use Rattle.refusals.specs.Refusals.{Passes}
 use Rattle.qto.specs.declared.Extremes.{Extremes}
 use Rattle.qto.specs.declared.Measures.{Measures}
-use Rattle.qto.specs.Full.{surfacesAfter, measures, verdict, recordBy, recordOf}
+use Rattle.qto.specs.declared.Takeoff.{Takeoff}
+use Rattle.qto.specs.Full.{surfacesAfter, measures, verdict, recordBy, takeoffOf}
 
 -- ---- `arrange`: n rows in 4n floats, and their areas times `by`
 
@@ -53,16 +54,17 @@ pub record Recordable (vs : List Float) (ids : List ℕ) (b : Bounds) (m : Measu
   pub words : length w ≡ workWords (length vs) (length ids)
   pub bytes : length r ≡ rasterBytes
 
-pub record RecordedBy (vs : List Float) (ids : List ℕ) (u : Float) (m : Measures) (q : MeshQto) (w′ r′ : List ℕ) : Type 0 where
-  pub is : q ≡ recordBy vs ids u m (verdict vs ids u (m .volume))
+pub record RecordedBy (vs : List Float) (ids : List ℕ) (u : Float) (m : Measures) (t : Takeoff) (w′ r′ : List ℕ) : Type 0 where
+  pub is : t .qto ≡ recordBy vs ids u m (verdict vs ids u (m .volume))
+  pub pairs-are : t .pairs ≡ pairsOf (verdict vs ids u (m .volume)) (prismPairs vs ids (box vs))
   pub work : w′ ≡ replicate (workWords (length vs) (length ids)) 0
   pub raster : r′ ≡ replicate rasterBytes 0
 
 -- ---- `full`: in areas that may be longer, as the table admits them
 
-pub record Recorded (vs : List Float) (ids : List ℕ) (u : Float) (w r : List ℕ) (s : List Float) (q : MeshQto) (w′ r′ : List ℕ)
+pub record Recorded (vs : List Float) (ids : List ℕ) (u : Float) (w r : List ℕ) (s : List Float) (t : Takeoff) (w′ r′ : List ℕ)
     (s′ : List Float) : Type 0 where
-  pub is : q ≡ recordOf vs ids u
+  pub is : t ≡ takeoffOf vs ids u
   pub work : w′ ≡ cleared (workWords (length vs) (length ids)) w
   pub raster : r′ ≡ cleared rasterBytes r
   pub surfaces : s′ ≡ surfacesAfter vs ids u s

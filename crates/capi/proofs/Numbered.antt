@@ -16,32 +16,33 @@ use Rattle.refusals.specs.declared.Check.{Check}
 use Rattle.refusals.specs.Refusals.{checkOf}
 use Rattle.vertices.specs.Areas.{workWords, rasterBytes}
 use Rattle.qto.specs.declared.Answer.{Answer}
-use Rattle.qto.specs.Full.{recordOf, surfacesAfter}
+use Rattle.qto.specs.declared.Takeoff.{Takeoff}
+use Rattle.qto.specs.Full.{takeoffOf, surfacesAfter}
 use Rattle.qto.specs.Compute.{answerAt, areaAt, Computes}
 use Rattle.qto.specs.Numbers.{wordsOf, withFlags, numberAt, wordsAt, checkFlags, ComputesNumbered, ComputeNumberedOne}
 
 -- ---- an answer as a number and as words
 
 answerNumber : Answer → ℕ
-answerNumber (Answer.Record q) = 0
+answerNumber (Answer.Record t) = 0
 answerNumber (Answer.Refused n) = 0x8000_0000 + n
 
 answerWords : ℕ → ℕ → List ℕ → Answer → List ℕ
-answerWords clip defect words (Answer.Record q) = wordsOf (withFlags clip defect q)
+answerWords clip defect words (Answer.Record t) = wordsOf (withFlags clip defect t)
 answerWords clip defect words (Answer.Refused n) = words
 
-number-of-answer : (c : Check) (q : MeshQto) → answerNumber (answerAt c q) ≡ numberAt c
+number-of-answer : (c : Check) (t : Takeoff) → answerNumber (answerAt c t) ≡ numberAt c
 unfolding answerAt numberAt answerNumber
-number-of-answer (Check.Refuse n) q = refl
-number-of-answer Check.Zero q = refl
-number-of-answer Check.Full q = refl
+number-of-answer (Check.Refuse n) t = refl
+number-of-answer Check.Zero t = refl
+number-of-answer Check.Full t = refl
 
-words-of-answer : (c : Check) (clip defect : ℕ) (q : MeshQto) (words : List ℕ)
-    → answerWords clip defect words (answerAt c q) ≡ wordsAt c clip defect q words
+words-of-answer : (c : Check) (clip defect : ℕ) (t : Takeoff) (words : List ℕ)
+    → answerWords clip defect words (answerAt c t) ≡ wordsAt c clip defect t words
 unfolding answerAt wordsAt answerWords
-words-of-answer (Check.Refuse n) clip defect q words = refl
-words-of-answer Check.Zero clip defect q words = refl
-words-of-answer Check.Full clip defect q words = refl
+words-of-answer (Check.Refuse n) clip defect t words = refl
+words-of-answer Check.Zero clip defect t words = refl
+words-of-answer Check.Full clip defect t words = refl
 
 -- ---- the contract of mf_compute
 
@@ -56,14 +57,14 @@ module _ (vs : List Float) (ids : List ℕ) (u : Float) (clip defect : ℕ) (w r
 
   -- by what the flags and the table of refusals say
   by-check : (c : Check) (n : ℕ) (w′ r′ : List ℕ) (s′ : List Float) (words′ : List ℕ) → c ≡ checkFlags clip defect said
-      → n ≡ numberAt c → words′ ≡ wordsAt c clip defect (recordOf vs ids u) words
+      → n ≡ numberAt c → words′ ≡ wordsAt c clip defect (takeoffOf vs ids u) words
       → w′ ≡ areaAt c (cleared (workWords (length vs) (length ids)) w) w → r′ ≡ areaAt c (cleared rasterBytes r) r
       → s′ ≡ areaAt c (surfacesAfter vs ids u s) s
       → ComputesNumbered vs ids u clip defect w r s words n w′ r′ s′ words′
   by-check c n w′ r′ s′ words′ e hn hwords hw hr hs =
       record {
         number = hn ∙ ap numberAt e;
-        record-words = hwords ∙ ap (λ (d : Check). wordsAt d clip defect (recordOf vs ids u) words) e;
+        record-words = hwords ∙ ap (λ (d : Check). wordsAt d clip defect (takeoffOf vs ids u) words) e;
         work = hw ∙ ap (λ (d : Check). areaAt d (cleared (workWords (length vs) (length ids)) w) w) e;
         raster = hr ∙ ap (λ (d : Check). areaAt d (cleared rasterBytes r) r) e;
         surfaces = hs ∙ ap (λ (d : Check). areaAt d (surfacesAfter vs ids u s) s) e;
@@ -82,17 +83,19 @@ module _ (vs : List Float) (ids : List ℕ) (u : Float) (clip defect : ℕ) (w r
         → ComputesNumbered vs ids u clip defect w r s words n w′ r′ s′ words′
     numbered n words′ hn hwords =
         by-check said n w′ r′ s′ words′ (fit false t e h)
-        (hn ∙ ap answerNumber (made .answers) ∙ number-of-answer said (recordOf vs ids u))
-        (hwords ∙ ap (answerWords clip defect words) (made .answers) ∙ words-of-answer said clip defect (recordOf vs ids u) words)
+        (hn ∙ ap answerNumber (made .answers) ∙ number-of-answer said (takeoffOf vs ids u))
+        (hwords ∙ ap (answerWords clip defect words) (made .answers) ∙ words-of-answer said clip defect (takeoffOf vs ids u) words)
         (made .work) (made .raster) (made .surfaces)
 
     -- a record fills the words
-    pub filled : (q f : MeshQto) (p : Profile) (words′ : List ℕ) → a ≡ Answer.Record q → p ≡ profileAt defect
-        → f ≡ flagged (eqb clip 1) p q → words′ ≡ wordsOf f → ComputesNumbered vs ids u clip defect w r s words 0 w′ r′ s′ words′
+    pub filled : (t : Takeoff) (q : MeshQto) (p : Profile) (words′ : List ℕ) → a ≡ Answer.Record t → p ≡ profileAt defect
+        → q ≡ flagged (eqb clip 1) p (t .qto) → words′ ≡ wordsOf (record { qto = q; pairs = t .pairs })
+        → ComputesNumbered vs ids u clip defect w r s words 0 w′ r′ s′ words′
     unfolding answerNumber answerWords
-    filled q f p words′ ha hp hf hwords =
+    filled t q p words′ ha hp hq hwords =
+        let flags = hq ∙ ap (λ (p′ : Profile). flagged (eqb clip 1) p′ (t .qto)) hp in
         numbered 0 words′ (sym (ap answerNumber ha))
-        (hwords ∙ ap wordsOf (hf ∙ ap (λ (p′ : Profile). flagged (eqb clip 1) p′ q) hp) ∙ sym (ap (answerWords clip defect words) ha))
+        (hwords ∙ ap (λ (q′ : MeshQto). wordsOf (record { qto = q′; pairs = t .pairs })) flags ∙ sym (ap (answerWords clip defect words) ha))
 
     -- a refusal leaves them
     pub refused : (n : ℕ) → a ≡ Answer.Refused n → ComputesNumbered vs ids u clip defect w r s words (0x8000_0000 + n) w′ r′ s′ words

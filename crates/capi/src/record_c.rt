@@ -1,10 +1,10 @@
-// The record under the name of the C interface: `compute` with its flags, and the answer as a number and 20 words.
+// The record under the name of the C interface: `compute` with its flags, and the answer as a number and 26 words.
 ghost use mathlib.Core.Path.{_≡_};
 ghost use Rattle.record.specs.Numbers.{prismNumber, prismBits};
 ghost use Rattle.qto.specs.Numbers.{wordsOf, ComputesNumbered};
 use crate::ids_c::REFUSED;
 use qto::Answer;
-use record::MeshQto;
+use qto::Takeoff;
 use volume::PrismBound;
 
 // ---- the prism bound as numbers
@@ -31,9 +31,11 @@ fn prism_bits(prism: PrismBound) -> u32
 
 // ---- the record as words
 
-fn record_words(q: MeshQto) -> [u32; 20]
-    ensures { λ r. ⌜ r ≡ wordsOf q ⌝ }
+fn record_words(t: Takeoff) -> [u32; 26]
+    ensures { λ r. ⌜ r ≡ wordsOf t ⌝ }
 {
+    let q = t.qto;
+    let pairs = t.pairs;
     let quality = q.mesh_quality;
     let method = q.volume_method;
     let profile = q.profile_invalid;
@@ -59,6 +61,12 @@ fn record_words(q: MeshQto) -> [u32; 20]
         q.triangles_used,
         q.triangles_out_of_range,
         q.triangles_sliver,
+        pairs.z.covered,
+        pairs.z.rim,
+        pairs.y.covered,
+        pairs.y.rim,
+        pairs.x.covered,
+        pairs.x.rim,
     ]
 }
 
@@ -73,7 +81,7 @@ pub extern "C" fn mf_compute(
     work: &mut [u32],
     raster: &mut [u8],
     surfaces: &mut [f32],
-    record: &mut [u32; 20],
+    record: &mut [u32; 26],
 ) -> u32
     ensures { λ n. ⌜ ComputesNumbered (now (vertices .entry)) (now (ids .entry)) unit clip defect
         (now (work .entry)) (now (raster .entry)) (now (surfaces .entry)) (now («record» .entry))
@@ -84,9 +92,10 @@ pub extern "C" fn mf_compute(
     }
     let answer = qto::compute(vertices, ids, unit, work, raster, surfaces);
     match answer {
-        Answer::Record(q) => {
-            let flagged = qto::apply_product_flags(q, clip == 1, record::profile_of(defect));
-            *record = record_words(flagged);
+        Answer::Record(t) => {
+            let pairs = t.pairs;
+            let qto = qto::apply_product_flags(t.qto, clip == 1, record::profile_of(defect));
+            *record = record_words(Takeoff { qto, pairs });
             0
         }
         Answer::Refused(n) => REFUSED + n as u32,

@@ -13,6 +13,7 @@ use lib.ListN.{length, getD, replicate, length-replicate, getD-replicate}
 use Rattle.ieee.specs.Order.{greatest}
 use Rattle.ieee.specs.Single.{_⊖_, _⊗_, _⊘_, nought, number, extent}
 use Rattle.ids.specs.Uses.{bit}
+use Rattle.ids.proofs.Bits.{byte-bit, byte-small}
 use Rattle.grid.specs.declared.Grid.{Grid}
 use Rattle.grid.specs.Grid.{gridOf}
 use Rattle.grid.specs.inner.Sized.{GridSized}
@@ -28,25 +29,15 @@ use Rattle.raster.specs.inner.Counts.{Counts}
 
 -- ---- counting
 
-byte-bit : (b : Bool) → boolByte b ≡ bit b
-unfolding bit
-byte-bit true = refl
-byte-bit false = refl
-
 -- one number more, c being the count so far
 pub count-next : (f : ℕ → Bool) (n c : ℕ) → c ≡ count f n → c + boolByte (f n) ≡ count f (n + 1)
 unfolding count
 count-next f n c e = rw (add-one n, byte-bit (f n), e)
 
-bit-most : (b : Bool) → bit b ≤ 1
-unfolding bit
-bit-most true = omega arith
-bit-most false = omega arith
-
 pub count-most : (f : ℕ → Bool) (n : ℕ) → count f n ≤ n
 unfolding count
 count-most f zero = omega arith
-count-most f (suc n) = omega (arith, count-most f n, bit-most (f n))
+count-most f (suc n) = omega (arith, count-most f n, byte-bit (f n), byte-small (f n))
 
 count-same : (f h : ℕ → Bool) (n : ℕ) → ((k : ℕ) → k < n → f k ≡ h k) → count f n ≡ count h n
 unfolding count
@@ -55,7 +46,7 @@ count-same f h (suc n) e = rw (count-same f h n (λ k l. e k (omega arith)), e n
 
 bit-and : (a b : Bool) → bit (a && b) ≤ bit a
 unfolding bit
-bit-and true b = bit-most b
+bit-and true b = omega (arith, byte-bit b, byte-small b)
 bit-and false b = omega arith
 
 -- of what f and something else hold, no more than of what f holds

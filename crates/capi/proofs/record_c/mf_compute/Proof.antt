@@ -9,7 +9,7 @@ returns c = search flags-refused
 
 returns-2 : tie.Need-returns-2
 returns-2 c =
-    let answer = c .before .before .before .before in
+    let answer = c .before .before .before .before .before in
     let back = answer .before .before in
     let computed = back .before .before .before .before .before .before in
     let fit = computed .before .before .before .before in

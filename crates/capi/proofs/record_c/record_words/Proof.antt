@@ -12,9 +12,10 @@ returns c =
     let side = c .before .before .before .before .before .before in
     let profile = side .before .before .before .before .before .before in
     let quality = profile .before .before .before in
+    let t = quality .before .before .before .args .t in
     λ i.
     quality .quality-number .ensures i
-    ∷ byte-bit (quality .before .args .q .«volume_reliable») i
+    ∷ byte-bit (t .qto .«volume_reliable») i
     ∷ profile .before .method-number .ensures i
     ∷ profile .profile-number .ensures i
     ∷ side .before .before .before .before .before .bits32 .ensures i
@@ -29,10 +30,16 @@ returns c =
     ∷ c .before .before .bits3210 .ensures i
     ∷ c .before .prism-number .ensures i
     ∷ c .prism-bits .ensures i
-    ∷ quality .before .args .q .«surface_count»
-    ∷ quality .before .args .q .«triangles_used»
-    ∷ quality .before .args .q .«triangles_out_of_range»
-    ∷ quality .before .args .q .«triangles_sliver»
+    ∷ t .qto .«surface_count»
+    ∷ t .qto .«triangles_used»
+    ∷ t .qto .«triangles_out_of_range»
+    ∷ t .qto .«triangles_sliver»
+    ∷ t .pairs .z .covered
+    ∷ t .pairs .z .rim
+    ∷ t .pairs .y .covered
+    ∷ t .pairs .y .rim
+    ∷ t .pairs .x .covered
+    ∷ t .pairs .x .rim
     ∷ []
 
 pub record-words-spec : {M : Type 1} → statement M

@@ -11,7 +11,7 @@ use Rattle.rows.specs.Rows.{rowsOf, sorted}
 use Rattle.rows.specs.Opposite.{oppositeRows, areasOf}
 use Rattle.record.specs.Record.{zeroRecord}
 use Rattle.refusals.specs.Refusals.{checkOf, Passes}
-use Rattle.qto.specs.Full.{measures, measuresFrom, recordBy, recordFrom, recordOf, surfacesAfter}
+use Rattle.qto.specs.Full.{measures, measuresFrom, recordBy, recordFrom, recordOf, takeoffOf, surfacesAfter}
 use Rattle.road.specs.Agree.{AgreeBy}
 use Rattle.road.proofs.Outcomes.{Alike, outcomes-agree}
 use Rattle.glove.specs.Turned.{sided, TurnedRecords, TurnedRows, TurnedArea}
@@ -40,7 +40,7 @@ unfolding recordOf recordBy recordFrom measures measuresFrom
 rows-after vs ids u s p = area-turned vs ids u p s
 
 alike : (vs : List Float) (ids : List ℕ) (u : Float) (s : List Float) → Alike TurnedRecords TurnedArea vs vs ids (reversed ids) u s
-unfolding TurnedArea
+unfolding TurnedArea takeoffOf sided
 alike vs ids u s =
     record {
       checks = check-same vs ids u;
@@ -49,6 +49,7 @@ alike vs ids u s =
       zero-record = zero-turned;
       zero-rows = no-rows s;
       full = λ p. records-turned vs ids u p;
+      verdict = λ p. records-turned vs ids u p .verdict;
       full-rows = rows-after vs ids u s;
     }
 

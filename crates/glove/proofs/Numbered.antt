@@ -13,13 +13,17 @@ use Rattle.ids.specs.Reversed.{reversed}
 use Rattle.ids.proofs.Reversed.{reversed-is}
 use Rattle.record.specs.declared.MeshQto.{MeshQto}
 use Rattle.record.specs.declared.Profile.{Profile}
-use Rattle.record.specs.Record.{zeroRecord}
 use Rattle.record.specs.Flags.{marked, flagged}
 use Rattle.record.specs.Numbers.{profileAt}
 use Rattle.record.proofs.Kept.{flags-leave}
-use Rattle.qto.specs.Full.{recordOf, recordBy, recordFrom, measures, measuresFrom, volumeOf}
+use Rattle.refusals.specs.Refusals.{Passes}
+use Rattle.qto.specs.declared.Takeoff.{Takeoff}
+use Rattle.qto.specs.Full.{recordOf, recordBy, recordFrom, measures, measuresFrom, volumeOf, takeoffOf}
+use Rattle.qto.specs.Compute.{zeroTakeoff}
 use Rattle.qto.specs.Numbers.{wordsOf, withFlags}
-use Rattle.road.proofs.Numbered.{AlikeNumbered, words-agree, numbered-agree}
+use Rattle.road.specs.Agree.{AgreePairs, Beside}
+use Rattle.road.proofs.Outcomes.{same-verdict-pairs}
+use Rattle.road.proofs.Numbered.{AlikeNumbered, words-agree, flagged-pairs, numbered-agree}
 use Rattle.glove.specs.Turned.{sided, turnedOver, volumeAsNumber, TurnedRecords, TurnedRows}
 use Rattle.glove.specs.Numbered.{volumeWordAsNumber, turnedWords, TurnedWordsBy, TurnedWords, TurnedAreaBy, TurnedNumberedArea}
 use Rattle.glove.specs.Numbered.{GloveNumbered}
@@ -41,60 +45,84 @@ record-fits : (vs : List Float) (ids : List ℕ) (u : Float) → T (fits binary3
 unfolding recordOf recordBy recordFrom measures measuresFrom volumeOf
 record-fits vs ids u = rounded-fits binary32 _
 
--- ---- so its words are turned as it is
+-- ---- so its words are turned as it is, and those of the pairs stay
 
-module _ (q : MeshQto) (h : T (fits binary32 (q .«volume_m3»))) where
-  words-turned : turnedWords (wordsOf q) ≡ wordsOf (turnedOver q)
+-- with another record
+abbrev over : Takeoff → MeshQto → Takeoff
+over t q = record { qto = q; pairs = t .pairs }
+
+module _ (t : Takeoff) (h : T (fits binary32 (t .qto .«volume_m3»))) where
+  words-turned : turnedWords (wordsOf t) ≡ wordsOf (over t (turnedOver (t .qto)))
   unfolding wordsOf sided
-  words-turned = rw (ofBits-toBits binary32 (q .«volume_m3») h)
+  words-turned = rw (ofBits-toBits binary32 (t .qto .«volume_m3») h)
 
-  words-numbered : volumeWordAsNumber (wordsOf q) ≡ wordsOf (volumeAsNumber q)
+  words-numbered : volumeWordAsNumber (wordsOf t) ≡ wordsOf (over t (volumeAsNumber (t .qto)))
   unfolding wordsOf sided
-  words-numbered = rw (ofBits-toBits binary32 (q .«volume_m3») h)
+  words-numbered = rw (ofBits-toBits binary32 (t .qto .«volume_m3») h)
 
-turned-by : (q q′ : MeshQto) → T (fits binary32 (q .«volume_m3»)) → T (fits binary32 (q′ .«volume_m3»)) → TurnedRecords q q′
-    → TurnedWords 0 (wordsOf q) (wordsOf q′)
-unfolding TurnedWordsBy
-turned-by q q′ h h′ r = rw (words-turned q h, words-numbered q′ h′) (words-agree (turnedOver q) (volumeAsNumber q′) r)
+turned-by : (t t′ : Takeoff) → T (fits binary32 (t .qto .«volume_m3»)) → T (fits binary32 (t′ .qto .«volume_m3»))
+    → Beside TurnedRecords t t′ → TurnedWords 0 (wordsOf t) (wordsOf t′)
+unfolding TurnedWordsBy sided
+turned-by t t′ h h′ b =
+    rw (words-turned t h, words-numbered t′ h′)
+    (words-agree (over t (turnedOver (t .qto))) (over t′ (volumeAsNumber (t′ .qto))) (record { records = b .records; pairs = b .pairs }))
 
 -- ---- two outcomes
 
 module _ (clip defect : ℕ) where
-  abbrev with : MeshQto → MeshQto
-  with q = withFlags clip defect q
+  abbrev with : Takeoff → Takeoff
+  with t = withFlags clip defect t
 
-  with-fits : (q : MeshQto) → T (fits binary32 (q .«volume_m3»)) → T (fits binary32 (with q .«volume_m3»))
-  with-fits q h = rw (flagged-volume (eqb clip 1) (profileAt defect) q) h
+  with-fits : (t : Takeoff) → T (fits binary32 (t .qto .«volume_m3»)) → T (fits binary32 (with t .qto .«volume_m3»))
+  with-fits t h = rw (flagged-volume (eqb clip 1) (profileAt defect) (t .qto)) h
 
-  words-for : (q q′ : MeshQto) → T (fits binary32 (q .«volume_m3»)) → T (fits binary32 (q′ .«volume_m3»)) → TurnedRecords q q′
-      → TurnedWords 0 (wordsOf (with q)) (wordsOf (with q′))
-  words-for q q′ h h′ r = turned-by (with q) (with q′) (with-fits q h) (with-fits q′ h′) (flags-turn (eqb clip 1) (profileAt defect) q q′ r)
+  words-for : (t t′ : Takeoff) → T (fits binary32 (t .qto .«volume_m3»)) → T (fits binary32 (t′ .qto .«volume_m3»))
+      → Beside TurnedRecords t t′ → TurnedWords 0 (wordsOf (with t)) (wordsOf (with t′))
+  words-for t t′ h h′ b =
+      turned-by (with t) (with t′) (with-fits t h) (with-fits t′ h′)
+      (record {
+        records = flags-turn (eqb clip 1) (profileAt defect) (t .qto) (t′ .qto) (b .records);
+        pairs = flagged-pairs clip defect t t′ (b .pairs);
+      })
 
-  rows-for : (q : MeshQto) (s s′ : List Float) → TurnedRows (q .«surface_count») s s′ → TurnedNumberedArea 0 (wordsOf (with q)) s s′
+  rows-for : (t : Takeoff) (s s′ : List Float) → TurnedRows (t .qto .«surface_count») s s′ → TurnedNumberedArea 0 (wordsOf (with t)) s s′
   unfolding TurnedAreaBy wordsOf
-  rows-for q s s′ t = rw (flagged-count (eqb clip 1) (profileAt defect) q) t
+  rows-for t s s′ h = rw (flagged-count (eqb clip 1) (profileAt defect) (t .qto)) h
 
 refused-at : (n : ℕ) → eqb (0x8000_0000 + n) 0 ≡ false
 refused-at n = ne-eqb (0x8000_0000 + n) 0 (λ e. omega arith)
 
+module _ (vs : List Float) (ids : List ℕ) (u : Float) where
+  full-fits : T (fits binary32 (takeoffOf vs ids u .qto .«volume_m3»))
+  unfolding takeoffOf
+  full-fits = record-fits vs ids u
+
+  full-beside : Passes vs ids u → Beside TurnedRecords (takeoffOf vs ids u) (takeoffOf vs (reversed ids) u)
+  unfolding takeoffOf sided
+  full-beside p = let r = records-turned vs ids u p in record { records = r; pairs = same-verdict-pairs _ _ _ _ (r .verdict) }
+
+zero-beside : Beside TurnedRecords zeroTakeoff zeroTakeoff
+unfolding AgreePairs
+zero-beside = record { records = zero-turned; pairs = refl }
+
+zero-fits : T (fits binary32 (zeroTakeoff .qto .«volume_m3»))
+zero-fits = unfold fits ofBits in tt
+
 alike : (vs : List Float) (ids : List ℕ) (u : Float) (clip defect : ℕ) (s : List Float) (words : List ℕ)
     → AlikeNumbered TurnedWords TurnedNumberedArea vs vs ids (reversed ids) u clip defect s words
-unfolding TurnedWordsBy TurnedAreaBy
+unfolding TurnedWordsBy TurnedAreaBy takeoffOf
 alike vs ids u clip defect s words =
     record {
       checks = check-same vs ids u;
       lengths = rw (reversed-is ids .long);
       refused = λ n. rw (refused-at n) refl;
       refused-rows = λ n. rw (refused-at n) refl;
-      zero-record = words-for clip defect zeroRecord zeroRecord zero-fits zero-fits zero-turned;
-      zero-rows = rows-for clip defect zeroRecord s s (no-rows s);
-      full = λ p. words-for clip defect (recordOf vs ids u) (recordOf vs (reversed ids) u) (record-fits vs ids u)
-          (record-fits vs (reversed ids) u) (records-turned vs ids u p);
-      full-rows = λ p. rows-for clip defect (recordOf vs ids u) _ _ (rows-after vs ids u s p);
+      zero-record = words-for clip defect zeroTakeoff zeroTakeoff zero-fits zero-fits zero-beside;
+      zero-rows = rows-for clip defect zeroTakeoff s s (no-rows s);
+      full = λ p. words-for clip defect (takeoffOf vs ids u) (takeoffOf vs (reversed ids) u) (full-fits vs ids u)
+          (full-fits vs (reversed ids) u) (full-beside vs ids u p);
+      full-rows = λ p. rows-for clip defect (takeoffOf vs ids u) _ _ (rows-after vs ids u s p);
     }
-  where
-    zero-fits : T (fits binary32 (zeroRecord .«volume_m3»))
-    zero-fits = unfold fits ofBits in tt
 
 pub glove-numbered : GloveNumbered
 glove-numbered vs ids u clip defect w r s words n n′ w₁ w₂ r₁ r₂ s₁ s₂ words₁ words₂ c c′ =

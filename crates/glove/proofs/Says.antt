@@ -1,9 +1,9 @@
--- What a record that is another one turned over says field by field. Assumes nothing.
+-- What a record that is another one turned over says field by field, and the pairs beside it. Assumes nothing.
 use mathlib.Core.Path.{ap}
 use Rattle.record.specs.declared.MeshQto.{MeshQto}
-use Rattle.road.proofs.Agree.{but-best, same-record}
+use Rattle.road.proofs.Agree.{but-best, same-record, same-pairs}
 use Rattle.glove.specs.Turned.{sided, turnedOver, volumeAsNumber}
-use Rattle.glove.specs.Says.{RecordsSay}
+use Rattle.glove.specs.Says.{RecordsSay, PairsSay}
 
 pub glove-says : RecordsSay
 unfolding sided
@@ -35,3 +35,6 @@ glove-says q q′ r =
             prism = ap (λ (x : MeshQto). x .«volume_prism_bound_m3») e;
           };
     }
+
+pub pairs-say : PairsSay
+pairs-say t t′ b shut = same-pairs (t .qto .«mesh_quality») (t .pairs) (t′ .pairs) (b .pairs) shut

@@ -1,4 +1,4 @@
--- The glove for the C interface: `mf_compute` with its flags, the number that comes back and the record's 20 words.
+-- The glove for the C interface: `mf_compute` with its flags, the number that comes back and the record's 26 words.
 use mathlib.Core.Path.{_≡_}
 use mathlib.Core.Bool.{Bool, true, false}
 use mathlib.Core.List.{List}

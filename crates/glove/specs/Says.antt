@@ -1,8 +1,11 @@
--- The glove in 02's words, field by field: what the law says of the two records. (`glove-says`)
+-- The glove in 02's words, field by field: what the law says of the two records, and of the pairs beside them. (`glove-says`, `pairs-say`)
 use mathlib.Core.Path.{_≡_}
+use mathlib.Core.Logic.{_≢_}
 use Rattle.ieee.specs.Number.{asNumber, opposite}
 use Rattle.verdict.specs.declared.Quality.{Quality}
 use Rattle.record.specs.declared.MeshQto.{MeshQto}
+use Rattle.qto.specs.declared.Takeoff.{Takeoff}
+use Rattle.road.specs.Agree.{Beside}
 use Rattle.glove.specs.Turned.{TurnedRecords}
 
 -- best volume, its method, its trust and the prism bound
@@ -32,8 +35,11 @@ pub record GloveSays (q q′ : MeshQto) : Type 0 where
   pub top : q′ .«area_top_m2» ≡ q .«area_bottom_m2»
   pub bottom : q′ .«area_bottom_m2» ≡ q .«area_top_m2»
   -- equal too, but for an open shell
-  pub unless-open : (q .«mesh_quality» ≡ Quality.OpenShell → ⊥) → SameBest q q′
+  pub unless-open : q .«mesh_quality» ≢ Quality.OpenShell → SameBest q q′
 
--- so of any two records that the law speaks of
+-- so of any two records that the law speaks of, and of the pairs beside them: equal, but for an open shell
 abbrev pub RecordsSay : Type 0
 RecordsSay = (q q′ : MeshQto) → TurnedRecords q q′ → GloveSays q q′
+
+abbrev pub PairsSay : Type 0
+PairsSay = (t t′ : Takeoff) → Beside TurnedRecords t t′ → t .qto .«mesh_quality» ≢ Quality.OpenShell → t′ .pairs ≡ t .pairs

@@ -71,4 +71,4 @@ pub record TurnedRows (n : ℕ) (s s′ : List Float) : Type 0 where
 -- by the answer: on a refusal the area is as it was in both
 unfoldable pub TurnedArea : Answer → List Float → List Float → Type 0
 TurnedArea (Answer.Refused n) s s′ = s′ ≡ s
-TurnedArea (Answer.Record q) s s′ = TurnedRows (q .«surface_count») s s′
+TurnedArea (Answer.Record t) s s′ = TurnedRows (t .qto .«surface_count») s s′

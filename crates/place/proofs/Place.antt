@@ -36,6 +36,7 @@ module _ (dx dy dz : ℤ) (vs vs′ : List Float) (ids : List ℕ) (u : Float) (
         zero-record = record { verdict = refl; rest = refl };
         zero-rows = refl;
         full = λ p. records-agree dx dy dz vs vs′ m (p .floats-least) ids u enough (p .unit);
+        verdict = λ p. records-agree dx dy dz vs vs′ m (p .floats-least) ids u enough (p .unit) .verdict;
         full-rows = λ p. surfaces-stay dx dy dz vs vs′ m (p .floats-least) ids u s;
       }
 

@@ -1,4 +1,4 @@
--- Demand 3 for the C interface: `mf_compute` with its flags, the number that comes back and the record's 20 words.
+-- Demand 3 for the C interface: `mf_compute` with its flags, the number that comes back and the record's 26 words.
 use mathlib.Core.Path.{_≡_}
 use mathlib.Core.List.{List}
 use Prim.Native.Nat.{ℕ}

@@ -5,30 +5,32 @@ use mathlib.Core.Bool.{Bool, true, false, not, cond}
 use native.Mathlib.Omega.{arith}
 use mathlib.Core.List.{List}
 use Prim.Native.Nat.{ℕ, _+_}
+use lib.Dec.{eqb}
 use lib.ListN.{length}
 use lib.Ieee.{Float}
 use Rattle.vertices.specs.Areas.{workWords}
 use Rattle.verdict.specs.declared.Quality.{Quality}
-use Rattle.record.specs.declared.MeshQto.{MeshQto}
-use Rattle.record.specs.Record.{zeroRecord}
-use Rattle.record.specs.Numbers.{qualityNumber, flagsFit}
+use Rattle.record.specs.Flags.{marked}
+use Rattle.record.specs.Numbers.{qualityNumber, profileAt, flagsFit}
+use Rattle.record.proofs.Kept.{flags-leave}
 use Rattle.refusals.specs.declared.Check.{Check}
 use Rattle.refusals.specs.Refusals.{checkOf, Passes}
 use Rattle.refusals.proofs.Checks.{admitted}
-use Rattle.qto.specs.Full.{recordOf, surfacesAfter}
-use Rattle.qto.specs.Compute.{areaAt}
+use Rattle.qto.specs.declared.Takeoff.{Takeoff}
+use Rattle.qto.specs.Full.{takeoffOf, surfacesAfter}
+use Rattle.qto.specs.Compute.{zeroTakeoff, areaAt}
 use Rattle.qto.specs.Numbers.{wordsOf, withFlags, numberAt, wordsAt, checkFlags, ComputesNumbered}
-use Rattle.road.specs.Agree.{AgreeBy, AgreeRecords}
+use Rattle.road.specs.Agree.{AgreeBy, AgreePairs, AgreeRecords, Beside}
 use Rattle.road.specs.Numbered.{unexcepted, owed, AgreeNumbered}
 
 -- ---- words of records that agree
 
-words-by : (v : Quality) (q q′ : MeshQto) → q .«mesh_quality» ≡ v → q′ .«mesh_quality» ≡ v → AgreeBy v q q′
-    → owed 0 (wordsOf q′) ≡ owed 0 (wordsOf q)
-unfolding AgreeBy owed wordsOf unexcepted qualityNumber
-words-by Quality.Closed q q′ h h′ r = ap (λ (x : MeshQto). owed 0 (wordsOf x)) r
-words-by Quality.Degenerate q q′ h h′ r = ap (λ (x : MeshQto). owed 0 (wordsOf x)) r
-words-by Quality.OpenShell q q′ h h′ r =
+words-by : (v : Quality) (t t′ : Takeoff) → t .qto .«mesh_quality» ≡ v → t′ .qto .«mesh_quality» ≡ v → AgreeBy v (t .qto) (t′ .qto)
+    → AgreePairs v (t .pairs) (t′ .pairs) → owed 0 (wordsOf t′) ≡ owed 0 (wordsOf t)
+unfolding AgreeBy AgreePairs owed wordsOf unexcepted qualityNumber
+words-by Quality.Closed t t′ h h′ r p = rw (r, p)
+words-by Quality.Degenerate t t′ h h′ r p = rw (r, p)
+words-by Quality.OpenShell t t′ h h′ r p =
     rw (
       h,
       h′,
@@ -49,8 +51,15 @@ words-by Quality.OpenShell q q′ h h′ r =
       r .sliver,
     )
 
-pub words-agree : (q q′ : MeshQto) → AgreeRecords q q′ → owed 0 (wordsOf q′) ≡ owed 0 (wordsOf q)
-words-agree q q′ r = words-by (q .«mesh_quality») q q′ refl (r .verdict) (r .rest)
+pub words-agree : (t t′ : Takeoff) → Beside AgreeRecords t t′ → owed 0 (wordsOf t′) ≡ owed 0 (wordsOf t)
+words-agree t t′ b = words-by (t .qto .«mesh_quality») t t′ refl (b .records .verdict) (b .records .rest) (b .pairs)
+
+-- flags leave the verdict alone, and so the pairs agree as they did
+pub flagged-pairs : (clip defect : ℕ) (t t′ : Takeoff) → AgreePairs (t .qto .«mesh_quality») (t .pairs) (t′ .pairs)
+    → AgreePairs (withFlags clip defect t .qto .«mesh_quality») (t .pairs) (t′ .pairs)
+unfolding marked
+flagged-pairs clip defect t t′ a =
+    rw (flags-leave (λ q. q .«mesh_quality») (λ to p q. refl) (eqb clip 1) (profileAt defect) (t .qto)) a
 
 -- ---- two outcomes
 
@@ -61,28 +70,28 @@ pub record AlikeNumbered (W : ℕ → List ℕ → List ℕ → Type 0) (S : ℕ
   pub lengths : workWords (length vs′) (length ids′) ≡ workWords (length vs) (length ids)
   pub refused : (n : ℕ) → W (0x8000_0000 + n) words words
   pub refused-rows : (n : ℕ) → S (0x8000_0000 + n) words s s
-  pub zero-record : W 0 (wordsOf (withFlags clip defect zeroRecord)) (wordsOf (withFlags clip defect zeroRecord))
-  pub zero-rows : S 0 (wordsOf (withFlags clip defect zeroRecord)) s s
+  pub zero-record : W 0 (wordsOf (withFlags clip defect zeroTakeoff)) (wordsOf (withFlags clip defect zeroTakeoff))
+  pub zero-rows : S 0 (wordsOf (withFlags clip defect zeroTakeoff)) s s
   pub full : Passes vs ids u
-      → W 0 (wordsOf (withFlags clip defect (recordOf vs ids u))) (wordsOf (withFlags clip defect (recordOf vs′ ids′ u)))
+      → W 0 (wordsOf (withFlags clip defect (takeoffOf vs ids u))) (wordsOf (withFlags clip defect (takeoffOf vs′ ids′ u)))
   pub full-rows : Passes vs ids u
-      → S 0 (wordsOf (withFlags clip defect (recordOf vs ids u))) (surfacesAfter vs ids u s) (surfacesAfter vs′ ids′ u s)
+      → S 0 (wordsOf (withFlags clip defect (takeoffOf vs ids u))) (surfacesAfter vs ids u s) (surfacesAfter vs′ ids′ u s)
 
 module _ (W : ℕ → List ℕ → List ℕ → Type 0) (S : ℕ → List ℕ → List Float → List Float → Type 0) (vs vs′ : List Float)
     (ids ids′ : List ℕ) (u : Float) (clip defect : ℕ) (s : List Float) (words : List ℕ)
     (k : AlikeNumbered W S vs vs′ ids ids′ u clip defect s words) where
-  abbrev wordsAs : Check → MeshQto → List ℕ
-  wordsAs c q = wordsAt c clip defect q words
+  abbrev wordsAs : Check → Takeoff → List ℕ
+  wordsAs c t = wordsAt c clip defect t words
 
   words-at : (c : Check) → (c ≡ Check.Full → Passes vs ids u)
-      → W (numberAt c) (wordsAs c (recordOf vs ids u)) (wordsAs c (recordOf vs′ ids′ u))
+      → W (numberAt c) (wordsAs c (takeoffOf vs ids u)) (wordsAs c (takeoffOf vs′ ids′ u))
   unfolding numberAt wordsAt
   words-at (Check.Refuse n) passes = k .refused n
   words-at Check.Zero passes = k .zero-record
   words-at Check.Full passes = k .full (passes refl)
 
   rows-at : (c : Check) → (c ≡ Check.Full → Passes vs ids u)
-      → S (numberAt c) (wordsAs c (recordOf vs ids u)) (areaAt c (surfacesAfter vs ids u s) s) (areaAt c (surfacesAfter vs′ ids′ u s) s)
+      → S (numberAt c) (wordsAs c (takeoffOf vs ids u)) (areaAt c (surfacesAfter vs ids u s) s) (areaAt c (surfacesAfter vs′ ids′ u s) s)
   unfolding numberAt wordsAt areaAt
   rows-at (Check.Refuse n) passes = k .refused-rows n
   rows-at Check.Zero passes = k .zero-rows

@@ -1,20 +1,23 @@
--- Outcomes that `compute`'s contract allows for two meshes agree where their checks, their full records and their rows do: a refusal and
--- the zero record do not hang on the mesh. Assumes nothing.
+-- Outcomes that `compute`'s contract allows for two meshes agree where their checks, their full records with the same verdict, and their rows
+-- do: a refusal and the zero record do not hang on the mesh, and pairs only where it is open. Assumes nothing.
 use mathlib.Core.Path.{_≡_, refl}
 use mathlib.Core.List.{List}
 use Prim.Native.Nat.{ℕ}
 use lib.ListN.{length}
 use lib.Ieee.{Float}
 use Rattle.vertices.specs.Areas.{workWords}
+use Rattle.verdict.specs.declared.Quality.{Quality}
+use Rattle.volume.specs.declared.Pairs.{Pairs}
+use Rattle.volume.specs.Best.{pairsOf}
 use Rattle.record.specs.declared.MeshQto.{MeshQto}
 use Rattle.record.specs.Record.{zeroRecord}
 use Rattle.refusals.specs.declared.Check.{Check}
 use Rattle.refusals.specs.Refusals.{checkOf, Passes}
 use Rattle.refusals.proofs.Checks.{admitted}
 use Rattle.qto.specs.declared.Answer.{Answer}
-use Rattle.qto.specs.Full.{recordOf, surfacesAfter}
-use Rattle.qto.specs.Compute.{answerAt, areaAt, Computes}
-use Rattle.road.specs.Agree.{AgreeAnswers, Agree}
+use Rattle.qto.specs.Full.{recordOf, takeoffOf, surfacesAfter}
+use Rattle.qto.specs.Compute.{zeroTakeoff, answerAt, areaAt, Computes}
+use Rattle.road.specs.Agree.{AgreePairs, AgreeAnswers, Agree}
 
 -- what has to hold of a relation of records and one of surface areas, for two meshes and one area before
 pub record Alike (R : MeshQto → MeshQto → Type 0) (S : Answer → List Float → List Float → Type 0) (vs vs′ : List Float)
@@ -23,21 +26,30 @@ pub record Alike (R : MeshQto → MeshQto → Type 0) (S : Answer → List Float
   pub lengths : workWords (length vs′) (length ids′) ≡ workWords (length vs) (length ids)
   pub refused : (n : ℕ) → S (Answer.Refused n) s s
   pub zero-record : R zeroRecord zeroRecord
-  pub zero-rows : S (Answer.Record zeroRecord) s s
+  pub zero-rows : S (Answer.Record zeroTakeoff) s s
   pub full : Passes vs ids u → R (recordOf vs ids u) (recordOf vs′ ids′ u)
-  pub full-rows : Passes vs ids u → S (Answer.Record (recordOf vs ids u)) (surfacesAfter vs ids u s) (surfacesAfter vs′ ids′ u s)
+  pub verdict : Passes vs ids u → recordOf vs′ ids′ u .«mesh_quality» ≡ recordOf vs ids u .«mesh_quality»
+  pub full-rows : Passes vs ids u → S (Answer.Record (takeoffOf vs ids u)) (surfacesAfter vs ids u s) (surfacesAfter vs′ ids′ u s)
+
+-- with one verdict the pairs agree, whatever the prisms' are
+pub same-verdict-pairs : (q q′ : Quality) (p p′ : Pairs) → q′ ≡ q → AgreePairs q (pairsOf q p) (pairsOf q′ p′)
+unfolding AgreePairs pairsOf
+same-verdict-pairs Quality.Closed q′ p p′ e = rw e refl
+same-verdict-pairs Quality.Degenerate q′ p p′ e = rw e refl
+same-verdict-pairs Quality.OpenShell q′ p p′ e = tt
 
 module _ (R : MeshQto → MeshQto → Type 0) (S : Answer → List Float → List Float → Type 0) (vs vs′ : List Float) (ids ids′ : List ℕ)
     (u : Float) (s : List Float) (k : Alike R S vs vs′ ids ids′ u s) where
   agree-at : (c : Check) → (c ≡ Check.Full → Passes vs ids u)
-      → AgreeAnswers R (answerAt c (recordOf vs ids u)) (answerAt c (recordOf vs′ ids′ u))
-  unfolding answerAt AgreeAnswers
+      → AgreeAnswers R (answerAt c (takeoffOf vs ids u)) (answerAt c (takeoffOf vs′ ids′ u))
+  unfolding answerAt AgreeAnswers AgreePairs takeoffOf
   agree-at (Check.Refuse n) passes = refl
-  agree-at Check.Zero passes = k .zero-record
-  agree-at Check.Full passes = k .full (passes refl)
+  agree-at Check.Zero passes = record { records = k .zero-record; pairs = refl }
+  agree-at Check.Full passes =
+      let p = passes refl in record { records = k .full p; pairs = same-verdict-pairs _ _ _ _ (k .verdict p) }
 
   rows-at : (c : Check) → (c ≡ Check.Full → Passes vs ids u)
-      → S (answerAt c (recordOf vs ids u)) (areaAt c (surfacesAfter vs ids u s) s) (areaAt c (surfacesAfter vs′ ids′ u s) s)
+      → S (answerAt c (takeoffOf vs ids u)) (areaAt c (surfacesAfter vs ids u s) s) (areaAt c (surfacesAfter vs′ ids′ u s) s)
   unfolding answerAt areaAt
   rows-at (Check.Refuse n) passes = k .refused n
   rows-at Check.Zero passes = k .zero-rows

@@ -1,15 +1,18 @@
--- What agrees of two outcomes: two records but for what the documents except of an open shell, two answers, the areas afterwards.
+-- What agrees of two outcomes: two records but for what the documents except of an open shell, the pairs beside them, two answers, the areas
+-- afterwards.
 use mathlib.Core.Path.{_≡_}
 use mathlib.Core.Bool.{Bool}
 use mathlib.Core.List.{List}
 use Prim.Native.Nat.{ℕ}
 use lib.Ieee.{Float}
 use Rattle.verdict.specs.declared.Quality.{Quality}
+use Rattle.volume.specs.declared.Pairs.{Pairs}
 use Rattle.record.specs.declared.MeshQto.{MeshQto}
 use Rattle.record.specs.declared.Profile.{Profile}
 use Rattle.record.specs.Flags.{flagged}
 use Rattle.record.specs.Numbers.{prismNumber}
 use Rattle.qto.specs.declared.Answer.{Answer}
+use Rattle.qto.specs.declared.Takeoff.{Takeoff}
 
 -- all of a record but best volume, its method, its trust and the prism bound
 pub record AgreeButBest (q q′ : MeshQto) : Type 0 where
@@ -45,12 +48,23 @@ abbrev pub FlagsKeep : Type 0
 FlagsKeep =
     (clip : Bool) (profile : Profile) (q q′ : MeshQto) → AgreeRecords q q′ → AgreeRecords (flagged clip profile q) (flagged clip profile q′)
 
--- two refusals with one number, or two records that stand to each other as R says
+-- the pairs, by the verdict: those of an open mesh may differ, all of them; of any other mesh they are the same
+unfoldable pub AgreePairs : Quality → Pairs → Pairs → Type 0
+AgreePairs Quality.Closed p p′ = p′ ≡ p
+AgreePairs Quality.Degenerate p p′ = p′ ≡ p
+AgreePairs Quality.OpenShell p p′ = Unit {0}
+
+-- two records that stand to each other as R says, with pairs that agree beside them
+pub record Beside (R : MeshQto → MeshQto → Type 0) (t t′ : Takeoff) : Type 0 where
+  pub records : R (t .qto) (t′ .qto)
+  pub pairs : AgreePairs (t .qto .«mesh_quality») (t .pairs) (t′ .pairs)
+
+-- two refusals with one number, or two such records
 unfoldable pub AgreeAnswers : (MeshQto → MeshQto → Type 0) → Answer → Answer → Type 0
 AgreeAnswers R (Answer.Refused n) (Answer.Refused m) = m ≡ n
-AgreeAnswers R (Answer.Record q) (Answer.Record q′) = R q q′
-AgreeAnswers R (Answer.Refused n) (Answer.Record q) = ⊥
-AgreeAnswers R (Answer.Record q) (Answer.Refused n) = ⊥
+AgreeAnswers R (Answer.Record t) (Answer.Record t′) = Beside R t t′
+AgreeAnswers R (Answer.Refused n) (Answer.Record t) = ⊥
+AgreeAnswers R (Answer.Record t) (Answer.Refused n) = ⊥
 
 -- the answers, and what stands in work area, raster and surface area afterwards; of the surface area S says it, by the answer
 pub record Agree (R : MeshQto → MeshQto → Type 0) (S : Answer → List Float → List Float → Type 0) (a a′ : Answer) (w w′ r r′ : List ℕ)

@@ -1,16 +1,16 @@
--- What agrees of two outcomes of `mf_compute`: the number that comes back, the record's 20 words but for those that the documents except of
+-- What agrees of two outcomes of `mf_compute`: the number that comes back, the record's 26 words but for those that the documents except of
 -- an open shell, the areas afterwards.
 use mathlib.Core.Path.{_≡_}
 use mathlib.Core.Bool.{Bool, _&&_, _||_, cond}
 use mathlib.Core.List.{List, [], _∷_}
 use Prim.Native.Nat.{ℕ, suc}
-use lib.Dec.{eqb}
+use lib.Dec.{eqb, leb}
 use lib.ListN.{getD}
 use lib.Ieee.{Float}
 
--- trust, method, best volume and the bits of the prism bound
+-- trust, method, best volume, the bits of the prism bound, and the six words of the pairs
 abbrev pub excepted : ℕ → Bool
-excepted i = eqb i 1 || (eqb i 2 || (eqb i 13 || eqb i 15))
+excepted i = eqb i 1 || (eqb i 2 || (eqb i 13 || (eqb i 15 || leb 20 i)))
 
 -- words from place i on, those that are excepted as 0
 unfoldable pub unexcepted : ℕ → List ℕ → List ℕ
@@ -18,7 +18,7 @@ unexcepted i [] = []
 unexcepted i (x ∷ words) = cond (excepted i) 0 x ∷ unexcepted (suc i) words
 
 -- What has to agree of a record's words, by the number that comes back with them. Where the call answered, which is 0, and the
--- verdict, word 0, is open: all but these four. Else all of them; on a refusal they are what the caller had there, whatever that was.
+-- verdict, word 0, is open: all but these ten. Else all of them; on a refusal they are what the caller had there, whatever that was.
 unfoldable pub owed : ℕ → List ℕ → List ℕ
 owed n words = cond (eqb n 0 && eqb (getD words 0 0) 1) (unexcepted 0 words) words
 

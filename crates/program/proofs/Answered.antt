@@ -12,13 +12,13 @@ use Rattle.ids.specs.Pieces.{shareEdge, pieces}
 use Rattle.rows.specs.declared.PlanarSurface.{PlanarSurface}
 use Rattle.rows.specs.Rows.{flatten, rowsOf}
 use Rattle.rows.proofs.Flat.{rows-flat, length-flatten}
-use Rattle.record.specs.declared.MeshQto.{MeshQto}
 use Rattle.record.specs.declared.Profile.{Profile}
 use Rattle.record.specs.Flags.{flagged}
 use Rattle.refusals.specs.declared.Check.{Check}
 use Rattle.refusals.specs.Refusals.{checkOf}
 use Rattle.qto.specs.declared.Answer.{Answer}
-use Rattle.qto.specs.Full.{measuresFrom, measures, recordFrom, recordBy, recordOf, surfaceRows, surfacesAfter}
+use Rattle.qto.specs.declared.Takeoff.{Takeoff}
+use Rattle.qto.specs.Full.{measuresFrom, measures, recordFrom, recordBy, recordOf, takeoffOf, surfaceRows, surfacesAfter}
 use Rattle.qto.specs.Compute.{answerAt, areaAt, Computes}
 use Rattle.listing.specs.Listing.{listingOf, refusedLine}
 use Rattle.program.specs.Program.{listed, textAt, meshText}
@@ -35,24 +35,24 @@ rows-first rows l = rw (← length-flatten rows, take-append-seam (flatten rows)
 -- ---- by what the table says
 
 answerText : List ℕ → Bool → Profile → List Float → Answer → List ℕ
-answerText ids clip profile s (Answer.Record q) =
-    listingOf (flagged clip profile q) (rowsOf (take (4 * q .«surface_count») s)) (pieces shareEdge ids)
+answerText ids clip profile s (Answer.Record t) =
+    listingOf (flagged clip profile (t .qto)) (rowsOf (take (4 * t .qto .«surface_count») s)) (pieces shareEdge ids)
 answerText ids clip profile s (Answer.Refused n) = refusedLine n
 
 answerRows : Answer → ℕ
-answerRows (Answer.Record q) = q .«surface_count»
+answerRows (Answer.Record t) = t .qto .«surface_count»
 answerRows (Answer.Refused n) = 0
 
 module _ (vs : List Float) (ids : List ℕ) (u : Float) (clip : Bool) (profile : Profile) (s : List Float) where
-  text-by : (c : Check) → answerText ids clip profile (areaAt c (surfacesAfter vs ids u s) s) (answerAt c (recordOf vs ids u))
+  text-by : (c : Check) → answerText ids clip profile (areaAt c (surfacesAfter vs ids u s) s) (answerAt c (takeoffOf vs ids u))
       ≡ textAt c vs ids u clip profile
-  unfolding answerText answerAt areaAt surfacesAfter textAt listed rowsOf
+  unfolding answerText answerAt areaAt surfacesAfter takeoffOf textAt listed rowsOf
   text-by (Check.Refuse n) = refl
   text-by Check.Zero = refl
   text-by Check.Full = rw (counts-rows vs ids u, rows-first (surfaceRows vs ids u) (drop (4 * length (surfaceRows vs ids u)) s))
 
-  rows-by : (c : Check) → 4 * answerRows (answerAt c (recordOf vs ids u)) ≤ length (areaAt c (surfacesAfter vs ids u s) s)
-  unfolding answerRows answerAt areaAt surfacesAfter
+  rows-by : (c : Check) → 4 * answerRows (answerAt c (takeoffOf vs ids u)) ≤ length (areaAt c (surfacesAfter vs ids u s) s)
+  unfolding answerRows answerAt areaAt surfacesAfter takeoffOf
   rows-by (Check.Refuse n) = omega arith
   rows-by Check.Zero = omega arith
   rows-by Check.Full =
@@ -65,9 +65,9 @@ module _ (vs : List Float) (ids : List ℕ) (u : Float) (clip : Bool) (profile :
   -- ---- by what `compute` gave, over areas as long as the program's
 
   module _ (w r : List ℕ) (a : Answer) (w′ r′ : List ℕ) (s′ : List Float) (made : Computes vs ids u w r s a w′ r′ s′) where
-    pub rows-fit : (q : MeshQto) → a ≡ Answer.Record q → 4 * q .«surface_count» ≤ length s′
+    pub rows-fit : (t : Takeoff) → a ≡ Answer.Record t → 4 * t .qto .«surface_count» ≤ length s′
     unfolding answerRows
-    rows-fit q e =
+    rows-fit t e =
         rw (made .surfaces, sym (ap answerRows e), ap answerRows (made .answers))
         (rows-by (checkOf vs ids u (length w) (length r) (length s)))
 
@@ -76,11 +76,11 @@ module _ (vs : List Float) (ids : List ℕ) (u : Float) (clip : Bool) (profile :
       unfolding meshText
       text-of = rw (made .answers, made .surfaces, text-by (checkOf vs ids u (length w) (length r) (length s)), hw, hr, hs)
 
-      pub record-text : (q : MeshQto) → a ≡ Answer.Record q
-          → listingOf (flagged clip profile q) (rowsOf (take (4 * q .«surface_count») s′)) (pieces shareEdge ids)
+      pub record-text : (t : Takeoff) → a ≡ Answer.Record t
+          → listingOf (flagged clip profile (t .qto)) (rowsOf (take (4 * t .qto .«surface_count») s′)) (pieces shareEdge ids)
           ≡ meshText vs ids u clip profile
       unfolding answerText
-      record-text q e = sym (ap (answerText ids clip profile s′) e) ∙ text-of
+      record-text t e = sym (ap (answerText ids clip profile s′) e) ∙ text-of
 
       pub refusal-text : (n : ℕ) → a ≡ Answer.Refused n → refusedLine n ≡ meshText vs ids u clip profile
       unfolding answerText

@@ -74,7 +74,7 @@ fn print_mesh(m: MeshFile, vertices: &[f32], ids: &[u32], text: &mut [u8]) -> us
     let count = pieces_of(ids, &mut work);
     let answer = qto::compute(vertices, ids, m.unit, &mut work, &mut raster, &mut surfaces);
     match answer {
-        Answer::Record(q) => print_record(q, m, count, &surfaces, text),
+        Answer::Record(t) => print_record(t.qto, m, count, &surfaces, text),
         Answer::Refused(n) => print_refusal(n, text),
     }
 }

@@ -105,7 +105,14 @@ fn no_footprint() -> Footprint
 }
 
 // The footprint on a grid, over a part of one byte a cell.
-fn footprint_on(vertices: &[f32], ids: &[u32], u: usize, v: usize, g: Grid, part: &mut [u8]) -> Footprint
+fn footprint_on(
+    vertices: &[f32],
+    ids: &[u32],
+    u: usize,
+    v: usize,
+    g: Grid,
+    part: &mut [u8],
+) -> Footprint
     requires { ⌜ (u ≤ 2) × (v ≤ 2) × GridSized g × (length (now part) ≡ g .nx * g .ny) ⌝ }
     ensures { λ r. ⌜ r ≡ footprintOn (now (vertices .entry)) u v (now (ids .entry)) g ⌝ }
 {

@@ -1,6 +1,7 @@
 // Runs the meshes of data/meshes, each a u32 length and so many bytes of the program's format, and prints for each what
-// `takeoff` prints, and a line with what the routines on ids say of its ids and what `compute` says to a work area that is
-// one word short. The gate holds this to `stdout`, which the unchanged Rust wrote (docs/DIFFERENCES.md says how).
+// `takeoff` prints, and a line with what the routines on ids say of its ids, what `compute` says to a work area that is one word
+// short, and the pairs of its footprints. The gate holds this to `stdout`, which the unchanged Rust wrote, and a plain reference where it
+// has no answer (docs/DIFFERENCES.md says how).
 ghost use Prim.Native.Nat.{_≤_, _<_};
 ghost use lib.ListN.{length};
 use chain::EdgeChain;
@@ -9,6 +10,7 @@ use chain::Verdict;
 use libc::STDOUT_FILENO;
 use meshfile::Reading;
 use qto::Answer;
+use raster::Pair;
 
 // ---- what the routines on ids say
 
@@ -92,6 +94,42 @@ fn print_short(vertices: &[f32], ids: &[u32], unit: f32)
     }
 }
 
+// ---- the pairs
+
+fn print_pair(p: Pair) {
+    print_count(b" ", p.covered as u64);
+    print_count(b" ", p.rim as u64);
+}
+
+// Of the z, y and x footprints; a refusal has none.
+fn print_pairs(vertices: &[f32], ids: &[u32], unit: f32) {
+    let mut work = [0u32; 13824];
+    let mut raster = [0u8; 65536];
+    let mut surfaces = [0f32; 2048];
+    let answer = qto::compute(vertices, ids, unit, &mut work, &mut raster, &mut surfaces);
+    match answer {
+        Answer::Record(t) => {
+            let pairs = t.pairs;
+            io::write_all(STDOUT_FILENO, b" pairs");
+            print_pair(pairs.z);
+            print_pair(pairs.y);
+            print_pair(pairs.x);
+        }
+        Answer::Refused(_) => {}
+    }
+}
+
+// ---- the line
+
+fn print_answers(vertices: &[f32], ids: &[u32], unit: f32)
+    requires { ⌜ (length (now vertices) ≤ 1536) × (length (now ids) ≤ 1536) ⌝ }
+{
+    print_ids(ids);
+    print_short(vertices, ids, unit);
+    print_pairs(vertices, ids, unit);
+    io::write_all(STDOUT_FILENO, b"\n");
+}
+
 // The line for a file that can be read; of any other there is nothing to say.
 fn print_line_of(bytes: &[u8]) {
     let mut vertices = [0f32; 1536];
@@ -99,9 +137,7 @@ fn print_line_of(bytes: &[u8]) {
     let found = meshfile::read(bytes, &mut vertices, &mut ids);
     match found {
         Reading::File(m) => {
-            print_ids(&ids[..m.ids]);
-            print_short(&vertices[..m.floats], &ids[..m.ids], m.unit);
-            io::write_all(STDOUT_FILENO, b"\n");
+            print_answers(&vertices[..m.floats], &ids[..m.ids], m.unit);
         }
         Reading::Refused(_) => {}
     }

@@ -62,13 +62,7 @@ pub struct Across {
 }
 
 // The footprint in a window times the extent on the third axis. The raster is zero afterwards.
-fn prism_on(
-    vertices: &[f32],
-    indices: &[u32],
-    s: Window,
-    along: f32,
-    raster: &mut [u8],
-) -> Across
+fn prism_on(vertices: &[f32], indices: &[u32], s: Window, along: f32, raster: &mut [u8]) -> Across
     requires { ⌜ length (now raster) ≡ rasterBytes ⌝ }
     ensures { λ r. ⌜ (r .prism ≡ prismOn (now (vertices .entry)) (now (indices .entry)) s along)
         × (r .cells ≡ pairOn (now (vertices .entry)) (now (indices .entry)) s along)
@@ -112,7 +106,13 @@ pub struct PrismAndPairs {
     pub pairs: Pairs,
 }
 
-fn prism(vertices: &[f32], indices: &[u32], b: Bounds, cube: f32, raster: &mut [u8]) -> PrismAndPairs
+fn prism(
+    vertices: &[f32],
+    indices: &[u32],
+    b: Bounds,
+    cube: f32,
+    raster: &mut [u8],
+) -> PrismAndPairs
     requires { ⌜ length (now raster) ≡ rasterBytes ⌝ }
     ensures { λ r. ⌜ (r .prism ≡ prismOf (now (vertices .entry)) (now (indices .entry)) b cube)
         × (r .pairs ≡ prismPairs (now (vertices .entry)) (now (indices .entry)) b)

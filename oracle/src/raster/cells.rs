@@ -19,7 +19,7 @@ pub fn values(p: Point, [a, b, c]: [Point; 3]) -> [f32; 3] {
 
 /// Outside where the values have both signs; else on the edge where one is zero, of whichever sign; else inside. A NaN has no sign
 /// and is no zero.
-pub fn place(values: [f32; 3]) -> Place {
+pub fn by_values(values: [f32; 3]) -> Place {
     let some = |test: fn(f32) -> bool| values.into_iter().any(test);
     if some(|x| x > 0.0) && some(|x| x < 0.0) {
         Place::Outside
@@ -28,6 +28,11 @@ pub fn place(values: [f32; 3]) -> Place {
     } else {
         Place::Inside
     }
+}
+
+/// The point test.
+pub fn place(p: Point, corners: [Point; 3]) -> Place {
+    by_values(values(p, corners))
 }
 
 /// A footprint's cells: covered, and of these the ones that are inside no triangle.
@@ -82,15 +87,15 @@ impl Grid {
 
 const MOST_CELLS: usize = 256;
 
-/// What each cell of a footprint is to the triangles that count, by a rule for the three values; nothing where the original
-/// takes no footprint of this box.
+/// What each cell of a footprint is to the triangles that count, by a point test; nothing where the original takes no footprint of
+/// this box.
 pub fn grid(
     vertices: &[f32],
     ids: &[u32],
     axes: [usize; 2],
     u: [f32; 2],
     v: [f32; 2],
-    rule: impl Fn([f32; 3]) -> Place,
+    test: impl Fn(Point, [Point; 3]) -> Place,
 ) -> Option<Grid> {
     let [w, h] = [u, v].map(|[low, high]| (high - low).max(0.0));
     let cell = w.max(h) / MOST_CELLS as f32;
@@ -105,7 +110,7 @@ pub fn grid(
         for row in reached(corners.map(|corner| corner[1]), v[0], sides[1], ny) {
             for column in columns.clone() {
                 let centre = [u[0] + (column as f32 + 0.5) * sides[0], v[0] + (row as f32 + 0.5) * sides[1]];
-                match rule(values(centre, corners)) {
+                match test(centre, corners) {
                     Place::Outside => {}
                     Place::Edge => had[row * nx + column].edge += 1,
                     Place::Inside => had[row * nx + column].inside += 1,
@@ -148,12 +153,12 @@ pub fn reach(vertices: &[f32], axis: usize) -> [f32; 2] {
 }
 
 /// The z, y and x footprints of a mesh in its own box, as the original's prism takes them: none where the box is flat.
-pub fn grids(vertices: &[f32], ids: &[u32], rule: fn([f32; 3]) -> Place) -> [Option<Grid>; 3] {
+pub fn grids(vertices: &[f32], ids: &[u32], test: fn(Point, [Point; 3]) -> Place) -> [Option<Grid>; 3] {
     let reaches = [0, 1, 2].map(|axis| reach(vertices, axis));
     let flat = reaches.iter().any(|[low, high]| low >= high);
     AXES.map(|axes| {
         let [u, v] = axes.map(|axis| reaches[axis]);
-        (!flat).then(|| grid(vertices, ids, axes, u, v, rule)).flatten()
+        (!flat).then(|| grid(vertices, ids, axes, u, v, test)).flatten()
     })
 }
 

@@ -3,7 +3,7 @@
 //! original: by its yes or no for a point, by its area for the cells that are covered.
 
 use super::capi;
-use super::cells::{grid, place, values, Cells, Grid, Met, Place};
+use super::cells::{by_values, grid, place, values, Cells, Grid, Met, Place};
 use super::meshes::{by_chance, fine_sheet, in_its_box, open_box, open_sphere, small_soup, Scene};
 use crate::linked::bits;
 use crate::mesh::qto::probe;
@@ -187,7 +187,7 @@ pub fn on_points(test: PointTest, n: u64) -> Points {
     for _ in 0..n {
         let [p, a, b, c] = four_points(&mut random);
         let values = values(p, [a, b, c]);
-        let (given, right, yes) = (test(p, a, b, c), place(values), probe::point_in_triangle(p, a, b, c));
+        let (given, right, yes) = (test(p, a, b, c), by_values(values), probe::point_in_triangle(p, a, b, c));
         if given == right as u32 && (right != Place::Outside) == yes {
             count.agree += 1;
             count.places[right as usize] += 1;

@@ -1,6 +1,8 @@
 //! Cells on the rim (02, A3): a plain reference, since the original says no more of a footprint than its area. It is written from
 //! 02's sentences over the original's loop and arithmetic, and nothing of it from the port.
 
+use std::ops::Range;
+
 /// Where a point lies by a triangle; the numbers are the port's.
 #[derive(Clone, Copy, Debug, PartialEq, Eq)]
 pub enum Place {
@@ -12,6 +14,7 @@ pub enum Place {
 pub type Point = [f32; 2];
 
 /// The three values of the point test.
+#[inline]
 pub fn values(p: Point, [a, b, c]: [Point; 3]) -> [f32; 3] {
     let side = |q: Point, r: Point| (p[0] - r[0]) * (q[1] - r[1]) - (q[0] - r[0]) * (p[1] - r[1]);
     [side(a, b), side(b, c), side(c, a)]
@@ -19,11 +22,12 @@ pub fn values(p: Point, [a, b, c]: [Point; 3]) -> [f32; 3] {
 
 /// Outside where the values have both signs; else on the edge where one is zero, of whichever sign; else inside. A NaN has no sign
 /// and is no zero.
-pub fn by_values(values: [f32; 3]) -> Place {
-    let some = |test: fn(f32) -> bool| values.into_iter().any(test);
-    if some(|x| x > 0.0) && some(|x| x < 0.0) {
+#[inline]
+pub fn by_values([d, e, f]: [f32; 3]) -> Place {
+    let (above, below) = (d > 0.0 || e > 0.0 || f > 0.0, d < 0.0 || e < 0.0 || f < 0.0);
+    if above && below {
         Place::Outside
-    } else if some(|x| x == 0.0) {
+    } else if d == 0.0 || e == 0.0 || f == 0.0 {
         Place::Edge
     } else {
         Place::Inside
@@ -31,6 +35,7 @@ pub fn by_values(values: [f32; 3]) -> Place {
 }
 
 /// The point test.
+#[inline]
 pub fn place(p: Point, corners: [Point; 3]) -> Place {
     by_values(values(p, corners))
 }
@@ -42,16 +47,16 @@ pub struct Cells {
     pub rim: u32,
 }
 
-/// How many triangles have a cell on an edge, and how many inside.
+/// How many triangles have a cell on an edge, and how many inside. A call has 32,768 at most.
 #[derive(Clone, Copy, Default)]
 pub struct Had {
-    pub edge: u32,
-    pub inside: u32,
+    pub edge: u16,
+    pub inside: u16,
 }
 
 impl Had {
     pub fn is_covered(self) -> bool {
-        self.edge + self.inside > 0
+        self.edge > 0 || self.inside > 0
     }
 
     pub fn is_rim(self) -> bool {
@@ -67,8 +72,10 @@ pub struct Grid {
 
 impl Grid {
     pub fn cells(&self) -> Cells {
-        let count = |test: fn(Had) -> bool| self.had.iter().filter(|had| test(**had)).count() as u32;
-        Cells { covered: count(Had::is_covered), rim: count(Had::is_rim) }
+        Cells {
+            covered: self.had.iter().filter(|had| had.is_covered()).count() as u32,
+            rim: self.had.iter().filter(|had| had.is_rim()).count() as u32,
+        }
     }
 
     /// The area of so many cells, as the original has it.
@@ -108,13 +115,12 @@ pub fn grid(
     for corners in triangles(vertices, ids, axes) {
         let columns = reached(corners.map(|corner| corner[0]), u[0], sides[0], nx);
         for row in reached(corners.map(|corner| corner[1]), v[0], sides[1], ny) {
-            for column in columns.clone() {
+            let cells = &mut had[row * nx..][columns.clone()];
+            for (column, had) in columns.clone().zip(cells) {
                 let centre = [u[0] + (column as f32 + 0.5) * sides[0], v[0] + (row as f32 + 0.5) * sides[1]];
-                match test(centre, corners) {
-                    Place::Outside => {}
-                    Place::Edge => had[row * nx + column].edge += 1,
-                    Place::Inside => had[row * nx + column].inside += 1,
-                }
+                let place = test(centre, corners);
+                had.edge += (place == Place::Edge) as u16;
+                had.inside += (place == Place::Inside) as u16;
             }
         }
     }
@@ -135,9 +141,9 @@ fn triangles<'a>(vertices: &'a [f32], ids: &'a [u32], axes: [usize; 2]) -> impl 
 }
 
 /// The columns or rows of a triangle's box, clamped into the grid.
-fn reached([a, b, c]: [f32; 3], low: f32, side: f32, most: usize) -> std::ops::RangeInclusive<usize> {
+fn reached([a, b, c]: [f32; 3], low: f32, side: f32, most: usize) -> Range<usize> {
     let place = |x: f32| (((x - low) / side).floor() as isize).clamp(0, most as isize - 1) as usize;
-    place(a.min(b).min(c))..=place(a.max(b).max(c))
+    place(a.min(b).min(c))..place(a.max(b).max(c)) + 1
 }
 
 // ---- the footprints of a mesh
@@ -153,7 +159,7 @@ pub fn reach(vertices: &[f32], axis: usize) -> [f32; 2] {
 }
 
 /// The z, y and x footprints of a mesh in its own box, as the original's prism takes them: none where the box is flat.
-pub fn grids(vertices: &[f32], ids: &[u32], test: fn(Point, [Point; 3]) -> Place) -> [Option<Grid>; 3] {
+pub fn grids(vertices: &[f32], ids: &[u32], test: impl Fn(Point, [Point; 3]) -> Place + Copy) -> [Option<Grid>; 3] {
     let reaches = [0, 1, 2].map(|axis| reach(vertices, axis));
     let flat = reaches.iter().any(|[low, high]| low >= high);
     AXES.map(|axes| {

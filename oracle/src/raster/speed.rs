@@ -90,9 +90,8 @@ pub fn with_rim(Scene { vertices, ids, axes, u, v }: &Scene) -> (f32, Cells) {
                 let d3 = (px - ax) * (cy - ay) - (cx - ax) * (py - ay);
                 let below = d1 < 0.0 || d2 < 0.0 || d3 < 0.0;
                 let above = d1 > 0.0 || d2 > 0.0 || d3 > 0.0;
-                if !(below && above) {
-                    *mark = (*mark).max(if d1 == 0.0 || d2 == 0.0 || d3 == 0.0 { 1 } else { 2 });
-                }
+                let edge = d1 == 0.0 || d2 == 0.0 || d3 == 0.0;
+                *mark = (*mark).max(if below && above { 0 } else { 2 - edge as u8 });
             }
         }
     }

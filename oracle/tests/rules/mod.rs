@@ -78,7 +78,7 @@ pub const WRONG_CELLS: [(&str, fn(&Grid) -> Cells); 6] = [
         ..grid.cells()
     }),
     ("rim cells once for each triangle", |grid| Cells {
-        rim: grid.had.iter().filter(|had| had.is_rim()).map(|had| had.edge).sum(),
+        rim: grid.had.iter().filter(|had| had.is_rim()).map(|had| had.edge as u32).sum(),
         ..grid.cells()
     }),
 ];

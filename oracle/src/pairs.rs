@@ -150,7 +150,7 @@ impl Count {
         differ.iter().zip(&mut self.free).for_each(|(differ, times)| *times += *differ as u64);
         let some = |test: fn(usize) -> bool| FREE.iter().zip(differ).any(|(word, differ)| differ && test(*word));
         let is_rim = |word: usize| word > CELLS && (word - CELLS) % 2 == 1;
-        let is_covered = |word: usize| word >= CELLS && (word - CELLS) % 2 == 0;
+        let is_covered = |word: usize| word >= CELLS && (word - CELLS).is_multiple_of(2);
         self.covered += some(is_covered) as u64;
         self.rim += some(is_rim) as u64;
         self.rim_alone += (some(is_rim) && !some(is_covered) && !some(|word| word < CELLS)) as u64;

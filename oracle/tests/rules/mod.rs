@@ -3,6 +3,7 @@
 use mowfrost_oracle::raster::cells::{by_values, place, values, Cells, Grid, Had, Place, Point};
 
 type Test = fn(Point, [Point; 3]) -> Place;
+type Count = fn(&Grid) -> Cells;
 
 fn both_signs(d: [f32; 3]) -> bool {
     d.iter().any(|&d| d > 0.0) && d.iter().any(|&d| d < 0.0)
@@ -59,7 +60,7 @@ fn count(grid: &Grid, test: impl Fn(Had) -> bool) -> u32 {
     grid.had.iter().filter(|had| test(**had)).count() as u32
 }
 
-pub const WRONG_CELLS: [(&str, fn(&Grid) -> Cells); 6] = [
+pub const WRONG_CELLS: [(&str, Count); 6] = [
     ("on one triangle's edge and inside another is rim", |grid| Cells {
         rim: count(grid, |had| had.edge > 0),
         ..grid.cells()

@@ -1,5 +1,6 @@
-/* The takeoff of a cube from C: its record in words, what is left out where ids are wrong, and how each sort of bad input
- * is refused. What everything means stands in include/mowfrost.h; how this is compiled and run, in examples/README.md. */
+/* The takeoff of a cube from C: its record in words, what is left out where ids are wrong and how much of its footprints
+ * then rests on edges, and how each sort of bad input is refused. What everything means stands in include/mowfrost.h; how
+ * this is compiled and run, in examples/README.md. */
 #include <mowfrost.h>
 
 #include <math.h>
@@ -65,6 +66,15 @@ static void print_left_out(const char *what)
                used + out_of_range + slivers, out_of_range, slivers);
 }
 
+/* The footprints of an open shell; nothing of any other. */
+static void print_cells(const char *what)
+{
+    if (record[0] == 1)
+        printf("%s: cells covered, on a rim: along z %u, %u; along y %u, %u; along x %u, %u\n", what,
+               (unsigned)record[20], (unsigned)record[21], (unsigned)record[22], (unsigned)record[23],
+               (unsigned)record[24], (unsigned)record[25]);
+}
+
 /* An answer in words. A refusal leaves the record, which held 77 in every word, as it was. */
 static void print_answer(const char *what, uint32_t answer)
 {
@@ -88,6 +98,7 @@ int main(void)
     }
     print_record();
     print_left_out("the cube");
+    print_cells("the cube");
     printf("pieces: %u\n", (unsigned)mf_pieces(ids, LENGTH(ids), work, LENGTH(work)));
 
     /* The last id of the first triangle names no vertex: there are eight. And the second triangle has no area. */
@@ -95,8 +106,10 @@ int main(void)
     memcpy(wrong, ids, sizeof wrong);
     wrong[2] = 8;
     wrong[4] = wrong[3];
-    if (ask(vertices, wrong, LENGTH(wrong), 1.0f, 0, LENGTH(work)) == 0)
+    if (ask(vertices, wrong, LENGTH(wrong), 1.0f, 0, LENGTH(work)) == 0) {
         print_left_out("the cube with two wrong ids");
+        print_cells("the cube with two wrong ids");
+    }
 
     float spoilt[LENGTH(vertices)];
     memcpy(spoilt, vertices, sizeof spoilt);

@@ -97,11 +97,23 @@ uint32_t mf_pieces(const uint32_t *ids, size_t ids_len, uint32_t *work, size_t w
  *
  * Words 17 to 19 add up to ids_len / 3, with 3 ids and 9 vertex floats or more. The flags change none of them.
  *
+ * Beside the record stand the cells of the three footprints that the prism bound of an open shell is made of; where the
+ * mesh is closed or degenerate all six are 0. A footprint is a raster of up to 256 by 256 cells over the box, seen along
+ * an axis. A cell is covered where its centre is inside some triangle or on an edge of one, and a rim cell where it is
+ * covered and inside none. The three values of the point test decide, in f32 and not by exact geometry: outside where
+ * they have both signs, else on an edge where one is zero, else inside.
+ *
+ *   20  along z (over x and y): covered cells   21  of them rim cells
+ *   22  along y (over x and z): covered cells   23  of them rim cells
+ *   24  along x (over y and z): covered cells   25  of them rim cells
+ *
+ * Neither the flags nor the unit change any of them.
+ *
  * With 3 ids and 9 vertex floats or more, areas of MF_WORK_WORDS, MF_RASTER_BYTES and MF_SURFACE_FLOATS elements are
  * asked for. A record leaves 0 in so many work words and raster bytes, and its rows at the front of the surface area,
  * four floats each: area, nx, ny, nz, by falling area, then by rising nx, ny, nz. With fewer ids or floats no area is
  * asked for and none is touched: words 0 and 2 are 2, word 3 is the defect, word 14 is 1, all others are 0. */
-#define MF_RECORD_WORDS 20
+#define MF_RECORD_WORDS 26
 #define MF_RASTER_BYTES 65536u
 #define MF_WORK_WORDS(vertices_len, ids_len) (5 * (ids_len) + 4 * ((ids_len) / 3) + 8 * ((vertices_len) / 3))
 #define MF_SURFACE_FLOATS(ids_len) (4 * ((ids_len) / 3))

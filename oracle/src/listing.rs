@@ -19,13 +19,25 @@ pub fn listing(bytes: &[u8]) -> (String, Exception) {
 }
 
 /// The text that `replay` has to print for a file: its listing, and where the file could be read, also with a refusal of
-/// the mesh, a line with what the routines on ids answer, and the refusal of the same mesh with one work word less.
+/// the mesh, a line with what the routines on ids answer, the refusal of the same mesh with one work word less, and where there is a
+/// record the cells beside it.
 pub fn replayed(bytes: &[u8]) -> (String, Exception) {
     let (mut text, exception) = listing(bytes);
     if let Ok(mesh) = file::read(bytes) {
-        text += &format!("{} short {}\n", routines(&mesh.ids), one_word_short(&mesh));
+        text += &format!("{} short {}{}\n", routines(&mesh.ids), one_word_short(&mesh), footprints(&mesh));
     }
     (text, exception)
+}
+
+/// Covered and rim cells of the z, y and x footprints; nothing of a mesh that is refused.
+fn footprints(mesh: &MeshFile) -> String {
+    match compute(mesh, Lent::exactly(mesh.vertices.len(), mesh.ids.len())) {
+        Answer::Refused(_) => String::new(),
+        Answer::Record(record, _) => {
+            let [z, y, x] = record.cells.map(|cells| format!("{} {}", cells.covered, cells.rim));
+            format!(" pairs {z} {y} {x}")
+        }
+    }
 }
 
 /// 0 for a record: the zero record asks for no words.

@@ -29,7 +29,8 @@ oracle: the unchanged Rust original, asked in document 01's words
   oracle replayed              standard input as for 'listing'; prints what 'replay' has to print (crates/replay/stdout):
                                each listing and, where the file could be read, 'chain B O net L Z manifold M winding W short R':
                                boundary-free, over-incident, largest face sum, all sums 0, the two answers, and the refusal
-                               of the mesh with one work word less (0 for a record)
+                               of the mesh with one work word less (0 for a record); where the mesh has a record, behind it
+                               'pairs C R C R C R': covered and rim cells of the z, y and x footprints
 
 Against the program:
 
@@ -55,26 +56,31 @@ MOWFROST_PORT names a folder with a libcapi.a and a libprobe.a of its kind when 
   oracle weld N                the weld on large meshes and on N by chance: new ids, every word of the lent part, and that
                                vertices and ids are as they were; then ε
   oracle speed weld            milliseconds a weld
-  oracle raster N              the point test on N points, the footprint on large meshes and on N by chance: its bits and
-                               every byte of the lent raster, and that vertices and ids are as they were
-  oracle speed raster          milliseconds for the three footprints of a mesh
+  oracle raster N              the point test on N points: outside, on the edge or inside. The footprint on large meshes and on
+                               N by chance: its bits, its covered and rim cells, every byte of the lent raster, and that
+                               vertices and ids are as they were. The edge and the rim are compared with a plain reference,
+                               which has to agree with the original where that has an answer; how many cells and scenes had
+                               what is counted
+  oracle speed raster          milliseconds for the three footprints of a mesh, beside the original and beside a plain form in
+                               Rust that counts covered and rim cells
   oracle compute N             the record on large meshes, on lengths about the limit and on N by chance of every kind in
                                turn, over areas that are exact, one short, longer and far too short: refusals, all words
                                of the record, every row and every place of the areas, and that the mesh is as it was; floats
                                by their bits, with NaNs of all sorts wherever one has to stay, which are counted; meshes
                                near the one exception are counted and compared by document 01's exact form; words 17 to 19,
-                               how many triangles are used, out of range and slivers, are compared with a plain reference,
-                               and the meshes that have some of each are counted; last line 'A agree, D differ'
+                               how many triangles are used, out of range and slivers, and 20 to 25, the cells of the three
+                               footprints of an open shell, are compared with plain references, and the meshes and
+                               footprints that have some of each are counted; last line 'A agree, D differ'
   oracle moves N               demand 3 on N pairs of every kind in turn, a whole-number mesh and the same moved by whole
                                numbers, over areas as for 'compute' that hold the same before both calls: the two answers,
                                all words of the record, every place of the areas, that whatever has to stay did, and that
                                whatever has to be cleared is 0; of two open shells best volume, method, trust and bound
-                               may differ, and how often they do is counted; so are pairs with an id out of range and with
-                               slivers; last line 'A agree, D differ'
+                               and the cells of the footprints may differ, and how often they do is counted; so are pairs
+                               with an id out of range and with slivers; last line 'A agree, D differ'
   oracle glove N               02's A9 on large meshes, on lengths about the limit and on N by chance of every kind in turn:
                                a mesh and the same with the last two ids of every triangle swapped, over areas as for
                                'moves'. The volume is negated, top and bottom have changed places, the rows are turned over
-                               and in order, and all else is the same; of two open shells the four words may differ as for
+                               and in order, and all else is the same; of two open shells the same words may differ as for
                                'moves', and how often they do is counted; so are pairs with no volume, with a top and a
                                bottom above 0 that differ, and with rows of equal area in another order. Then each id
                                routine on the same ids, both ways round, over areas as for 'ids'; last line 'A agree, D

@@ -2,8 +2,8 @@
 //! and left, and whether the law holds. What a call has to leave or to clear is also held to what was there before and
 //! to 0, so that both cannot spoil it alike. `moves` and `glove` have the meshes and the laws.
 
-use crate::compute::areas::{Left, Lending, Written, ROWS, WORDS};
-use crate::compute::compare::{choices, is_zero_record, Call, Port, Tally, UNKNOWN_FLAGS};
+use crate::compute::areas::{Left, Lending, Written, CELLS, ROWS, WORDS};
+use crate::compute::compare::{choices, is_zero_record, Call, Port, Tally, OPEN_SHELL, UNKNOWN_FLAGS};
 use crate::compute::nans::{Nans, Stayed};
 use crate::counts::{Counts, Met};
 use crate::file::MeshFile;
@@ -61,9 +61,6 @@ fn written(answer: u32, mesh: &MeshFile, record: &[u32; WORDS]) -> Written {
     Written { record: WORDS, work, raster, surfaces: 4 * record[ROWS] as usize }
 }
 
-/// The quality of an open shell, word 0.
-const OPEN: u32 = 1;
-
 impl Outcome {
     fn of(port: Port, mesh: &MeshFile, pair: &Pair, lending: &mut Lending) -> Outcome {
         let (areas, record) = lending.lend(mesh, pair.lent);
@@ -78,12 +75,13 @@ impl Outcome {
     }
 
     fn is_open(&self) -> bool {
-        self.answer == 0 && self.left.record()[0] == OPEN
+        self.answer == 0 && self.left.record()[0] == OPEN_SHELL
     }
 }
 
-/// The words of the record that may differ where both shells are open: best volume, method, trust and bound.
-pub const FREE: [usize; 4] = [13, 2, 1, 15];
+/// The words that may differ where both shells are open: best volume, method, trust and bound, and beside the record the covered and
+/// rim cells of the three footprints (02, A3).
+pub const FREE: [usize; 10] = [13, 2, 1, 15, 20, 21, 22, 23, 24, 25];
 
 /// Those that may differ in these two. On a refusal the words are the caller's own, and none of them may, whatever word
 /// 0 was.
@@ -109,8 +107,12 @@ pub struct Count {
     pub stayed: Stayed,
     /// What A1's counts are in the full records of the pairs that agree, by what came back.
     pub met: Met,
-    /// Of the open pairs that agree: in how many best volume, method, trust and bound differ.
-    pub free: [u64; 4],
+    /// Of the open pairs that agree: in how many each free word differs.
+    pub free: [u64; FREE.len()],
+    /// In how many some covered number differs, in how many some rim number, and in how many rim numbers and no other word.
+    pub covered: u64,
+    pub rim: u64,
+    pub rim_alone: u64,
     /// The first that differ, for a look.
     pub shown: Vec<String>,
 }
@@ -139,8 +141,19 @@ impl Count {
         for Outcome { answer, zero_record, nans: [surfaces, vertices], .. } in [&here, &there] {
             self.stayed.add(*answer, *zero_record, *surfaces, *vertices);
         }
-        FREE.iter().zip(&mut self.free).for_each(|(&word, times)| *times += (one[word] != other[word]) as u64);
+        self.add_free(one, other);
         Some([here, there])
+    }
+
+    fn add_free(&mut self, one: [u32; WORDS], other: [u32; WORDS]) {
+        let differ = FREE.map(|word| one[word] != other[word]);
+        differ.iter().zip(&mut self.free).for_each(|(differ, times)| *times += *differ as u64);
+        let some = |test: fn(usize) -> bool| FREE.iter().zip(differ).any(|(word, differ)| differ && test(*word));
+        let is_rim = |word: usize| word > CELLS && (word - CELLS) % 2 == 1;
+        let is_covered = |word: usize| word >= CELLS && (word - CELLS).is_multiple_of(2);
+        self.covered += some(is_covered) as u64;
+        self.rim += some(is_rim) as u64;
+        self.rim_alone += (some(is_rim) && !some(is_covered) && !some(|word| word < CELLS)) as u64;
     }
 
     fn show(&mut self, why: &str, pair: &Pair) {
@@ -166,17 +179,22 @@ impl Count {
         self.tally.join(&other.tally);
         self.stayed.join(&other.stayed);
         self.met.join(&other.met);
-        (0..4).for_each(|i| self.free[i] += other.free[i]);
+        (0..FREE.len()).for_each(|i| self.free[i] += other.free[i]);
+        (self.covered, self.rim) = (self.covered + other.covered, self.rim + other.rim);
+        self.rim_alone += other.rim_alone;
     }
 
     /// What the pairs that agree came to, and what else there is to count behind it.
     pub fn reached(&self, also: &[(&str, u64)]) -> String {
-        let [best, method, trust, bound] = self.free;
+        let [best, method, trust, bound, ..] = self.free;
         let own = [
             ("open with another best volume", best),
             ("open with another method", method),
             ("open with another trust", trust),
             ("open with another bound", bound),
+            ("open with other covered cells", self.covered),
+            ("open with other rim cells", self.rim),
+            ("open with other rim cells alone", self.rim_alone),
             ("with an id out of range", self.met.range),
             ("with a sliver", self.met.sliver),
         ];

@@ -107,19 +107,27 @@ mod linked {
     }
 
     pub fn raster(n: u64) -> io::Result<ExitCode> {
-        use raster::compare::{on_chance, on_large, on_points, Count, POINT_TEST, PORT};
-        let counts =
-            [("points", on_points(POINT_TEST, n)), ("large", on_large(PORT)), ("by chance", on_chance(PORT, n))];
-        sum(counts.into_iter().map(|(on, Count { agree, differ, nothing, some, nan, untaken, shown })| -> Line {
+        use raster::compare::{on_chance, on_large, on_points, Count, Points, POINT_TEST, PORT};
+        let Points { agree, differ, places: [outside, edge, inside], outside_with_zero, nan, shown } =
+            on_points(POINT_TEST, n);
+        let line = format!(
+            "points    {agree:>9} agree, {differ} differ ({outside} outside, {outside_with_zero} of them with a zero, {edge} on the \
+             edge, {inside} inside, {nan} of these two with a NaN)"
+        );
+        let counts = [("large", on_large(PORT)), ("by chance", on_chance(PORT, n))];
+        let scenes = counts.into_iter().map(|(on, count)| -> Line {
+            let Count { agree, differ, nothing, some, nan, untaken, told, met, shown } = count;
             let line = format!(
-                "{on:<9} {agree:>9} agree, {differ} differ ({nothing} answer 0 or no, {some} more or yes, {nan} not a number, \
-                 {untaken} not taken)"
+                "{on:<9} {agree:>9} agree, {differ} differ ({nothing} answer 0, {some} more, {nan} not a number, {untaken} not \
+                 taken; in {told} the original's area tells its count; {})",
+                met.told()
             );
             (line, agree, differ, shown)
-        }))
+        });
+        sum([(line, agree, differ, shown)].into_iter().chain(scenes))
     }
 
-    /// A line a kind, one for all kinds, the NaNs that stayed, what the counts were of, then the sums.
+    /// A line a kind, one for all kinds, the NaNs that stayed, what the counts and the cells were of, then the sums.
     pub fn compute(n: u64) -> io::Result<ExitCode> {
         use compute::compare::{all, Count, PORT};
         let line = |on: &str, count: &Count| reached(on, count.agree, count.differ, &count.reached());
@@ -128,7 +136,8 @@ mod linked {
             show(&mut out, &line(on, &count), &[&count.shown[..], &count.noted].concat())?;
             sums.join(&count);
         }
-        show(&mut out, &line("all kinds", &sums), &[sums.stayed.told(), sums.counted.told()])?;
+        let [counts, cells] = sums.counted.told();
+        show(&mut out, &line("all kinds", &sums), &[sums.stayed.told(), counts, cells])?;
         end(&mut out, sums.agree, sums.differ)
     }
 
@@ -256,8 +265,14 @@ mod linked {
     }
 
     pub fn speed_raster() -> io::Result<ExitCode> {
-        let rows = raster::speed::rows();
-        race("triangles", rows.iter().map(|row| (row.on, row.triangles, row.port, row.rust)))
+        let mut out = io::stdout().lock();
+        writeln!(out, "| mesh | triangles | port, ms | Rust, ms | ratio | Rust with rim, ms | ratio |")?;
+        writeln!(out, "|---|---|---|---|---|---|---|")?;
+        for raster::speed::Row { on, triangles, port, rust, rim } in raster::speed::rows() {
+            let (alone, with) = (port / rust, port / rim);
+            writeln!(out, "| {on} | {triangles} | {port:.3} | {rust:.3} | {alone:.2} | {rim:.3} | {with:.2} |")?;
+        }
+        Ok(ExitCode::SUCCESS)
     }
 
     pub fn speed_compute() -> io::Result<ExitCode> {

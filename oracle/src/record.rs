@@ -1,10 +1,11 @@
 //! The record as documents 01 and 02 promise it: the original's answer, with the refusals, the flags and the exact form of
-//! the one exception around it, and beside it A1's counts, which the original does not have.
+//! the one exception around it, and beside it A1's counts and A3's cells, which the original does not have.
 
 use crate::counts::{counts, Counts};
 use crate::exception::{cube_exceeds, is_near};
 use crate::file::{Flags, MeshFile};
 use crate::mesh::{qto, ProductMesh};
+use crate::raster::cells::{footprints, Cells};
 
 /// At most so many vertex floats, and so many ids.
 pub const MOST: usize = 98_304;
@@ -13,6 +14,8 @@ pub const FARTHEST: f32 = 8_589_934_592.0;
 pub const LEAST_UNIT: f32 = 1.0 / 1_048_576.0;
 pub const GREATEST_UNIT: f32 = 16.0;
 pub const RASTER_BYTES: usize = 65_536;
+/// The quality of an open shell.
+pub const OPEN: &str = "open_shell";
 
 /// The lengths of the lent areas.
 #[derive(Clone, Copy, Debug)]
@@ -53,6 +56,8 @@ pub struct Record {
     pub prism: Option<f32>,
     /// Not the original's: by the plain reference.
     pub counts: Counts,
+    /// Beside the record: the cells of the z, y and x footprints, likewise by the reference.
+    pub cells: [Cells; 3],
     /// area, nx, ny, nz
     pub rows: Vec<[f32; 4]>,
 }
@@ -95,7 +100,7 @@ pub fn compute(mesh: &MeshFile, lent: Lent) -> Answer {
     let exception = settle_exception(&mut answer);
     let product = ProductMesh { clip_unapplied: mesh.flags.clip, profile_invalid: mesh.flags.profile() };
     qto::apply_product_flags(&mut answer, &product);
-    Answer::Record(Record::of(answer, counted(&mesh.vertices, &mesh.ids)), exception)
+    Answer::Record(Record::of(answer, &mesh.vertices, &mesh.ids), exception)
 }
 
 /// A zero record counts nothing.
@@ -107,15 +112,24 @@ fn counted(vertices: &[f32], ids: &[u32]) -> Counts {
     }
 }
 
+/// The cells of an open shell; no other takes a footprint.
+fn celled(quality: &str, vertices: &[f32], ids: &[u32]) -> [Cells; 3] {
+    if quality == OPEN {
+        footprints(vertices, ids)
+    } else {
+        Default::default()
+    }
+}
+
 /// The original's answer without flags and refusals, for callers that ask about the original alone.
 pub fn original(vertices: &[f32], ids: &[u32], unit: f32) -> Record {
-    Record::of(qto::compute(vertices, ids, unit), counted(vertices, ids))
+    Record::of(qto::compute(vertices, ids, unit), vertices, ids)
 }
 
 /// Best volume of an open shell once more, by document 01's words with 8s³ > p² in `powf`'s place.
 fn settle_exception(answer: &mut qto::MeshQto) -> Exception {
     let prism = answer.volume_prism_bound_m3;
-    if answer.mesh_quality != "open_shell" || prism < 1e-3 {
+    if answer.mesh_quality != OPEN || prism < 1e-3 {
         return Exception::Apart;
     }
     let (volume, aabb, surface) = (answer.volume_m3.abs(), answer.aabb_volume_m3, answer.surface_area_m2);
@@ -136,7 +150,7 @@ fn settle_exception(answer: &mut qto::MeshQto) -> Exception {
 }
 
 impl Record {
-    fn of(answer: qto::MeshQto, counts: Counts) -> Record {
+    fn of(answer: qto::MeshQto, vertices: &[f32], ids: &[u32]) -> Record {
         Record {
             quality: answer.mesh_quality,
             reliable: answer.volume_reliable,
@@ -153,7 +167,8 @@ impl Record {
             smallest: answer.smallest_surface_m2,
             best: answer.volume_best_m3,
             prism: Some(answer.volume_prism_bound_m3).filter(|p| !p.is_nan()),
-            counts,
+            counts: counted(vertices, ids),
+            cells: celled(answer.mesh_quality, vertices, ids),
             rows: answer.surfaces.iter().map(|s| [s.area_m2, s.nx, s.ny, s.nz]).collect(),
         }
     }

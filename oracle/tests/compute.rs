@@ -61,11 +61,15 @@ fn the_right_way_agrees_and_reaches_everything() {
         chance.reached()
     );
     assert!(chance.near > 100 && chance.otherwise > 0, "{}", chance.reached());
-    let (counted, told) = (&chance.counted, chance.counted.told());
+    let (counted, [told, celled]) = (&chance.counted, chance.counted.told());
     assert_eq!((counted.full, counted.zero), (chance.tally.verdicts.iter().sum(), chance.tally.zero));
     assert!(counted.met.all_used > 5_000 && counted.met.range > 1_000 && counted.met.sliver > 1_000, "{told}");
     assert!(counted.met.both > 200 && counted.met.none_used > 500, "{told}");
     assert!(counted.limit.iter().all(|&times| times > 10), "{told}");
+    assert_eq!(counted.open, chance.tally.verdicts[1]);
+    let cells = counted.cells;
+    assert!(cells.footprints > 20_000 && cells.rim > 2_000 && cells.rim_alone > 200, "{celled}");
+    assert!(cells.of_two > 300 && cells.of_more > 300 && cells.inside_another > 500, "{celled}");
     let Stayed { refused, zero, behind, vertices } = chance.stayed;
     for nans in [refused, zero, behind, vertices] {
         assert!(nans.signalling > 10_000 && nans.quiet > 10_000, "{}", chance.stayed.told());

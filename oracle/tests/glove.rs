@@ -1,5 +1,5 @@
 //! The glove (02, A9) as a property: the port and the original have it, a port that has not is found by what is wrong,
-//! and one that differs in nothing but the four exceptions is not. The faults are planted in the port where its library
+//! and one that differs in nothing but the exceptions is not. The faults are planted in the port where its library
 //! is linked, else in the original. What asks the port alone is ignored, and says so, where its static libraries were
 //! not built.
 
@@ -18,8 +18,8 @@ mod pairs;
 mod ways;
 
 use pairs::{
-    assert_found_wherever_it_shows, differing, left, quieted, stored, with, Fault, BASE, BEST, BOUND, EXCEPTIONS,
-    METHOD, ORIGINAL, RELIABLE,
+    along, assert_found_wherever_it_shows, differing, left, quieted, stored, with, Fault, BASE, BEST, BOUND, COVERED,
+    EXCEPTIONS, METHOD, ORIGINAL, RELIABLE, RIM,
 };
 use ways::{Way, RIGHT};
 
@@ -55,6 +55,8 @@ fn so_is_the_original_and_everything_is_reached() {
     let mut count = sum(on_chance(ORIGINAL, 8_000));
     assert_eq!((count.pairs.agree, count.pairs.differ), (8_000, 0), "{:?}", count.pairs.shown);
     count.join(&on_limits(ORIGINAL));
+    // the last kind is made for method and trust
+    count.join(&on_kind(ORIGINAL, kinds().len() - 1, 40_000));
     let [no_volume, slopes, reordered] = [count.no_volume, count.slopes, count.reordered];
     assert!([no_volume, slopes, reordered].iter().all(|&times| times > 400), "{}", count.reached());
     let told = count.reached();
@@ -64,6 +66,7 @@ fn so_is_the_original_and_everything_is_reached() {
     assert!(one > 50 && two > 200 && three > 800 && four > 200 && five > 200, "{told}");
     assert!(count.tally.zero > 200 && count.tally.verdicts.iter().all(|&times| times > 300), "{told}");
     assert!(count.free.iter().all(|&times| times > 1), "{told}");
+    assert!(count.covered > 20 && count.rim > 20 && count.rim_alone > 5, "{told}");
     assert_eq!(count.met.meshes, count.tally.verdicts.iter().sum());
     let counted = [count.met.all_used, count.met.range, count.met.sliver, count.met.both, count.met.none_used];
     assert!(counted.iter().all(|&times| times > 50), "{}", count.met.told());
@@ -211,6 +214,16 @@ fn planted_faults_are_found_by_their_reasons() {
                 given.record[14] = 0;
             }
         }),
+        ("a covered cell of a closed shell", "record 20 is ", &|mesh, given| {
+            if given.came_to(mesh) == "closed" && is_turned(mesh) {
+                given.record[COVERED] = 1;
+            }
+        }),
+        ("a rim cell of a degenerate mesh", "record 21 is ", &|mesh, given| {
+            if given.came_to(mesh) == "degenerate" {
+                given.record[RIM] = way_round(mesh);
+            }
+        }),
         ("the profile of one alone", "record 3 is ", &|mesh, given| {
             if given.is_full(mesh) && is_turned(mesh) {
                 given.record[3] = 0;
@@ -316,16 +329,16 @@ fn the_way_round_is_found_wherever_it_shows() {
     }
 }
 
-/// Each of the four alone, and all at once: every pair agrees, and those in which they differ are counted.
+/// Each of them alone, and all at once: every pair agrees, and those in which they differ are counted.
 #[test]
-fn the_four_exceptions_of_open_shells_agree() {
+fn the_exceptions_of_open_shells_agree() {
     for differ in EXCEPTIONS.map(|word| vec![word]).into_iter().chain([EXCEPTIONS.to_vec()]) {
         let fault: Fault = &|mesh, given| {
             if given.came_to(mesh) == "open" {
                 differ.iter().for_each(|&word| given.record[word] ^= way_round(mesh));
             }
         };
-        let count = sum(on_chance(&with(fault), 4_000)).pairs;
+        let count = sum(on_chance(&with(fault), 2_000)).pairs;
         assert_eq!(count.differ, 0, "{:?}", count.shown);
         for (word, times) in EXCEPTIONS.iter().zip(count.free) {
             let many = times > count.tally.verdicts[1] * 3 / 8;
@@ -419,7 +432,7 @@ fn the_pairs_have_what_they_are_for() {
 
 // ---- the stored pairs
 
-const STORED: [&str; 7] = ["closed", "rows", "degenerate", "left_out", "refused", "bound", "trust"];
+const STORED: [&str; 8] = ["closed", "rows", "degenerate", "left_out", "refused", "bound", "trust", "rim"];
 
 fn both(name: &str) -> [MeshFile; 2] {
     ["here", "there"].map(|place| stored(&format!("glove_{name}_{place}")))
@@ -456,7 +469,7 @@ fn the_stored_pairs_show_the_law() {
     let [here, there] = records("degenerate");
     assert!(here == there && here.0[0] == 2 && number(&here.0, TOP) == 2.0 && number(&here.0, BOTTOM) == 2.0);
     let [here, there] = records("left_out");
-    assert_eq!((here.0[17..].to_vec(), there.0[17..].to_vec()), (vec![2, 1, 1], vec![2, 1, 1]));
+    assert_eq!((here.0[17..20].to_vec(), there.0[17..20].to_vec()), (vec![2, 1, 1], vec![2, 1, 1]));
     let nan = |mesh: &MeshFile| mesh.vertices.iter().any(|x| x.is_nan());
     assert!(both("refused").iter().all(nan));
 }
@@ -475,12 +488,16 @@ fn each_exception_is_needed_of_the_port() {
     exceptions(PORT);
 }
 
-/// In each pair so many of the four differ, and beside them nothing but the volume's sign and the rows' normals: of the
+/// A triangle with its corners at thirds.
+fn third(k: [u8; 9]) -> MeshFile {
+    plain(1.0, &k.map(|k| k as f32 / 3.0), &[0, 1, 2])
+}
+
+/// In each pair so many of the four differ, and beside them nothing but cells, the volume's sign and the rows' normals: of
 /// two that are stored, of one of them with a clip not applied, where trust is the same, and of one whose volume is
-/// above both bounds.
+/// above both bounds. Then pairs in which of all that may differ only cells do.
 fn exceptions(port: Port) {
     let clipped = |mesh: MeshFile| MeshFile { flags: Flags { clip: true, defect: 0 }, ..mesh };
-    let third = |k: [u8; 9]| plain(1.0, &k.map(|k| k as f32 / 3.0), &[0, 1, 2]);
     let above = third([2, 2, 1, 0, 1, 2, 3, 0, 3]);
     let (cells, bounds) = (1.0 / 65_536.0, [0.020_236_207, 0.019_766_236]);
     let volume = 0.020_833_334;
@@ -499,9 +516,24 @@ fn exceptions(port: Port) {
         let (one, other) = (left(port, &here), left(port, &there));
         let mut words = [differ, &[VOLUME]].concat();
         words.sort_unstable();
-        assert_eq!(differing(&one.0, &other.0), words, "{name}");
+        let differ = differing(&one.0, &other.0);
+        assert_eq!(differ.iter().copied().filter(|&word| word < COVERED).collect::<Vec<_>>(), words, "{name}");
+        assert!(differ.iter().any(|&word| word >= COVERED), "no other bound without other cells: {name}");
         assert!(one.0[VOLUME] == other.0[VOLUME] ^ SIGN && one.1[0] == other.1[0] && one.2 == other.2, "{name}");
         let number = |word: usize| [one.0[word], other.0[word]].map(f32::from_bits);
         assert_eq!((number(BOUND), number(BEST)), (bound, best), "{name}");
+    }
+    let [here, there] = both("rim").map(|mesh| left(port, &mesh).0);
+    assert_eq!(differing(&here, &there), [VOLUME, RIM, RIM + 4]);
+    assert_eq!(here[COVERED..], [32_811, 32, 32_896, 256, 22_016, 288]);
+    assert_eq!(there[COVERED..], [32_811, 0, 32_896, 256, 22_016, 256]);
+    // one footprint's rim alone, and its covered cells and rim, with nothing of the four; on any axes, and without volume
+    for (axes, more) in [([0, 1, 2], 0), ([0, 2, 1], 2), ([2, 0, 1], 4)] {
+        for (k, words) in [([3, 3, 3, 2, 0, 1, 0, 0, 0], &[RIM][..]), ([0, 3, 3, 3, 1, 0, 0, 0, 0], &[COVERED, RIM])] {
+            let mesh = along(&third(k), axes);
+            let [one, other] = [&mesh, &reversed(&mesh)].map(|mesh| left(port, mesh).0);
+            let differ: Vec<_> = differing(&one, &other).into_iter().filter(|&word| word != VOLUME).collect();
+            assert!(differ.iter().copied().eq(words.iter().map(|word| word + more)), "{k:?}: {differ:?}");
+        }
     }
 }

@@ -1,5 +1,5 @@
 //! Demand 3 as a property: the port and the original have it, a port that shows the place anywhere is found, and one that
-//! differs in nothing but the four exceptions is not. The faults are planted in the port where its library is linked, else in
+//! differs in nothing but the exceptions is not. The faults are planted in the port where its library is linked, else in
 //! the original. What asks the port alone is ignored, and says so, where its static libraries were not built.
 
 use mowfrost_oracle::compute::compare::{Port, PORT, REFUSED};
@@ -13,8 +13,8 @@ mod pairs;
 mod ways;
 
 use pairs::{
-    assert_found_wherever_it_shows, differing, left, quieted, stored, with, Fault, BASE, BEST, BOUND, EXCEPTIONS,
-    METHOD, ORIGINAL, RELIABLE,
+    along, assert_found_wherever_it_shows, differing, left, quieted, stored, with, Fault, BASE, BEST, BOUND, COVERED,
+    EXCEPTIONS, METHOD, ORIGINAL, RELIABLE, RIM,
 };
 use ways::{Way, RIGHT};
 
@@ -38,12 +38,16 @@ fn the_place_does_not_show_in_the_port() {
 
 #[test]
 fn nor_in_the_original_and_everything_is_reached() {
-    let count = sum(on_chance(ORIGINAL, 8_000));
+    let mut count = sum(on_chance(ORIGINAL, 8_000));
     assert_eq!((count.agree, count.differ), (8_000, 0), "{:?}", count.shown);
+    // the last kind has those that are too large, seldom
+    count.join(&on_kind(ORIGINAL, kinds().len() - 1, 20_000));
+    assert_eq!(count.differ, 0);
     let [one, two, three, four, five] = count.tally.refused;
     assert!(one > 0 && two > 200 && three > 800 && four == 0 && five > 200, "{}", count.reached(&[]));
     assert!(count.tally.zero > 200 && count.tally.verdicts.iter().all(|&times| times > 300), "{}", count.reached(&[]));
     assert!(count.free.iter().all(|&times| times > 3), "{}", count.reached(&[]));
+    assert!(count.covered > 100 && count.rim > 100 && count.rim_alone > 20, "{}", count.reached(&[]));
     assert_eq!(count.met.meshes, count.tally.verdicts.iter().sum());
     let counted = [count.met.all_used, count.met.range, count.met.sliver, count.met.both, count.met.none_used];
     assert!(counted.iter().all(|&times| times > 50), "{}", count.met.told());
@@ -68,7 +72,17 @@ fn is_far(mesh: &MeshFile) -> bool {
 
 #[test]
 fn planted_faults_are_found() {
-    let faults: [(&str, Fault); 20] = [
+    let faults: [(&str, Fault); 22] = [
+        ("a rim cell of a closed shell far out", &|mesh, given| {
+            if given.came_to(mesh) == "closed" && is_far(mesh) {
+                given.record[RIM] = 1;
+            }
+        }),
+        ("a cell of a degenerate mesh below zero", &|mesh, given| {
+            if given.came_to(mesh) == "degenerate" && first_x(mesh) < 0.0 {
+                given.record[COVERED] = 1;
+            }
+        }),
         ("a sliver more far out", &|mesh, given| {
             if given.is_full(mesh) && is_far(mesh) && given.record[17] > 0 {
                 (given.record[17], given.record[19]) = (given.record[17] - 1, given.record[19] + 1);
@@ -198,7 +212,7 @@ fn parity(mesh: &MeshFile) -> u32 {
 }
 
 /// In the answer, in a word of the record or at an end of an area, whatever a call comes to: the place is found, but for the
-/// four words of an open shell.
+/// free words of an open shell.
 #[test]
 fn the_place_is_found_wherever_it_shows() {
     for (of, kind) in CLASSES {
@@ -208,16 +222,16 @@ fn the_place_is_found_wherever_it_shows() {
     }
 }
 
-/// Each of the four alone, and all at once: every pair agrees, and those in which they differ are counted.
+/// Each of them alone, and all at once: every pair agrees, and those in which they differ are counted.
 #[test]
-fn the_four_exceptions_of_open_shells_agree() {
+fn the_exceptions_of_open_shells_agree() {
     for differ in EXCEPTIONS.map(|word| vec![word]).into_iter().chain([EXCEPTIONS.to_vec()]) {
         let fault: Fault = &|mesh, given| {
             if given.came_to(mesh) == "open" {
                 differ.iter().for_each(|&word| given.record[word] ^= parity(mesh));
             }
         };
-        let count = sum(on_chance(&with(fault), 4_000));
+        let count = sum(on_chance(&with(fault), 2_000));
         assert_eq!(count.differ, 0, "{:?}", count.shown);
         for (word, times) in EXCEPTIONS.iter().zip(count.free) {
             let many = times > count.tally.verdicts[1] * 3 / 8;
@@ -314,7 +328,14 @@ fn each_exception_is_needed_of_the_port() {
     exceptions_of_the_stored_pairs(PORT);
 }
 
-/// In each pair of `stored::places` so many of the four differ and nothing else.
+fn both(name: &str) -> [MeshFile; 2] {
+    ["here", "there"].map(|place| stored(&format!("place_{name}_{place}")))
+}
+
+/// The rim cells of all three footprints.
+const RIMS: [usize; 3] = [RIM, RIM + 2, RIM + 4];
+
+/// In each pair of `stored::places` so many of the exceptions differ and nothing else.
 fn exceptions_of_the_stored_pairs(port: Port) {
     let (half, most) = (257.0 / 512.0, 0.75);
     for (name, differ, best) in [
@@ -323,12 +344,32 @@ fn exceptions_of_the_stored_pairs(port: Port) {
         ("trust", &[RELIABLE, METHOD, BEST, BOUND], [half, 2.0 / 3.0]),
         ("clip", &[METHOD, BEST, BOUND], [half, 2.0 / 3.0]),
     ] {
-        let [here, there] = ["here", "there"].map(|place| stored(&format!("place_{name}_{place}")));
+        let [here, there] = both(name);
         assert_eq!(moved(&here, &there), Some([1 << 23, 1 << 23, 0]));
         let (one, other) = (left(port, &here), left(port, &there));
-        assert_eq!(differing(&one.0, &other.0), differ, "{name}");
+        // from above another half of the square; from the other sides all of it, and the rim is all of it there
+        assert_eq!(differing(&one.0, &other.0), [differ, &[COVERED], &RIMS].concat(), "{name}");
         assert!(one.1 == other.1 && one.2 == other.2, "{name}");
         let number = |word: usize| [one.0[word], other.0[word]].map(f32::from_bits);
         assert_eq!((number(BOUND), number(BEST)), ([half, most], best), "{name}");
+    }
+    for (name, by, differ, numbers) in [
+        ("rims", [1 << 23, 1 << 23, 0], &RIMS[..], [256, 65_536]),
+        ("rim", [-1 << 20, 0, 0], &[RIM], [0, 512]),
+        ("covered", [0, -1 << 16, 0], &[COVERED], [32_896, 32_768]),
+    ] {
+        let [here, there] = both(name);
+        assert_eq!(moved(&here, &there), Some(by));
+        let (one, other) = (left(port, &here), left(port, &there));
+        assert_eq!(differing(&one.0, &other.0), differ, "{name}");
+        assert!(one.1 == other.1 && one.2 == other.2, "{name}");
+        assert!(differ.iter().all(|&word| [one.0[word], other.0[word]] == numbers), "{name}");
+    }
+    // with other axes for x and y it is the other footprints' numbers, each alone
+    for (name, word) in [("rim", RIM), ("covered", COVERED)] {
+        for (axes, more) in [([0, 2, 1], 2), ([2, 0, 1], 4)] {
+            let [one, other] = both(name).map(|mesh| left(port, &along(&mesh, axes)).0);
+            assert_eq!(differing(&one, &other), [word + more], "{name}");
+        }
     }
 }

@@ -5,6 +5,7 @@ use mowfrost_oracle::file::{read, MeshFile, MOST};
 use mowfrost_oracle::frames;
 use mowfrost_oracle::listing::{listing, replayed};
 use mowfrost_oracle::pieces::pieces;
+use mowfrost_oracle::raster::cells::{grids, place, values, Cells, Place, Point};
 use mowfrost_oracle::reach::{Reach, WANTED};
 use mowfrost_oracle::record::{compute, Answer, Exception, Lent, Record};
 use mowfrost_oracle::sent::FULL;
@@ -40,7 +41,7 @@ fn everything_is_reached() {
 
 #[test]
 fn they_are_few_short_and_all_different() {
-    assert!((200..=450).contains(&STORED.len()), "{}", STORED.len());
+    assert!((200..=500).contains(&STORED.len()), "{}", STORED.len());
     let (bytes, text) = (framed().len(), answers().len());
     assert!(bytes <= 400 << 10 && text <= 400 << 10, "{bytes} and {text} bytes");
     let different: HashSet<_> = STORED.iter().map(|stored| &stored.bytes).collect();
@@ -196,6 +197,49 @@ fn triangles_are_counted() {
     );
 }
 
+/// What A3 counts, by hand: covered and rim cells from above, mostly of 256 by 256. Half of the square and its diagonal are 32,896.
+#[test]
+fn cells_are_counted() {
+    let from_above = |name: &str| {
+        let [Cells { covered, rim }, ..] = record(name).cells;
+        [covered, rim]
+    };
+    for (name, cells) in [
+        ("a3: one triangle", [32_896, 256]),
+        ("a3: a common edge of two", [65_536, 256]),
+        ("a3: a common edge of three", [65_536, 256]),
+        ("a3: a common edge, and a third over it", [65_536, 128]),
+        // 2 · 32,896 less what both have: a quarter, 128 cells of each long edge
+        ("a3: an edge through another's inside", [2 * 32_896 - 64 * 256 - 128, 256]),
+        ("a3: a triangle and its reverse", [32_896, 256]),
+        ("a3: squares", [65_536, 4 * 128]),
+        ("a3: no cell but on an edge", [256, 256]),
+        // two sides of the square and its diagonal, with one corner in common
+        ("edges through centres", [101 * 101, 3 * 101 - 2]),
+        ("the cube without 457", [65_536, 256]),
+        ("the cube", [0, 0]),
+        ("one triangle with all z equal", [0, 0]),
+        ("faces that cancel: 012 210 333", [0, 0]),
+        ("8 floats", [0, 0]),
+        ("glove_rim_here", [32_811, 32]),
+        ("glove_rim_there", [32_811, 0]),
+        ("place_rim_here", [16_384, 0]),
+        ("place_rim_there", [16_384, 512]),
+    ] {
+        assert_eq!(from_above(name), cells, "{name}");
+    }
+    // by the rule that a zero beside both signs is on the edge there would be more
+    let in_line = mesh("a3: in line with an edge");
+    let beyond = |p: Point, corners: [Point; 3]| match place(p, corners) {
+        Place::Outside if values(p, corners).contains(&0.0) => Place::Edge,
+        right => right,
+    };
+    let [right, wrong] =
+        [grids(&in_line.vertices, &in_line.ids, place), grids(&in_line.vertices, &in_line.ids, beyond)]
+            .map(|[z, ..]| z.expect("it is not flat").cells());
+    assert!(right == record("a3: in line with an edge").cells[0] && wrong.covered > right.covered);
+}
+
 /// What A2 joins, by hand.
 #[test]
 fn pieces_are_counted() {
@@ -244,13 +288,17 @@ fn the_last_line_has_the_answers() {
         assert!(text.starts_with(&listing(&stored.bytes).0));
         text.lines().last().unwrap_or("").to_string()
     };
-    assert_eq!(line("the cube"), "chain 1 0 net 1 0 manifold 1 winding 1 short 3");
-    assert_eq!(line("faces that cancel: 012 210 333"), "chain 1 0 net 0 1 manifold 1 winding 1 short 3");
-    assert_eq!(line("nine zeros"), "chain 0 0 net 0 1 manifold 1 winding 0 short 3");
-    assert_eq!(line("each face twice"), "chain 1 1 net 2 0 manifold 0 winding 0 short 3");
-    assert_eq!(line("one bad edge of 50"), "chain 0 0 net 1 0 manifold 0 winding 1 short 3");
-    assert_eq!(line("one bad edge of 49"), "chain 0 0 net 1 0 manifold 0 winding 0 short 3");
-    assert_eq!(line("1,536 ids, one triangle over and over"), "chain 0 1 net 512 0 manifold 0 winding 0 short 3");
+    let front = |name: &str| line(name).split(" pairs ").next().unwrap_or("").to_string();
+    assert_eq!(line("the cube"), "chain 1 0 net 1 0 manifold 1 winding 1 short 3 pairs 0 0 0 0 0 0");
+    assert_eq!(front("faces that cancel: 012 210 333"), "chain 1 0 net 0 1 manifold 1 winding 1 short 3");
+    assert_eq!(front("nine zeros"), "chain 0 0 net 0 1 manifold 1 winding 0 short 3");
+    assert_eq!(front("each face twice"), "chain 1 1 net 2 0 manifold 0 winding 0 short 3");
+    assert_eq!(front("one bad edge of 50"), "chain 0 0 net 1 0 manifold 0 winding 1 short 3");
+    assert_eq!(front("one bad edge of 49"), "chain 0 0 net 1 0 manifold 0 winding 0 short 3");
+    assert_eq!(front("1,536 ids, one triangle over and over"), "chain 0 1 net 512 0 manifold 0 winding 0 short 3");
+    // cells where there is a record
+    assert!(line("the cube without 457").ends_with(" short 3 pairs 65536 256 65536 256 65536 256"));
+    assert!(line("2 ids").ends_with(" short 0 pairs 0 0 0 0 0 0"));
     assert_eq!(line("a closed shell, unit and float bad"), "chain 1 0 net 1 0 manifold 1 winding 1 short 2");
     assert_eq!(line("a closed shell, float bad"), "chain 1 0 net 1 0 manifold 1 winding 1 short 3");
     // a file that could not be read has no ids

@@ -1,4 +1,4 @@
-"""examples/takeoff.c: it compiles without a warning, and prints document 01's cube, what is left out, and refusals."""
+"""examples/takeoff.c: it compiles without a warning, and prints document 01's cube, what is left out, cells, and refusals."""
 
 from __future__ import annotations
 
@@ -26,6 +26,7 @@ prism bound not computed
   4 m2 facing 1 0 0
 pieces: 1
 the cube with two wrong ids: 2 of 12 triangles left out: out of range 1, slivers 1
+the cube with two wrong ids: cells covered, on a rim: along z 65536, 256; along y 65536, 256; along x 65536, 256
 98,305 ids: refused 1, the record is as it was
 a unit of 17: refused 2, the record is as it was
 a work word short: refused 3, the record is as it was

@@ -6,8 +6,10 @@ use crate::random::Random;
 use crate::record::{Lent, MOST, RASTER_BYTES};
 
 /// The words of a record, and of them the number of rows.
-pub const WORDS: usize = 20;
+pub const WORDS: usize = 26;
 pub const ROWS: usize = 16;
+/// The first of the words that are beside the record: covered and rim cells of the z, y and x footprints.
+pub const CELLS: usize = 20;
 
 /// The slices of one call. Floats are in bits: there a NaN is a word like any other.
 pub struct Areas<'a> {
@@ -325,7 +327,7 @@ mod tests {
         found("surface -1", |all| all.surfaces.now[RIM - 1] = 0);
         found("surface 3", |all| all.surfaces.now[RIM + 3] = 0);
         found("record -1", |all| all.record.now[RIM - 1] = 0);
-        found("record 20", |all| all.record.now[RIM + WORDS] = 0);
+        found("record 26", |all| all.record.now[RIM + WORDS] = 0);
         let mut found = |place: &str, spoil: fn(&mut Lending)| {
             let found = left(spoil).wrong;
             assert!(found.len() == 1 && found[0].starts_with(&format!("{place} is ")), "{place}: {found:?}");

@@ -1,12 +1,12 @@
 //! `oracle compute N`: refusals, every word of the record, every row, every place of the three lent areas, and that the mesh that was
-//! passed is as it was. Floats are compared by their bits, a NaN's too, and the NaNs that had to stay are counted. The last three
-//! words, A1's counts, are held to the plain reference; all others are the original's.
+//! passed is as it was. Floats are compared by their bits, a NaN's too, and the NaNs that had to stay are counted. The last nine
+//! words, A1's counts and A3's cells, are held to the plain references; all others are the original's.
 
 use super::areas::{Areas, Fronts, Lending, WORDS};
 use super::capi;
+use super::counted::Counted;
 use super::meshes::{by_chance, kinds, large, limits};
 use super::nans::Stayed;
-use crate::counts::{lengths, Met, SHORTEST};
 use crate::file::{MeshFile, DEFECTS};
 use crate::random::Random;
 use crate::record::{compute, Answer, Exception, Lent, Record};
@@ -76,48 +76,11 @@ pub struct Count {
     pub noted: Vec<String>,
 }
 
-/// How far A1's counts were held to the plain reference.
-#[derive(Default)]
-pub struct Counted {
-    /// The calls that agree with a full and with a zero record.
-    pub full: u64,
-    pub zero: u64,
-    /// The meshes that have a full record.
-    pub met: Met,
-    /// Those with a length that is a step under 1e-12, just that, and a step above.
-    pub limit: [u64; 3],
-}
-
-impl Counted {
-    fn meet(&mut self, mesh: &MeshFile, record: &Record) {
-        self.met.add(record.counts);
-        let steps = [SHORTEST.next_down(), SHORTEST, SHORTEST.next_up()];
-        for (step, times) in steps.into_iter().zip(&mut self.limit) {
-            *times += lengths(&mesh.vertices, &mesh.ids).any(|length| length == Some(step)) as u64;
-        }
-    }
-
-    fn join(&mut self, other: &Counted) {
-        (self.full, self.zero) = (self.full + other.full, self.zero + other.zero);
-        self.met.join(&other.met);
-        (0..3).for_each(|i| self.limit[i] += other.limit[i]);
-    }
-
-    pub fn told(&self) -> String {
-        let [under, just, above] = self.limit;
-        format!(
-            "counts, by the plain reference: in {} full and {} zero records. Meshes with a full record {}; with a length a step \
-             under 1e-12 {under}, just that {just}, a step above {above}",
-            self.full,
-            self.zero,
-            self.met.told()
-        )
-    }
-}
-
 const SHOWN: usize = 5;
 
 const QUALITIES: [&str; 3] = ["closed", "open_shell", "degenerate"];
+/// The quality of an open shell, word 0.
+pub const OPEN_SHELL: u32 = 1;
 const METHODS: [&str; 5] = ["mesh", "mesh_open", "prism_fallback", "mesh_unclipped", "mesh_profile_invalid"];
 
 /// A refusal's number, as it comes back.
@@ -127,8 +90,9 @@ fn place(of: &str, among: &[&str]) -> u32 {
     among.iter().position(|name| *name == of).expect("a word of document 01's") as u32
 }
 
-/// The record in the interface's words.
+/// The record in the interface's words, and the cells beside it.
 pub fn words(record: &Record) -> [u32; WORDS] {
+    let [z, y, x] = record.cells;
     let profile = record.profile.map_or(0, |name| 1 + place(name, &DEFECTS.map(|defect| defect.as_str())));
     let (is_number, bound) = record.prism.map_or((0, 0), |bound| (1, bound.to_bits()));
     [
@@ -152,6 +116,12 @@ pub fn words(record: &Record) -> [u32; WORDS] {
         record.counts.used,
         record.counts.range,
         record.counts.sliver,
+        z.covered,
+        z.rim,
+        y.covered,
+        y.rim,
+        x.covered,
+        x.rim,
     ]
 }
 
@@ -289,7 +259,10 @@ impl Count {
         self.tally.add(right.answer, right.zero_record, right.record.first().copied().unwrap_or(0));
         match right.answer {
             0 if right.zero_record => self.counted.zero += 1,
-            0 => self.counted.full += 1,
+            0 => {
+                self.counted.full += 1;
+                self.counted.open += (right.record[0] == OPEN_SHELL) as u64;
+            }
             _ => {}
         }
         let (surfaces, vertices) = (lending.nans_behind(lent, right.rows.len()), lending.nans_passed());
@@ -343,13 +316,15 @@ impl Count {
         self.counted.join(&other.counted);
     }
 
-    /// What the calls that agree came to, how the meshes stand to the one exception, and how many leave triangles out.
+    /// What the calls that agree came to, how the meshes stand to the one exception, how many leave triangles out, and how many
+    /// footprints have a rim.
     pub fn reached(&self) -> String {
         self.tally.told(&[
             ("near the exception", self.near),
             ("where powf answers otherwise", self.otherwise),
             ("meshes with an id out of range", self.counted.met.range),
             ("meshes with a sliver", self.counted.met.sliver),
+            ("footprints with a rim", self.counted.cells.rim),
         ])
     }
 }

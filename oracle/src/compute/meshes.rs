@@ -7,13 +7,14 @@ use crate::file::{read, Flags, MeshFile};
 use crate::kinds::KINDS;
 use crate::mesh::qto::probe;
 use crate::random::Random;
+use crate::raster::rims;
 use crate::record::{plain, FARTHEST, GREATEST_UNIT, LEAST_UNIT, MOST};
 use crate::solids::{reverse, Shape};
 
 type Own = (&'static str, fn(&mut Random) -> MeshFile);
 
 /// Beside the program's: what its files cannot hold, or hold too seldom for a look at the order of the checks.
-const OWN: [Own; 10] = [
+const OWN: [Own; 11] = [
     ("wild_ids", wild_ids),
     ("ragged", ragged),
     ("unit_ends", unit_ends),
@@ -24,6 +25,7 @@ const OWN: [Own; 10] = [
     ("flattened", flattened),
     ("few", few),
     ("medium", medium),
+    ("rims", rims),
 ];
 
 /// The names of all kinds.
@@ -320,6 +322,14 @@ fn medium(random: &mut Random) -> MeshFile {
         }
     }
     let unit = random.pick(&[1.0, 0.001, 0.01, 0.3048, 4.0]);
+    MeshFile { unit, vertices: shape.vertices, ids: shape.ids, flags: flags(random) }
+}
+
+/// Edges through the centres of cells, by powers of two so that they stay there; seldom by a factor that rounds.
+fn rims(random: &mut Random) -> MeshFile {
+    let by = random.pick(&[1.0, 1.0, 2.0, 1.0 / 256.0, 4096.0, 0.1]);
+    let shape = rims::shape(random).scaled([by; 3]);
+    let unit = random.pick(&[1.0, 0.001, 0.3048]);
     MeshFile { unit, vertices: shape.vertices, ids: shape.ids, flags: flags(random) }
 }
 

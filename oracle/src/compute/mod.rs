@@ -4,6 +4,7 @@
 pub mod areas;
 mod capi;
 pub mod compare;
+pub mod counted;
 pub mod meshes;
 pub mod nans;
 pub mod shapes;

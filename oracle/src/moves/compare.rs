@@ -7,7 +7,7 @@ use crate::compute::compare::Port;
 use crate::pairs::{free, Count, Outcome};
 use crate::random::Random;
 
-/// Demand 3: nothing differs but the four words of two open shells.
+/// Demand 3: nothing differs but the free words of two open shells.
 fn unmoved(here: &Outcome, there: &Outcome) -> Vec<String> {
     here.left.differences(&there.left, free(here, there))
 }

@@ -6,6 +6,7 @@ use crate::compute::meshes::{self, affordable};
 use crate::compute::shapes::SHAPES;
 use crate::pairs::Pair;
 use crate::random::Random;
+use crate::raster::rims;
 use crate::record::{plain, GREATEST_UNIT, MOST};
 use crate::solids::Shape;
 
@@ -16,7 +17,7 @@ pub const LIMIT: i64 = 1 << 24;
 pub const LEAST_UNIT: f32 = f32::from_bits(0x3a83_126f);
 
 /// Kinds of `compute`, their coordinates made whole.
-const SHARED: [&str; 29] = [
+const SHARED: [&str; 30] = [
     "closed",
     "several",
     "hole",
@@ -46,11 +47,12 @@ const SHARED: [&str; 29] = [
     "wild_ids",
     "few",
     "medium",
+    "rims",
 ];
 
 type Own = (&'static str, fn(&mut Random) -> Shape);
 
-const OWN: [Own; 10] = [
+const OWN: [Own; 11] = [
     ("boxes", boxes),
     ("tetrahedra", tetrahedra),
     ("open boxes", open_boxes),
@@ -60,6 +62,7 @@ const OWN: [Own; 10] = [
     ("slivers", slivers),
     ("flat", flat),
     ("wide", wide),
+    ("on edges", on_edges),
     ("large", large),
 ];
 
@@ -308,6 +311,11 @@ fn wide(random: &mut Random) -> Shape {
     let mut shape = Shape::cuboid([x0, y0, z0], [x1, y1, z1]);
     (0..random.pick(&[0, 1, 2])).for_each(|_| shape.remove(random.below(shape.triangles())));
     shape.shuffled(random)
+}
+
+/// Edges through the centres of cells, at whole numbers: where these are large enough, the centres are not where they were.
+fn on_edges(random: &mut Random) -> Shape {
+    rims::shape(random).scaled([random.pick(&[2.0, 2.0, 4.0, 64.0]); 3])
 }
 
 /// Seldom as large as can be, and seldom too large, which is refusal 1.

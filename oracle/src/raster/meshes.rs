@@ -1,5 +1,7 @@
 //! Meshes and boxes to try the footprint on: solids with a hole, points on edges, slivers, thin boxes, and any bits.
 
+use super::cells::reach;
+use super::rims;
 use crate::random::Random;
 use crate::solids::Shape;
 
@@ -10,13 +12,6 @@ pub struct Scene {
     /// The box, from least to greatest, on the two axes.
     pub u: [f32; 2],
     pub v: [f32; 2],
-}
-
-/// The least and the greatest coordinate on an axis.
-pub fn reach(vertices: &[f32], axis: usize) -> [f32; 2] {
-    vertices
-        .chunks_exact(3)
-        .fold([f32::INFINITY, f32::NEG_INFINITY], |[low, high], v| [low.min(v[axis]), high.max(v[axis])])
 }
 
 /// The mesh in its own box, as `compute` asks for it.
@@ -125,10 +120,11 @@ fn spoilt(shape: &mut Shape, random: &mut Random) {
 }
 
 pub fn by_chance(random: &mut Random) -> Scene {
-    let mut shape = match random.below(8) {
+    let mut shape = match random.below(10) {
         0 | 1 => return of_any_bits(random),
         2 | 3 => return on_centres(random),
         4 => slivers(random),
+        5 | 6 => rims::shape(random).scaled([random.pick(&[1.0, 1.0, 1.0 / 1024.0, 3.0, 0.1]); 3]),
         _ => a_solid(random),
     };
     if random.once_in(3) {

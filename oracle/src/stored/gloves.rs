@@ -1,7 +1,7 @@
 //! Pairs for the glove (02, A9): a mesh here, and there the same with the last two ids of every triangle swapped. Two
-//! open ones show that each of the four exceptions is needed. Both are one triangle with its corners at few fractions,
-//! so that centres of cells lie on its edges: there the rounding of the point test decides, and not the same way both
-//! ways round.
+//! open ones show that each of the four exceptions is needed, a third that rims need theirs (A3). Each is one triangle with its
+//! corners at few fractions, so that centres of cells lie on its edges: there the rounding of the point test decides, and not the
+//! same way both ways round.
 
 use super::examples::{corners, ids, of, CLOSED, DEGENERATE, OPEN, PRISM};
 use super::readings::shape;
@@ -20,6 +20,10 @@ const BOUND: Corners = [[1.0, 1.0, 1.0 / 3.0], [1.0 / 3.0, 0.0, 0.0], [0.0, 1.0,
 /// From above 6,631 of 65,536 cells are covered, and 6,477 when reversed. A volume of 1/48 is within 1.05 of the one
 /// bound and above 1.05 of the other: all four differ.
 const TRUST: Corners = [[0.2, 0.8, 1.0], [0.6, 0.3, 0.2], [0.1, 0.8, 0.5]];
+
+/// From above 32,811 cells are covered either way; 32 of them are on an edge by their values, and inside when reversed. Likewise
+/// along x. All else is the same.
+const RIM: Corners = [[0.0, 2.0 / 3.0, 0.0], [1.0, 0.0, 0.0], [1.0; 3]];
 
 /// A block with a smaller top than bottom, one upright side and three inclined ones, of which two have one area.
 fn block() -> Shape {
@@ -40,6 +44,7 @@ pub(super) fn gloves(list: &mut List) {
         ("refused", nan, ["refused 4"; 2]),
         ("bound", of(1.0, &shape(&BOUND, "012")), [OPEN; 2]),
         ("trust", of(1.0, &shape(&TRUST, "012")), [OPEN, PRISM]),
+        ("rim", of(1.0, &shape(&RIM, "012")), [OPEN; 2]),
     ] {
         let there = reversed(&mesh);
         list.mesh(says[0], format!("glove_{name}_here"), &mesh);

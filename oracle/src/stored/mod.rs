@@ -1,6 +1,6 @@
 //! The meshes that the crate `replay` holds, so that the gate has some of the Rust's answers without the Rust: those made
-//! by hand for document 01's examples, limits and orders, for what A1 counts and A2 joins and for A9's pairs, then of each kind the
-//! smallest and the one that reaches most.
+//! by hand for document 01's examples, limits and orders, for what A1 and A3 count and A2 joins and for A9's pairs, then of each kind
+//! the smallest and the one that reaches most.
 
 pub mod examples;
 mod faults;
@@ -9,6 +9,7 @@ mod left_out;
 mod limits;
 mod places;
 pub mod readings;
+mod rims;
 mod thresholds;
 mod touching;
 
@@ -60,6 +61,7 @@ pub fn by_hand() -> Vec<Stored> {
     left_out::left_out(&mut list);
     gloves::gloves(&mut list);
     touching::touches(&mut list);
+    rims::rims(&mut list);
     list.0
 }
 

@@ -14,12 +14,16 @@ pub const ORIGINAL: Port<'static> = &|call, areas, record| RIGHT.call(call, area
 /// What faults are planted in.
 pub const BASE: Port<'static> = if cfg!(port) { PORT } else { ORIGINAL };
 
-/// The words of the record that may differ between two open shells, in the order in which they are counted.
-pub const EXCEPTIONS: [usize; 4] = [BEST, METHOD, RELIABLE, BOUND];
+/// The words that may differ between two open shells, in the order in which they are counted: four of the record, and the cells of
+/// the z, y and x footprints beside it, covered and rim.
+pub const EXCEPTIONS: [usize; 10] = [BEST, METHOD, RELIABLE, BOUND, 20, 21, 22, 23, 24, 25];
 pub const RELIABLE: usize = 1;
 pub const METHOD: usize = 2;
 pub const BEST: usize = 13;
 pub const BOUND: usize = 15;
+/// Covered cells of the z footprint, and its rim cells.
+pub const COVERED: usize = 20;
+pub const RIM: usize = 21;
 
 // ---- planted faults
 
@@ -107,7 +111,7 @@ impl Shows {
 }
 
 /// In the answer, in a word of the record or at an end of an area, of calls that come to `of`: a bit that is not the
-/// same of both meshes is found, but for the four words of an open shell. `differ` says how many pairs differ, of
+/// same of both meshes is found, but for the free words of an open shell. `differ` says how many pairs differ, of
 /// meshes many of which come to that.
 pub fn assert_found_wherever_it_shows(of: &str, bit: fn(&MeshFile) -> u32, differ: &dyn Fn(Port) -> u64) {
     for shows in Shows::all() {
@@ -144,4 +148,10 @@ pub fn left(port: Port, mesh: &MeshFile) -> ([u32; WORDS], [Vec<u32>; 2], Vec<u8
 /// The words that differ.
 pub fn differing(one: &[u32; WORDS], other: &[u32; WORDS]) -> Vec<usize> {
     (0..WORDS).filter(|&word| one[word] != other[word]).collect()
+}
+
+/// The mesh with its coordinates on other axes: x, y and z of a vertex are those of the axes named.
+pub fn along(mesh: &MeshFile, axes: [usize; 3]) -> MeshFile {
+    let vertices = mesh.vertices.chunks_exact(3).flat_map(|vertex| axes.map(|axis| vertex[axis])).collect();
+    MeshFile { vertices, ..mesh.clone() }
 }

@@ -68,7 +68,7 @@ pub fn point_in_triangle(px: f32, py: f32, t: Flat) -> Place
         return edge_if((e - e_less == 0.0) | (f - f_less == 0.0));
     }
     if ((e < e_less) & (f_less < f)) | ((e_less < e) & (f < f_less)) {
-        return Place::Outside;
+        return Place::Outside; // though d may be zero
     }
     edge_if((d - d_less == 0.0) | ((e - e_less == 0.0) | (f - f_less == 0.0)))
 }

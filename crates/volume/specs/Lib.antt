@@ -1,2 +1,3 @@
--- Best volume (01).
+-- Best volume (01), and the pairs (02, A3).
 pub mod Best
+pub mod inner

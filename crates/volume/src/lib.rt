@@ -6,6 +6,7 @@ ghost use Rattle.ieee.specs.Magnitude.{magnitude};
 ghost use Rattle.vertices.specs.Areas.{rasterBytes};
 ghost use Rattle.volume.specs.Best.{prismOn, orLess, orNone, prism as prismOf, closedBest, degenerateBest, openBest, bestOf};
 ghost use Rattle.volume.specs.Best.{pairOn, prismPairs, noPairs, pairsOf};
+ghost use Rattle.volume.specs.inner.Across.{cellsAcross};
 ghost use Rattle.volume.specs.Best.{upper as upperOf, collapsed as collapsedOf, trusted as trustedOf};
 use raster::Axis;
 use raster::Pair;
@@ -100,6 +101,15 @@ fn or_none(p: f32, cube: f32) -> f32
     }
 }
 
+fn pairs_on(on_z: Across, on_y: Across, on_x: Across) -> Pairs
+    ensures { λ r. ⌜ r ≡ cellsAcross «on_z» «on_y» «on_x» ⌝ }
+{
+    let z = on_z.cells;
+    let y = on_y.cells;
+    let x = on_x.cells;
+    Pairs { z, y, x }
+}
+
 // The prism of a mesh, and the cells of its footprints.
 pub struct PrismAndPairs {
     pub prism: f32,
@@ -128,13 +138,13 @@ fn prism(
     let wide = sums::extent(b.xmin, b.xmax);
     let on_x = prism_on(vertices, indices, across_x, wide, raster);
     let none = f32::from_bits(0x7f80_0000);
-    let least = or_less(or_less(or_less(none, on_x.prism), on_y.prism), on_z.prism);
-    let z = on_z.cells;
-    let y = on_y.cells;
-    let x = on_x.cells;
+    let x = on_x.prism;
+    let y = on_y.prism;
+    let z = on_z.prism;
+    let least = or_less(or_less(or_less(none, x), y), z);
     PrismAndPairs {
         prism: or_none(least, cube),
-        pairs: Pairs { z, y, x },
+        pairs: pairs_on(on_z, on_y, on_x),
     }
 }
 

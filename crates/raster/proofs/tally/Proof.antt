@@ -1,12 +1,15 @@
 -- `raster::tally` meets its contract: the two numbers count the first i bytes. Assumes nothing.
 use mathlib.Core.Path.{_≡_, refl}
+use mathlib.Core.Bool.{Bool}
 use mathlib.Core.List.{List}
 use Prim.Native.Nat.{ℕ, _+_, _-_, _≤_}
-use mir.Val.{boolByte}
+use mir.Syntax.{w32}
+use mir.Val.{boolByte, Fits}
 use native.Mathlib.Omega.{arith}
 use lib.Dec.{eqb, ltb}
 use lib.ListN.{length, getD}
 use borrow.Author.Needs.{needs}
+use Rattle.ids.proofs.Bits.{byte-small}
 use Rattle.raster.specs.Footprint.{count}
 use Rattle.raster.proofs.Counting.{count-next, count-most}
 use Rattle.raster.proofs.tally.Statement.{statement}
@@ -43,15 +46,23 @@ module _ (c : tie.In-loop Inv-loop μ-loop) where
   few : at .loop .i + 1 ≤ 65536
   few = omega (arith, c .loop-test .taken, start .pre)
 
+-- whatever is tested, one more fits
+one-fits : (n : ℕ) (b : Bool) → n ≤ 65536 → Fits w32 (n + boolByte b)
+one-fits n b most = omega (arith, most, byte-small b)
+
 add-covered : tie.Need-add-covered Inv-loop μ-loop
 add-covered c =
-    let k = c .before in
-    omega (arith, covered-next k, count-most (λ j. ltb 0 (getD (part k) j 0)) (at k .loop .i + 1), few k)
+    let l = at (c .before) .loop in
+    let most : l .covered ≤ 65536 =
+    omega (arith, l .inv .1, count-most (λ k. ltb 0 (getD (part (c .before)) k 0)) (l .i), few (c .before)) in
+    search (one-fits, most)
 
 add-rim : tie.Need-add-rim Inv-loop μ-loop
 add-rim c =
     let k = c .before .before in
-    omega (arith, rim-next k, count-most (λ j. eqb (getD (part k) j 0) 1) (at k .loop .i + 1), few k)
+    let l = at k .loop in
+    let most : l .rim ≤ 65536 = omega (arith, l .inv .2, count-most (λ j. eqb (getD (part k) j 0) 1) (l .i), few k) in
+    search (one-fits, most)
 
 loop-again : tie.Need-loop-again Inv-loop μ-loop
 loop-again c = let k = c .before .before in (omega (arith, k .loop-test .taken), covered-next k, rim-next k)

@@ -1,4 +1,5 @@
 -- `volume::prism` meets its contract: by its parts. Assumes nothing.
+use mathlib.Core.Path.{_∙_}
 use native.Mathlib.Omega.{arith}
 use lib.Ieee.{nanBits}
 use borrow.Author.Needs.{needs}
@@ -69,17 +70,17 @@ at-x c = c .before .before .before .before .before
 
 same-length : tie.Need-same-length
 same-length c =
-    let k = at-x (c .before .before .before .before) in
+    let k = at-x (c .before .before) in
     omega (arith, k .prism-on3 .kept, y k .prism-on2 .kept, z k .prism-on .kept)
 
 returns : tie.Need-returns
 returns c =
-    let least = c .before .before .before .before in
+    let least = c .before .before in
     let k = at-x least in
     let a = from k .args in (
       prism-is (a .vertices .now) (a .indices .now) (a .b) (on-z k) (on-y k) (on-x k) (a .cube) _ _ _ _
-          (least .before .before .or-less .ensures) (least .before .or-less2 .ensures) (least .or-less3 .ensures) (c .or-none .ensures),
-      pairs-are (a .vertices .now) (a .indices .now) (a .b) (on-z k) (on-y k) (on-x k),
+          (least .before .before .or-less .ensures) (least .before .or-less2 .ensures) (least .or-less3 .ensures) (c .before .or-none .ensures),
+      c .pairs-on .ensures ∙ pairs-are (a .vertices .now) (a .indices .now) (a .b) (on-z k) (on-y k) (on-x k),
       k .prism-on3 .ensures .2,
     )
 
@@ -88,4 +89,4 @@ prism-spec =
     tie.close
     (tie.spec (λ c κs. search needs) (λ c κs. search needs) (λ c κs. search needs) (λ c κs. search needs) (λ c κs. search needs)
     (λ c κs. search needs) (λ c κs. search needs) (λ c κs. search needs) prism-on-requires-3 float-from-bits-none (λ c κs. search needs)
-    (λ c κs. search needs) (λ c κs. search needs) (λ c κs. search needs) same-length returns)
+    (λ c κs. search needs) (λ c κs. search needs) (λ c κs. search needs) (λ c κs. search needs) same-length returns)

@@ -18,13 +18,14 @@ FUNCTION = re.compile(
 FLOATS = re.compile(r"(\w+): &mut \[f(?:32|64)")
 
 # Functions that store into floats that they are lent, and how many statements do. All of them store into a row that is there
-# or begins, but the last, which is lent just as many floats as the file has.
+# or begins, but the last two: `put_floats` is lent just as many floats as the file has, and `centres` floats of the raster's own.
 STORES = {
     ("rows", "put"): 4,
     ("surfaces", "first_area"): 1,
     ("surfaces", "grow"): 1,
     ("surfaces", "new_row"): 3,
     ("meshfile", "put_floats"): 1,
+    ("grid", "centres"): 1,
 }
 
 # The two routines that are lent floats from outside, and every line in which they name them: the length is asked for, and
@@ -76,6 +77,16 @@ class Stores(unittest.TestCase):
             _, body = functions()[crate, function]
             lines = [line.strip() for line in body.splitlines() if re.search(rf"\b{area}\b", line)]
             self.assertEqual(lines, named)
+
+    def test_the_centres_are_no_callers(self) -> None:
+        calls = [
+            line.strip()
+            for path in (ROOT / "crates").glob("*/src/**/*.rt")
+            for line in without_comments(path).splitlines()
+            if "centres(" in line and not line.startswith("pub fn")
+        ]
+        self.assertEqual(calls, ["grid::centres(&mut columns, g.x, g.w);"])
+        self.assertIn("    let mut columns = [0f32; 256];\n", without_comments(ROOT / "crates/paint/src/lib.rt"))
 
     def test_the_rows_alone_are_put_in_order(self) -> None:
         _, body = functions()["qto", "measure"]

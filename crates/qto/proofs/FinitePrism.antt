@@ -28,7 +28,7 @@ use Rattle.sums.specs.declared.bounds.Bounds.{Bounds}
 use Rattle.sums.specs.Fine.{fine}
 use Rattle.sums.proofs.FineBoxes.{FineBox, extent-within}
 use Rattle.sums.proofs.Within.{Within, Value, multiple-value, power-value, within-div, within-most, within-mul, within-value}
-use Rattle.volume.specs.Best.{acrossX, acrossY, acrossZ, taken, prismOn, orLess, orNone, prism, prismX, prismY, prismZ}
+use Rattle.volume.specs.Best.{acrossX, acrossY, acrossZ, hasFootprint, prismOn, orLess, orNone, prism, prismX, prismY, prismZ}
 
 none-within : (k : ℕ) → Within (2 ^ k) nought
 unfolding ofBits
@@ -119,7 +119,7 @@ module _ (vs : List Float) (ids : List ℕ) (u v : ℕ) where
 on-within : (vs : List Float) (ids : List ℕ) (s : Window) (e : Float) → T (fine (s .xmin)) → T (fine (s .xmax)) → T (fine (s .ymin))
     → T (fine (s .ymax)) → Within (2 ^ 34) e → Within (2 ^ 104) (prismOn vs ids s e)
 unfolding prismOn footprint
-on-within vs ids s e p q r t w = go (taken s e)
+on-within vs ids s e p q r t w = go (hasFootprint s e)
   where
     go : (b : Bool) → Within (2 ^ 104) (cond b (footprint vs ids s .area ⊗ e) nought)
     go true =

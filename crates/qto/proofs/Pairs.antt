@@ -15,7 +15,7 @@ use Rattle.sums.specs.Box.{box}
 use Rattle.sums.specs.declared.bounds.Bounds.{Bounds}
 use Rattle.verdict.specs.declared.Quality.{Quality}
 use Rattle.volume.specs.declared.Pairs.{Pairs}
-use Rattle.volume.specs.Best.{taken, pairOn, prismPairs, noPairs, pairsOf}
+use Rattle.volume.specs.Best.{hasFootprint, pairOn, prismPairs, noPairs, pairsOf}
 use Rattle.qto.specs.declared.Takeoff.{Takeoff}
 use Rattle.qto.specs.Full.{recordOf, takeoffOf}
 use Rattle.qto.specs.Compute.{zeroTakeoff}
@@ -30,7 +30,7 @@ none-unless-open Quality.OpenShell p shut = absurd (shut refl)
 
 pair-fits : (vs : List Float) (ids : List ℕ) (s : Window) (e : Float) → PairFits (pairOn vs ids s e)
 unfolding pairOn
-pair-fits vs ids s e = go (taken s e)
+pair-fits vs ids s e = go (hasFootprint s e)
   where
     go : (b : Bool) → PairFits (cond b (footprint vs ids s .cells) noCells)
     go true = cells-fit vs ids s

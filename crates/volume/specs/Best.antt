@@ -31,12 +31,12 @@ abbrev pub acrossZ : Bounds → Window
 acrossZ b = windowOf Axis.X Axis.Y (b .xmin) (b .xmax) (b .ymin) (b .ymax)
 
 -- is there a footprint in a window, e being the extent on the third axis? Not where the box is flat on one of them
-abbrev pub taken : Window → Float → Bool
-taken s e = lt nought e && (lt (s .xmin) (s .xmax) && lt (s .ymin) (s .ymax))
+abbrev pub hasFootprint : Window → Float → Bool
+hasFootprint s e = lt nought e && (lt (s .xmin) (s .xmax) && lt (s .ymin) (s .ymax))
 
 -- its area times that extent, or 0
 unfoldable pub prismOn : List Float → List ℕ → Window → Float → Float
-prismOn vs ids s e = cond (taken s e) (footprint vs ids s .area ⊗ e) nought
+prismOn vs ids s e = cond (hasFootprint s e) (footprint vs ids s .area ⊗ e) nought
 
 abbrev pub prismX : List Float → List ℕ → Bounds → Float
 prismX vs ids b = prismOn vs ids (acrossX b) (extent (b .xmin) (b .xmax))
@@ -64,7 +64,7 @@ prism vs ids b cube = orNone (leastPositive (prismX vs ids b) (prismY vs ids b) 
 -- ---- the pairs: the cells of the same three footprints
 
 unfoldable pub pairOn : List Float → List ℕ → Window → Float → Pair
-pairOn vs ids s e = cond (taken s e) (footprint vs ids s .cells) noCells
+pairOn vs ids s e = cond (hasFootprint s e) (footprint vs ids s .cells) noCells
 
 unfoldable pub prismPairs : List Float → List ℕ → Bounds → Pairs
 prismPairs vs ids b =

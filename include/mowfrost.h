@@ -99,15 +99,16 @@ uint32_t mf_pieces(const uint32_t *ids, size_t ids_len, uint32_t *work, size_t w
  *
  * Beside the record stand the cells of the three footprints that the prism bound of an open shell is made of; where the
  * mesh is closed or degenerate all six are 0. A footprint is a raster of up to 256 by 256 cells over the box, seen along
- * an axis. A cell is covered where its centre is inside some triangle or on an edge of one, and a rim cell where it is
- * covered and inside none. The three values of the point test decide, in f32 and not by exact geometry: outside where
- * they have both signs, else on an edge where one is zero, else inside.
+ * an axis. A triangle counts where its ids are in range and its doubled area, seen so, is not under 1e-12 in f32; that is
+ * another rule than that of words 17 to 19. A cell is covered where its centre is inside a triangle that counts or on an
+ * edge of one, and a rim cell where it is covered and inside none. The three values of the point test decide, in f32 and
+ * not by exact geometry: outside where they have both signs, else on an edge where one is zero, else inside.
  *
  *   20  along z (over x and y): covered cells   21  of them rim cells
  *   22  along y (over x and z): covered cells   23  of them rim cells
  *   24  along x (over y and z): covered cells   25  of them rim cells
  *
- * Neither the flags nor the unit change any of them.
+ * The flags change none of them, and the unit none while the mesh stays an open shell.
  *
  * With 3 ids and 9 vertex floats or more, areas of MF_WORK_WORDS, MF_RASTER_BYTES and MF_SURFACE_FLOATS elements are
  * asked for. A record leaves 0 in so many work words and raster bytes, and its rows at the front of the surface area,

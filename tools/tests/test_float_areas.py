@@ -18,7 +18,7 @@ FUNCTION = re.compile(
 FLOATS = re.compile(r"(\w+): &mut \[f(?:32|64)")
 
 # Functions that store into floats that they are lent, and how many statements do. All of them store into a row that is there
-# or begins, but the last two: `put_floats` is lent just as many floats as the file has, and `centres` floats of the raster's own.
+# or begins, but the last two: `put_floats` is lent just as many floats as the file has, and `centres` an array of its caller's own.
 STORES = {
     ("rows", "put"): 4,
     ("surfaces", "first_area"): 1,

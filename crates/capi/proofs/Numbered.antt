@@ -95,7 +95,8 @@ module _ (vs : List Float) (ids : List ℕ) (u : Float) (clip defect : ℕ) (w r
     filled t q p words′ ha hp hq hwords =
         let flags = hq ∙ ap (λ (p′ : Profile). flagged (eqb clip 1) p′ (t .qto)) hp in
         numbered 0 words′ (sym (ap answerNumber ha))
-        (hwords ∙ ap (λ (q′ : MeshQto). wordsOf (record { qto = q′; pairs = t .pairs })) flags ∙ sym (ap (answerWords clip defect words) ha))
+        (hwords ∙ ap (λ (q′ : MeshQto). wordsOf (record { qto = q′; pairs = t .pairs })) flags
+        ∙ sym (ap (answerWords clip defect words) ha))
 
     -- a refusal leaves them
     pub refused : (n : ℕ) → a ≡ Answer.Refused n → ComputesNumbered vs ids u clip defect w r s words (0x8000_0000 + n) w′ r′ s′ words

@@ -29,7 +29,7 @@ fn prism_bits(prism: PrismBound) -> u32
     }
 }
 
-// ---- the record as words
+// ---- the record and its pairs as words
 
 fn record_words(t: Takeoff) -> [u32; 26]
     ensures { λ r. ⌜ r ≡ wordsOf t ⌝ }

@@ -1,4 +1,4 @@
--- What a record that is another one turned over says field by field, and the pairs beside it. Assumes nothing.
+-- What a record that is another one turned over says field by field, and what the pairs beside it say. Assumes nothing.
 use mathlib.Core.Path.{ap}
 use Rattle.record.specs.declared.MeshQto.{MeshQto}
 use Rattle.road.proofs.Agree.{but-best, same-record, same-pairs}

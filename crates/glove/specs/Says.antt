@@ -37,9 +37,10 @@ pub record GloveSays (q q′ : MeshQto) : Type 0 where
   -- equal too, but for an open shell
   pub unless-open : q .«mesh_quality» ≢ Quality.OpenShell → SameBest q q′
 
--- so of any two records that the law speaks of, and of the pairs beside them: equal, but for an open shell
+-- so of any two records that the law speaks of
 abbrev pub RecordsSay : Type 0
 RecordsSay = (q q′ : MeshQto) → TurnedRecords q q′ → GloveSays q q′
 
+-- and the pairs beside them are equal, but for an open shell
 abbrev pub PairsSay : Type 0
 PairsSay = (t t′ : Takeoff) → Beside TurnedRecords t t′ → t .qto .«mesh_quality» ≢ Quality.OpenShell → t′ .pairs ≡ t .pairs

@@ -1,4 +1,4 @@
--- The point test (000, `point_in_triangle`): where a point of the plane lies by a triangle. f32, each step rounded once.
+-- The point test (000, `point_in_triangle`; 02, A3): where a point of the plane lies by a triangle. f32, each step rounded once.
 use Prim.Native.Nat.{ℕ}
 use mathlib.Core.Bool.{Bool, true, false, not, _||_}
 use lib.Ieee.{Float, lt, eq}
@@ -38,12 +38,13 @@ place px py t =
     placeOf (side px py (t .ax) (t .ay) (t .bx) (t .by)) (side px py (t .bx) (t .by) (t .cx) (t .cy))
     (side px py (t .cx) (t .cy) (t .ax) (t .ay))
 
--- edges included, and excluded
+-- is it inside or on an edge?
 unfoldable pub notOutside : Place → Bool
 notOutside Place.Inside = true
 notOutside Place.OnEdge = true
 notOutside Place.Outside = false
 
+-- is it inside, and on no edge?
 unfoldable pub isInside : Place → Bool
 isInside Place.Inside = true
 isInside Place.OnEdge = false

@@ -44,8 +44,9 @@ fn edge_if(zero: bool) -> Place
     if zero { Place::OnEdge } else { Place::Inside }
 }
 
-// Where the point lies. 000 asks for the signs of three differences. They are those of comparing the two products, since a difference
-// of floats is never rounded to zero. The first sign decides which ones of the others matter.
+// Where the point lies. 000 asks for the signs of three differences. They are those of comparing the two products, since the difference
+// of two unequal floats is never rounded to zero. Zero is asked of the difference itself: two infinite products are equal, and their
+// difference is a NaN. The first sign decides which of the others matter.
 pub fn point_in_triangle(px: f32, py: f32, t: Flat) -> Place
     ensures { λ r. ⌜ r ≡ place px py t ⌝ }
 {
@@ -149,7 +150,7 @@ pub fn centre(x: f32, w: f32, i: usize) -> f32
     x + (i as u16 as f32 + 0.5) * w
 }
 
-// The centres of the first cells, as many as the list is long: what a row asks for again and again.
+// The centres of the first cells, as many as the list is long. Each row of a raster asks for them.
 pub fn centres(list: &mut [f32], x: f32, w: f32)
     requires { ⌜ length (now list) ≤ 256 ⌝ }
     ensures { λ _. ⌜ Centred x w (now (list .exit)) ⌝ }

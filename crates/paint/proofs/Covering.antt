@@ -34,7 +34,8 @@ module _ (g : Grid) (t : Flat) where
       → Adds s u (λ k. placeNumber (cellLies g t (k % g .nx) (k / g .nx)))
   unfolding cellLies inRows inColumns centreNumber
   counts-in lo hi first last e p q v w a =
-      adds-same _ a (λ k. rw (e, p, q, v, w) (number-if (inRows g t (k / g .nx) && inColumns g t (k % g .nx)) (centreLies g t (k % g .nx) (k / g .nx))))
+      adds-same _ a (λ k. rw (e, p, q, v, w)
+      (number-if (inRows g t (k / g .nx) && inColumns g t (k % g .nx)) (centreLies g t (k % g .nx) (k / g .nx))))
 
   -- it does not
   pub counts-out : (s : List ℕ) → counts t ≡ false → Adds s s (λ k. placeNumber (cellLies g t (k % g .nx) (k / g .nx)))

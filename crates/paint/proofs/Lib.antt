@@ -1,4 +1,4 @@
--- What painting adds to a raster: a byte, a row, a box, a triangle, all triangles; and what it says of a cell that it is covered, or on the
+-- What painting adds to a raster: a byte, a row, a box, a triangle, all triangles; and what it means that a cell is covered, or on the
 -- rim.
 mod Painting
 mod Boxes

@@ -1,6 +1,6 @@
 -- A cell is covered when some triangle of the list has it not outside, and only then; it is on the rim when some has it on an edge and none
 -- inside. Assumes nothing.
-use mathlib.Core.Path.{_≡_, refl, sym, ap, _∙_, subst}
+use mathlib.Core.Path.{_≡_, refl, sym, _∙_, subst}
 use mathlib.Core.Logic.{_≢_}
 use mathlib.Core.Bool.{Bool, true, false, not, _&&_, or-true, true≢false}
 use mathlib.Core.List.{List}

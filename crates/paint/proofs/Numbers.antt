@@ -1,5 +1,5 @@
 -- What a cell's greatest number by any triangle says: above 0 where the cell is covered, 1 where it is on the rim. Assumes nothing.
-use mathlib.Core.Path.{_≡_, refl, sym, ap, _∙_}
+use mathlib.Core.Path.{_≡_, refl}
 use mathlib.Core.Bool.{Bool, not, _&&_, _||_}
 use mathlib.Core.List.{List}
 use Prim.Native.Nat.{ℕ, zero, suc, max, _<_}

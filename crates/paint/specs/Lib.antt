@@ -1,3 +1,3 @@
--- Which cells a mesh covers, and what the bytes of a raster say of them.
+-- Which cells a mesh covers, which of these are on the rim, and what the bytes of a raster say of them.
 pub mod Covered
 pub mod inner

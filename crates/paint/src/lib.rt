@@ -1,4 +1,4 @@
-// Triangles on a raster of one byte a cell: which cells they cover, and which have them on an edge alone. Internal: `raster` asks it.
+// Triangles on a raster of one byte a cell: which cells they cover, and which of these by edges alone. Internal: `raster` asks it.
 ghost use mathlib.Core.Path.{_≡_};
 ghost use mathlib.Core.Bool.{_&&_};
 ghost use Prim.Native.Nat.{_+_, _*_, _/_, _%_, _≤_, _<_};
@@ -15,7 +15,7 @@ use grid::Grid;
 
 // ---- one triangle
 
-// Byte k becomes the number of where the point lies, if that is greater. A cell that is inside some triangle is left alone.
+// Byte k becomes the number of where the point lies, if that is greater. 2, inside, is the greatest: such a cell is not tested again.
 fn mark(part: &mut [u8], k: usize, px: f32, py: f32, t: Flat)
     requires { ⌜ k < length (now part) ⌝ }
     ensures { λ _. ⌜ Adds (now (part .entry)) (now (part .exit)) (λ i. onlyIf (eqb i k) (placeNumber (place px py t))) ⌝ }
@@ -130,7 +130,7 @@ fn paint_triangle(
 
 // ---- all triangles
 
-// With the centres of the columns at hand.
+// One after the other, with the centres of the columns at hand.
 fn paint_triangles(
     vertices: &[f32],
     ids: &[u32],
@@ -152,7 +152,8 @@ fn paint_triangles(
     }
 }
 
-// Every row asks for the centres of its columns, so they are worked out once.
+// Each byte becomes the greatest number of its cell by any triangle, or stays what it was where that is greater. Every row asks for the
+// centres of its columns, so they are worked out once.
 pub fn paint_all(vertices: &[f32], ids: &[u32], u: usize, v: usize, g: Grid, part: &mut [u8])
     requires { ⌜ (u ≤ 2) × (v ≤ 2) × GridSized g × (length (now part) ≡ g .nx * g .ny) ⌝ }
     ensures { λ _. ⌜ Adds (now (part .entry)) (now (part .exit))

@@ -41,7 +41,8 @@ module _ (dx dy dz : ℤ) (vs vs′ : List Float) (ids : List ℕ) (u : Float) (
         refused-rows = λ n. refl;
         zero-record = refl;
         zero-rows = refl;
-        full = λ p. words-agree (withFlags clip defect (takeoffOf vs ids u)) (withFlags clip defect (takeoffOf vs′ ids u)) (flagged-agree clip defect p);
+        full = λ p. words-agree (withFlags clip defect (takeoffOf vs ids u)) (withFlags clip defect (takeoffOf vs′ ids u))
+            (flagged-agree clip defect p);
         full-rows = λ p. surfaces-stay dx dy dz vs vs′ m (p .floats-least) ids u s;
       }
 

@@ -59,7 +59,8 @@ pub extern "C" fn probe_welded_indices(
     false
 }
 
-// Where does the point q, whose coordinates come first, lie by the triangle whose corners follow?
+// Where does the point q, whose coordinates come first, lie by the triangle whose corners follow? 0 is outside, 1 on
+// an edge, 2 inside.
 #[no_mangle]
 pub extern "C" fn probe_point_in_triangle(q: &[f32; 8]) -> u32
     ensures { λ r. ⌜ r ≡ placeNumber (place (floatAt (now (q .entry)) 0) (floatAt (now (q .entry)) 1) (flatAt (now (q .entry)))) ⌝ }
@@ -88,8 +89,8 @@ fn axis(n: u32) -> Axis
     }
 }
 
-// The footprint's area, and in cells how many are covered and how many on the rim, where the raster is long enough; else nothing is done,
-// and the answer is 0. The bounds are the least and the greatest on the first axis, then on the second.
+// The footprint's area; `cells` gets how many are covered and how many of these are on the rim. All this where the raster is long enough;
+// else nothing is done, and the answer is 0. The bounds are the least and the greatest on the first axis, then on the second.
 #[no_mangle]
 pub extern "C" fn probe_footprint_raw(
     vertices: &[f32],

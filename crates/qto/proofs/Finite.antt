@@ -1,7 +1,7 @@
 -- No number of a record of the domain overflows (01): the sums are within 2^87, the volume's sum within 2^118, and a unit's square and cube
 -- up to 2^8 and 2^12. A sixth of
 -- 2^118 is under 3 * 2^114, and 3 * 2^126 is a value of f32. Assumes nothing.
-use mathlib.Core.Path.{_≡_, refl, sym, _∙_}
+use mathlib.Core.Path.{_≡_, refl}
 use mathlib.Core.Logic.{_⊎_, inl, inr}
 use mathlib.Core.Bool.{Bool, true, false, cond}
 use mathlib.Core.List.{List, [], _∷_}

@@ -5,7 +5,7 @@ use mathlib.Core.Path.{_≡_, refl, sym, subst}
 use mathlib.Core.Logic.{_⊎_, inl, inr}
 use mathlib.Core.Bool.{Bool, true, false, _||_, cond}
 use mathlib.Core.List.{List}
-use Prim.Native.Nat.{ℕ, zero, suc, _+_, _-_, _*_, _/_, _%_, _^_, _≤_, _<_}
+use Prim.Native.Nat.{ℕ, suc, _+_, _-_, _*_, _/_, _%_, _^_, _≤_, _<_}
 use native.Mathlib.Nat.{le-of-lt, le-trans, lt-of-le-of-lt, mul-le-mul, mul-le-mul-left}
 use native.Mathlib.Omega.{arith}
 use lib.Dec.{T, lit≤, lit<}
@@ -21,9 +21,9 @@ use Rattle.ieee.proofs.Order.Extremes.{least-from}
 use Rattle.grid.specs.Grid.{cellsIn, gridOf}
 use Rattle.paint.specs.Covered.{covered}
 use Rattle.raster.specs.declared.Window.{Window}
-use Rattle.raster.specs.declared.Footprint.{Footprint}
 use Rattle.raster.specs.Footprint.{axisNumber, coveredCells, areaOn, footprintOn, noFootprint, footprintOver, cellSize, footprint}
 use Rattle.raster.proofs.Counting.{count-most}
+use Rattle.raster.proofs.Cells.{cells-some}
 use Rattle.sums.specs.declared.bounds.Bounds.{Bounds}
 use Rattle.sums.specs.Fine.{fine}
 use Rattle.sums.proofs.FineBoxes.{FineBox, extent-within}
@@ -91,10 +91,6 @@ area-within c n m w h l N N′ M M′ W H =
     (subst (λ (k : ℕ). Within (2 ^ k) (number c ⊗ (w ⊘ number n))) a across) (cell-within h m i M M′ g H) in
     subst (λ (k : ℕ). Within (2 ^ k) (number c ⊗ (w ⊘ number n) ⊗ (h ⊘ number m))) b both
 
-cells-some : (l size : Float) → (0 < cellsIn l size) × (cellsIn l size ≤ 256)
-unfolding cellsIn
-cells-some l size = (omega arith, omega arith)
-
 module _ (vs : List Float) (ids : List ℕ) (u v : ℕ) where
   grid-within : (x y w h size : Float) → Within (2 ^ 34) w → Within (2 ^ 34) h → Within (2 ^ 70) (areaOn vs u v ids (gridOf x y w h size))
   unfolding areaOn gridOf coveredCells
@@ -107,7 +103,8 @@ module _ (vs : List Float) (ids : List ℕ) (u v : ℕ) where
       area-within (coveredCells vs u v g ids) n m w h (count-most (λ k. covered vs u v g ids (k % n) (k / n)) (n * m)) (N .0) (N .1)
       (M .0) (M .1) W H
 
-  over-within : (x y w h size : Float) → Within (2 ^ 34) w → Within (2 ^ 34) h → Within (2 ^ 70) (footprintOver vs u v ids x y w h size .area)
+  over-within : (x y w h size : Float) → Within (2 ^ 34) w → Within (2 ^ 34) h
+      → Within (2 ^ 70) (footprintOver vs u v ids x y w h size .area)
   unfolding footprintOver footprintOn
   over-within x y w h size W H = go (le w nought || (le h nought || le size nought))
     where

@@ -4,9 +4,7 @@ use mathlib.Core.Logic.{_≢_}
 use mathlib.Core.Bool.{Bool, true, false, cond}
 use mathlib.Core.List.{List}
 use Prim.Native.Nat.{ℕ}
-use native.Mathlib.Omega.{arith}
 use lib.Ieee.{Float}
-use Rattle.raster.specs.declared.Pair.{Pair}
 use Rattle.raster.specs.declared.Window.{Window}
 use Rattle.raster.specs.Footprint.{noCells, footprint}
 use Rattle.raster.specs.Cells.{PairFits}
@@ -16,13 +14,12 @@ use Rattle.sums.specs.declared.bounds.Bounds.{Bounds}
 use Rattle.verdict.specs.declared.Quality.{Quality}
 use Rattle.volume.specs.declared.Pairs.{Pairs}
 use Rattle.volume.specs.Best.{hasFootprint, pairOn, prismPairs, noPairs, pairsOf}
-use Rattle.qto.specs.declared.Takeoff.{Takeoff}
 use Rattle.qto.specs.Full.{recordOf, takeoffOf}
 use Rattle.qto.specs.Compute.{zeroTakeoff}
 use Rattle.qto.specs.Pairs.{PairsAre, ComputesPairs}
 use Rattle.qto.proofs.Outcomes.{of-record}
 
-pub none-unless-open : (q : Quality) (p : Pairs) → q ≢ Quality.OpenShell → pairsOf q p ≡ noPairs
+none-unless-open : (q : Quality) (p : Pairs) → q ≢ Quality.OpenShell → pairsOf q p ≡ noPairs
 unfolding pairsOf
 none-unless-open Quality.Closed p shut = refl
 none-unless-open Quality.Degenerate p shut = refl

@@ -1,5 +1,5 @@
--- Rules of the record (01): the record of a mesh that passes the checks, each float step rounded once, as 000 writes it; and the pairs beside
--- it (02, A3).
+-- Rules of the record (01): the record of a mesh that passes the checks, each float step rounded once, as 000 writes it. Beside it the
+-- pairs (02, A3).
 use Prim.Native.Nat.{ℕ, _*_}
 use mathlib.Core.List.{List, _++_}
 use lib.ListN.{length, drop}

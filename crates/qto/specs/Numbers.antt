@@ -1,4 +1,5 @@
--- The record as the C interface has it, the pairs behind it: 26 words, and refusals as numbers. Flag values that are none are refusal 5, tried first.
+-- The record as the C interface has it, with the pairs behind it: 26 words, and refusals as numbers. Flag values that are none are
+-- refusal 5, tried first.
 use mathlib.Core.Path.{_≡_}
 use Prim.Native.Nat.{ℕ, _+_}
 use mathlib.Core.Bool.{not, cond}

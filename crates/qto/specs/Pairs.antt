@@ -1,5 +1,5 @@
--- What the pairs are worth (02, A3): six zeros unless the verdict is open_shell; and of each footprint no rim cell is uncovered, and 65,536
--- cells at most are covered. (`computes-pairs`, of every answer that the contract allows)
+-- What the pairs can be (02, A3): six zeros unless the verdict is open_shell; in each no more rim cells than covered ones, and of these
+-- 65,536 at most. (`computes-pairs`, of every answer that the contract allows)
 use mathlib.Core.Path.{_≡_}
 use mathlib.Core.Logic.{_≢_}
 use mathlib.Core.List.{List}

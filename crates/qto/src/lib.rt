@@ -1,5 +1,5 @@
-// `compute`: the takeoff of one mesh. It answers or refuses by document 01's table; the record comes by value, and beside it the pairs of
-// its footprints; its surface rows in the lent surface area.
+// `compute`: the takeoff of one mesh. It answers or refuses by document 01's table. The record comes by value, and beside it the pairs of
+// its footprints; the surface rows stand in the lent surface area.
 ghost use mathlib.Core.Path.{_≡_};
 ghost use lib.ListN.{length};
 ghost use Rattle.refusals.specs.inner.Admitted.{Admitted};
@@ -88,7 +88,7 @@ fn measure(
 
 // ---- the record
 
-// The record of a mesh, and beside it the pairs of the z, y and x footprints.
+// The record of a mesh, and beside it the pairs of the z, y and x footprints: six zeros unless it is an open shell.
 pub struct Takeoff {
     pub qto: MeshQto,
     pub pairs: Pairs,
@@ -145,7 +145,7 @@ fn record_by(
     Takeoff { qto, pairs }
 }
 
-// The full record: parts of the lent areas from their front. The rows' index stands where the edge part will stand.
+// The full record and its pairs: parts of the lent areas from their front. The rows' index stands where the edge part will stand.
 fn full(
     vertices: &[f32],
     indices: &[u32],
@@ -190,7 +190,7 @@ pub enum Answer {
     Refused(u8),
 }
 
-// The takeoff of a mesh: the record, or the one refusal that applies.
+// The takeoff of a mesh: the record and its pairs, or the one refusal that applies.
 pub fn compute(
     vertices: &[f32],
     indices: &[u32],

@@ -1,23 +1,30 @@
 -- A rim cell is covered, and a grid has 65,536 cells at most. Assumes nothing.
 use mathlib.Core.Bool.{Bool, true, false, _||_, cond}
 use mathlib.Core.List.{List}
-use Prim.Native.Nat.{ℕ, _*_, _≤_}
+use Prim.Native.Nat.{ℕ, _*_, _≤_, _<_}
 use native.Mathlib.Omega.{arith}
-use native.Mathlib.Nat.{mul-le-mul, le-trans}
-use lib.Dec.{lit≤}
+use native.Mathlib.Nat.{le-trans}
 use lib.Ieee.{Float, le}
 use Rattle.ieee.specs.Single.{nought}
 use Rattle.grid.specs.declared.Grid.{Grid}
 use Rattle.grid.specs.Grid.{cellsIn, gridOf}
-use Rattle.paint.specs.Covered.{covered, rim}
+use Rattle.grid.specs.inner.Sized.{GridSized}
+use Rattle.paint.specs.Covered.{rim}
 use Rattle.raster.specs.declared.Footprint.{Footprint}
 use Rattle.raster.specs.Cells.{PairFits, CellsFit}
 use Rattle.raster.specs.Footprint.{coveredCells, rimCells, cellsOn, footprintOn, noCells, noFootprint, footprintOver, footprint}
-use Rattle.raster.proofs.Counting.{count-most, count-and}
+use Rattle.raster.proofs.Counting.{count-most, count-and, few-cells}
 
-cells-most : (length size : Float) → cellsIn length size ≤ 256
+pub cells-some : (length size : Float) → (0 < cellsIn length size) × (cellsIn length size ≤ 256)
 unfolding cellsIn
-cells-most length size = omega arith
+cells-some length size = (omega arith, omega arith)
+
+grid-sized : (x y w h size : Float) → GridSized (gridOf x y w h size)
+unfolding gridOf
+grid-sized x y w h size =
+    let across = cells-some w size in
+    let down = cells-some h size in
+    record { wide = across .0; wide-most = across .1; high = down .0; high-most = down .1 }
 
 on-grid : (vs : List Float) (u v : ℕ) (ids : List ℕ) (g : Grid) → g .nx * g .ny ≤ 65536 → PairFits (cellsOn vs u v ids g)
 unfolding cellsOn coveredCells rimCells rim
@@ -32,10 +39,11 @@ either-fits true f h = none-fits
 either-fits false f h = h
 
 over-fits : (vs : List Float) (u v : ℕ) (ids : List ℕ) (x y w h size : Float) → PairFits (footprintOver vs u v ids x y w h size .cells)
-unfolding footprintOver footprintOn gridOf
+unfolding footprintOver footprintOn
 over-fits vs u v ids x y w h size =
-    either-fits (le w nought || (le h nought || le size nought)) (footprintOn vs u v ids (gridOf x y w h size))
-    (on-grid vs u v ids (gridOf x y w h size) (le-trans (mul-le-mul (cells-most w size) (cells-most h size)) (lit≤ tt)))
+    let g = gridOf x y w h size in
+    either-fits (le w nought || (le h nought || le size nought)) (footprintOn vs u v ids g)
+    (on-grid vs u v ids g (few-cells g (grid-sized x y w h size)))
 
 pub cells-fit : CellsFit
 unfolding footprint

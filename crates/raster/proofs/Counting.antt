@@ -1,6 +1,6 @@
 -- From the bytes of a raster to the numbers of covered cells and of rim cells, and from these to the footprint. Assumes nothing.
 use mathlib.Core.Path.{_≡_, refl, sym, _∙_}
-use mathlib.Core.Bool.{Bool, true, false, _&&_, _||_, not, cond}
+use mathlib.Core.Bool.{Bool, true, false, _&&_, _||_, cond}
 use mathlib.Core.List.{List}
 use Prim.Native.Nat.{ℕ, zero, suc, _+_, _*_, _/_, _%_, _≤_, _<_}
 use mir.Val.{boolByte}
@@ -13,7 +13,7 @@ use lib.ListN.{length, getD, replicate, length-replicate, getD-replicate}
 use Rattle.ieee.specs.Order.{greatest}
 use Rattle.ieee.specs.Single.{_⊖_, _⊗_, _⊘_, nought, number, extent}
 use Rattle.ids.specs.Uses.{bit}
-use Rattle.ids.proofs.Bits.{byte-bit, byte-small}
+use Rattle.ids.proofs.Bits.{byte-bit, bit-most, bit-and}
 use Rattle.grid.specs.declared.Grid.{Grid}
 use Rattle.grid.specs.Grid.{gridOf}
 use Rattle.grid.specs.inner.Sized.{GridSized}
@@ -37,17 +37,12 @@ count-next f n c e = rw (add-one n, byte-bit (f n), e)
 pub count-most : (f : ℕ → Bool) (n : ℕ) → count f n ≤ n
 unfolding count
 count-most f zero = omega arith
-count-most f (suc n) = omega (arith, count-most f n, byte-bit (f n), byte-small (f n))
+count-most f (suc n) = omega (arith, count-most f n, bit-most (f n))
 
 count-same : (f h : ℕ → Bool) (n : ℕ) → ((k : ℕ) → k < n → f k ≡ h k) → count f n ≡ count h n
 unfolding count
 count-same f h zero e = refl
 count-same f h (suc n) e = rw (count-same f h n (λ k l. e k (omega arith)), e n (omega arith))
-
-bit-and : (a b : Bool) → bit (a && b) ≤ bit a
-unfolding bit
-bit-and true b = omega (arith, byte-bit b, byte-small b)
-bit-and false b = omega arith
 
 -- of what f and something else hold, no more than of what f holds
 pub count-and : (f h : ℕ → Bool) (n : ℕ) → count (λ k. f k && h k) n ≤ count f n

@@ -1,4 +1,4 @@
--- How the bytes of a painted raster give the footprint, what its cells are worth, and how it is cleared.
+-- How the bytes of a painted raster give the footprint, how many cells it can have, and how it is cleared.
 pub mod Counting
 pub mod Cells
 pub mod Clearing

@@ -1,4 +1,4 @@
--- What a pair is worth (02, A3): no rim cell is uncovered, and a raster has 65,536 cells at most. (`cells-fit`)
+-- What a pair's numbers can be (02, A3): no more rim cells than covered ones, and of these 65,536 at most. (`cells-fit`)
 use Prim.Native.Nat.{ℕ, _≤_}
 use mathlib.Core.List.{List}
 use lib.Ieee.{Float}

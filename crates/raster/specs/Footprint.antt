@@ -1,5 +1,5 @@
--- Raster (01; 000, `footprint_raw`): how much ground a mesh covers, seen along the axis that is neither u nor v, and by how many cells, of
--- which how many are on the rim (02, A3). f32, not rebased, each step rounded once.
+-- Raster (01; 000, `footprint_raw`): how much ground a mesh covers, seen along the axis that is neither u nor v; how many cells that is,
+-- and how many of them are on the rim (02, A3). f32, not rebased, each step rounded once.
 use Prim.Native.Nat.{ℕ, zero, suc, _+_, _*_, _/_, _%_}
 use mathlib.Core.Bool.{Bool, _||_, cond}
 use mathlib.Core.List.{List}

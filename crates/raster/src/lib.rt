@@ -148,8 +148,8 @@ fn footprint_over(vertices: &[f32], ids: &[u32], s: Window, raster: &mut [u8]) -
     footprint_on(vertices, ids, u, v, g, &mut raster[0..n])
 }
 
-// The cells that the mesh covers in the window, and their area. The raster's first 65,536 bytes are zero afterwards, and the others as they
-// were.
+// The area of the cells that the mesh covers in the window, how many they are, and how many of them are on the rim. The raster's first
+// 65,536 bytes are zero afterwards, and the others as they were.
 pub fn footprint_raw(vertices: &[f32], indices: &[u32], s: Window, raster: &mut [u8]) -> Footprint
     requires { ⌜ rasterBytes ≤ length (now raster) ⌝ }
     ensures { λ r. ⌜ (r ≡ footprint (now (vertices .entry)) (now (indices .entry)) s)

@@ -1,7 +1,7 @@
 // Runs the meshes of data/meshes, each a u32 length and so many bytes of the program's format, and prints for each what
 // `takeoff` prints, and a line with what the routines on ids say of its ids, what `compute` says to a work area that is one word
-// short, and the pairs of its footprints. The gate holds this to `stdout`, which the unchanged Rust wrote, and a plain reference where it
-// has no answer (docs/DIFFERENCES.md says how).
+// short, and the pairs of its footprints. The gate holds this to `stdout`: the unchanged Rust's answers, and a plain reference's where the
+// Rust has none (docs/DIFFERENCES.md says how).
 ghost use Prim.Native.Nat.{_≤_, _<_};
 ghost use lib.ListN.{length};
 use chain::EdgeChain;

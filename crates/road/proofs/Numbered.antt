@@ -1,6 +1,6 @@
 -- The same of the C form: its words are made of the record and its flags, and flag values that are none are refused in both. Assumes
 -- nothing.
-use mathlib.Core.Path.{_≡_, refl, ap}
+use mathlib.Core.Path.{_≡_, refl}
 use mathlib.Core.Bool.{Bool, true, false, not, cond}
 use native.Mathlib.Omega.{arith}
 use mathlib.Core.List.{List}

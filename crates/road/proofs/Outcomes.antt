@@ -1,5 +1,5 @@
--- Outcomes that `compute`'s contract allows for two meshes agree where their checks, their full records with the same verdict, and their rows
--- do: a refusal and the zero record do not hang on the mesh, and pairs only where it is open. Assumes nothing.
+-- Outcomes that `compute`'s contract allows for two meshes agree where their checks, their full records, their verdicts and their rows do:
+-- a refusal and the zero record do not hang on the mesh, and the pairs only if it is open. Assumes nothing.
 use mathlib.Core.Path.{_≡_, refl}
 use mathlib.Core.List.{List}
 use Prim.Native.Nat.{ℕ}

@@ -1,5 +1,5 @@
--- What agrees of two outcomes: two records but for what the documents except of an open shell, the pairs beside them, two answers, the areas
--- afterwards.
+-- What agrees of two outcomes: two records but for what the documents except of an open shell, the pairs beside them, two answers, the
+-- areas afterwards.
 use mathlib.Core.Path.{_≡_}
 use mathlib.Core.Bool.{Bool}
 use mathlib.Core.List.{List}

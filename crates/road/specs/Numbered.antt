@@ -10,7 +10,7 @@ use lib.Ieee.{Float}
 
 -- trust, method, best volume, the bits of the prism bound, and the six words of the pairs
 abbrev pub excepted : ℕ → Bool
-excepted i = eqb i 1 || (eqb i 2 || (eqb i 13 || (eqb i 15 || leb 20 i)))
+excepted i = eqb i 1 || (eqb i 2 || (eqb i 13 || (eqb i 15 || (leb 20 i && leb i 25))))
 
 -- words from place i on, those that are excepted as 0
 unfoldable pub unexcepted : ℕ → List ℕ → List ℕ

@@ -12,6 +12,7 @@ use lib.Dec.{ltb}
 use lib.ListN.{length}
 use borrow.Author.Tests.{lt-ltb}
 use Rattle.ids.specs.Uses.{Use, uses, keys, sumBy, bit}
+use Rattle.ids.proofs.Bits.{bit-most, bit-and}
 use Rattle.table.specs.inner.Rows.{sumTo}
 use Rattle.table.specs.inner.Table.{ups}
 
@@ -64,26 +65,15 @@ module _ {K : Type 0} (same : K → K → Bool) where
   ups-more k [] e = omega arith
   ups-more k (x ∷ es) e = omega (arith, ups-more k es e)
 
-  bit-and : (a b : Bool) → bit (a && b) ≤ bit a
-  unfolding bit
-  bit-and true true = omega arith
-  bit-and true false = omega arith
-  bit-and false b = omega arith
-
   pub ups-le : (k : K) (es : List (Use K)) → ups same k es ≤ uses same k es
   unfolding ups uses
   ups-le k [] = omega arith
   ups-le k (x ∷ es) = omega (arith, ups-le k es, bit-and (same k (x .key)) (x .up))
 
-  bit-le : (a : Bool) → bit a ≤ 1
-  unfolding bit
-  bit-le true = omega arith
-  bit-le false = omega arith
-
   pub uses-le : (k : K) (es : List (Use K)) → uses same k es ≤ length es
   unfolding uses
   uses-le k [] = omega arith
-  uses-le k (x ∷ es) = omega (arith, uses-le k es, bit-le (same k (x .key)))
+  uses-le k (x ∷ es) = omega (arith, uses-le k es, bit-most (same k (x .key)))
 
   module _ (same-eq : (a b : K) → same a b ≡ true → a ≡ b) (same-refl : (a : K) → same a a ≡ true) (Q : K → ℕ) where
     sum-cond : (m : ℕ) (a : K) (ks : List K) → sumBy Q (cond (ltb 0 m) ks (a ∷ ks)) ≡ new m (Q a) + sumBy Q ks

@@ -1,2 +1,2 @@
--- The prism by its parts.
+-- The prism and its pairs, by their parts.
 mod Prisms

@@ -1,5 +1,5 @@
--- Best volume (01): which volume is carried, by what method, whether it is to be trusted, and the prism bound; and the cells of the footprints
--- that the prism is made of (02, A3). f32, each step rounded once.
+-- Best volume (01): which volume is carried, by what method, whether it is to be trusted, and the prism bound; and the cells of the
+-- footprints that the prism is made of (02, A3). f32, each step rounded once.
 use Prim.Native.Nat.{ℕ}
 use mathlib.Core.Bool.{Bool, true, false, not, _&&_, cond}
 use mathlib.Core.List.{List}

@@ -37,7 +37,7 @@ pub enum PrismBound {
     Bound(f32),
 }
 
-// The cells of the footprints along z, y and x.
+// The cells of the z, y and x footprints, each named by the axis that it is seen along.
 pub struct Pairs {
     pub z: Pair,
     pub y: Pair,
@@ -56,13 +56,14 @@ pub fn no_pairs() -> Pairs
 
 // ---- the prism
 
-// On one axis: the prism, and the cells of its footprint.
+// What one axis gives: the prism along it, and the cells of its footprint.
 pub struct Across {
     pub prism: f32,
     pub cells: Pair,
 }
 
-// The footprint in a window times the extent on the third axis. The raster is zero afterwards.
+// The footprint in a window times the extent on the third axis, and its cells; 0 and none where the box is flat. The raster is zero
+// afterwards.
 fn prism_on(vertices: &[f32], indices: &[u32], s: Window, along: f32, raster: &mut [u8]) -> Across
     requires { ⌜ length (now raster) ≡ rasterBytes ⌝ }
     ensures { λ r. ⌜ (r .prism ≡ prismOn (now (vertices .entry)) (now (indices .entry)) s along)
@@ -228,8 +229,8 @@ pub struct Carried {
     pub pairs: Pairs,
 }
 
-// The best volume, by the magnitude of the mesh's own. The footprints are asked for an open shell alone, and once; the raster is zero
-// afterwards.
+// The best volume, by the magnitude of the mesh's own, and the pairs. Footprints are made for an open shell alone, and once for both. The
+// raster is zero afterwards.
 pub fn best_volume(
     quality: Quality,
     s: Sizes,

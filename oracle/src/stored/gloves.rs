@@ -13,7 +13,7 @@ use crate::solids::Shape;
 /// The corners of a triangle.
 type Corners = [[f32; 3]; 3];
 
-/// A volume of -1/27, within both bounds, so that only these differ: along x 22,016 of 65,536 cells are covered, and
+/// A volume of -1/27, within both bounds, so that of the record only these differ: along x 22,016 of 65,536 cells are covered, and
 /// 21,984 when reversed.
 const BOUND: Corners = [[1.0, 1.0, 1.0 / 3.0], [1.0 / 3.0, 0.0, 0.0], [0.0, 1.0, 1.0]];
 

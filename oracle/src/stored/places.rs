@@ -39,9 +39,9 @@ fn without(gone: &[[u32; 3]]) -> Shape {
 pub fn places(list: &mut List) {
     let (none, clip) = (Flags::default(), Flags { clip: true, defect: 0 });
     for (name, gone, flags, says) in [
-        // a volume of 1/2, within both bounds: the bound alone
+        // a volume of 1/2, within both bounds: of the record the bound alone
         ("bound", &[FLOOR, ABOVE, REST, WALL][..], none, [OPEN, OPEN]),
-        // a volume of 5/6, above both bounds: the bound, and with it the best volume
+        // a volume of 5/6, above both bounds: of the record the bound, and with it the best volume
         ("best", &[FLOOR, ABOVE], none, [PRISM, PRISM]),
         // a volume of 2/3, above the one and within the other: all four
         ("trust", &[FLOOR, ABOVE, REST], none, [PRISM, OPEN]),

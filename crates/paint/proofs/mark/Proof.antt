@@ -3,7 +3,6 @@
 use mathlib.Core.Path.{_≡_, _∙_, ap}
 use native.Mathlib.Omega.{arith}
 use borrow.Author.Needs.{needs}
-use Rattle.grid.specs.declared.Place.{Place}
 use Rattle.grid.specs.Point.{place, placeNumber}
 use Rattle.paint.proofs.Painting.{adds-nothing, adds-one}
 use Rattle.paint.proofs.Numbers.{most-two}

@@ -41,7 +41,8 @@ loop-again c =
     let l = at k .loop in
     let s = start k in
     let e = s .pre .1 .centred .at (l .i) (in-list k) in
-    (omega arith, omega arith, row-next _ _ _ _ (l .i) _ _ (column k) (l .inv .0) e (at k .before .centre .ensures) (l .inv .2) (m .mark .ensures))
+    let more = row-next _ _ _ _ (l .i) _ _ (column k) (l .inv .0) e (at k .before .centre .ensures) (l .inv .2) (m .mark .ensures) in
+    (omega arith, omega arith, more)
 
 returns : tie.Need-returns Inv-loop μ-loop
 returns c = let l = c .before .loop in row-last _ _ _ _ _ (l .i) (omega arith) (l .inv .1) (l .inv .2)

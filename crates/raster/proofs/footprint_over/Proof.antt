@@ -67,6 +67,6 @@ returns-2 c =
 pub footprint-over-spec : {M : Type 1} → statement M
 footprint-over-spec =
     tie.close
-    (tie.spec (λ c κs. search needs) (λ c κs. search needs) (λ c κs. search needs) (λ c κs. search needs) returns (λ c κs. search needs) mul-n
-    (λ c κs. search needs) (λ c κs. search needs) (λ c. search needs) (λ c. search needs) part-footprint-on-end (λ c κs. search needs)
+    (tie.spec (λ c κs. search needs) (λ c κs. search needs) (λ c κs. search needs) (λ c κs. search needs) returns (λ c κs. search needs)
+    mul-n (λ c κs. search needs) (λ c κs. search needs) (λ c. search needs) (λ c. search needs) part-footprint-on-end (λ c κs. search needs)
     (λ c. search needs) returns-2)

@@ -79,7 +79,8 @@ returns c =
     let k = at-x least in
     let a = from k .args in (
       prism-is (a .vertices .now) (a .indices .now) (a .b) (on-z k) (on-y k) (on-x k) (a .cube) _ _ _ _
-          (least .before .before .or-less .ensures) (least .before .or-less2 .ensures) (least .or-less3 .ensures) (c .before .or-none .ensures),
+          (least .before .before .or-less .ensures) (least .before .or-less2 .ensures) (least .or-less3 .ensures)
+          (c .before .or-none .ensures),
       c .pairs-on .ensures ∙ pairs-are (a .vertices .now) (a .indices .now) (a .b) (on-z k) (on-y k) (on-x k),
       k .prism-on3 .ensures .2,
     )

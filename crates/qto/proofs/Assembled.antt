@@ -12,7 +12,8 @@ use Rattle.verdict.specs.declared.Quality.{Quality}
 use Rattle.verdict.specs.Verdict.{quality}
 use Rattle.volume.specs.declared.Best.{Best}
 use Rattle.volume.specs.declared.Pairs.{Pairs}
-use Rattle.volume.specs.Best.{prism, bestOf, prismPairs, pairsOf}
+use Rattle.volume.specs.Best.{prism, bestOf}
+use Rattle.volume.specs.Pairs.{prismPairs, pairsOf}
 use Rattle.qto.specs.declared.Measures.{Measures}
 use Rattle.qto.specs.declared.Takeoff.{Takeoff}
 use Rattle.qto.specs.Full.{distance, verdict, best, measures, recordFrom, recordBy, recordOf, takeoffOf}

@@ -13,7 +13,8 @@ use Rattle.sums.specs.Box.{box}
 use Rattle.sums.specs.declared.bounds.Bounds.{Bounds}
 use Rattle.verdict.specs.declared.Quality.{Quality}
 use Rattle.volume.specs.declared.Pairs.{Pairs}
-use Rattle.volume.specs.Best.{hasFootprint, pairOn, prismPairs, noPairs, pairsOf}
+use Rattle.volume.specs.Best.{hasFootprint}
+use Rattle.volume.specs.Pairs.{pairOn, prismPairs, noPairs, pairsOf}
 use Rattle.qto.specs.Full.{recordOf, takeoffOf}
 use Rattle.qto.specs.Compute.{zeroTakeoff}
 use Rattle.qto.specs.Pairs.{PairsAre, ComputesPairs}

@@ -9,7 +9,7 @@ use Rattle.record.specs.Record.{zeroRecord}
 use Rattle.refusals.specs.declared.Check.{Check}
 use Rattle.refusals.specs.Refusals.{checkOf}
 use Rattle.vertices.specs.Areas.{workWords, rasterBytes}
-use Rattle.volume.specs.Best.{noPairs}
+use Rattle.volume.specs.Pairs.{noPairs}
 use Rattle.qto.specs.declared.Answer.{Answer}
 use Rattle.qto.specs.declared.Takeoff.{Takeoff}
 use Rattle.qto.specs.Full.{takeoffOf, surfacesAfter}

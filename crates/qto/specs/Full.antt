@@ -22,7 +22,8 @@ use Rattle.weld.specs.Weld.{epsilonOf}
 use Rattle.verdict.specs.declared.Quality.{Quality}
 use Rattle.verdict.specs.Verdict.{quality}
 use Rattle.volume.specs.declared.Best.{Best}
-use Rattle.volume.specs.Best.{prism, bestOf, prismPairs, pairsOf}
+use Rattle.volume.specs.Best.{prism, bestOf}
+use Rattle.volume.specs.Pairs.{prismPairs, pairsOf}
 use Rattle.record.specs.declared.MeshQto.{MeshQto}
 use Rattle.record.specs.declared.Profile.{Profile}
 use Rattle.qto.specs.declared.Measures.{Measures}

@@ -7,7 +7,7 @@ use Prim.Native.Nat.{ℕ}
 use lib.Ieee.{Float}
 use Rattle.raster.specs.Cells.{PairFits}
 use Rattle.verdict.specs.declared.Quality.{Quality}
-use Rattle.volume.specs.Best.{noPairs}
+use Rattle.volume.specs.Pairs.{noPairs}
 use Rattle.qto.specs.declared.Answer.{Answer}
 use Rattle.qto.specs.declared.Takeoff.{Takeoff}
 use Rattle.qto.specs.Compute.{Computes}

@@ -8,7 +8,7 @@ use lib.Ieee.{Float}
 use Rattle.vertices.specs.Areas.{workWords}
 use Rattle.verdict.specs.declared.Quality.{Quality}
 use Rattle.volume.specs.declared.Pairs.{Pairs}
-use Rattle.volume.specs.Best.{pairsOf}
+use Rattle.volume.specs.Pairs.{pairsOf}
 use Rattle.record.specs.declared.MeshQto.{MeshQto}
 use Rattle.record.specs.Record.{zeroRecord}
 use Rattle.refusals.specs.declared.Check.{Check}

@@ -8,7 +8,8 @@ use Rattle.raster.specs.declared.Window.{Window}
 use Rattle.sums.specs.declared.bounds.Bounds.{Bounds}
 use Rattle.volume.specs.declared.Across.{Across}
 use Rattle.volume.specs.declared.Pairs.{Pairs}
-use Rattle.volume.specs.Best.{acrossX, acrossY, acrossZ, prismOn, pairOn, prismPairs, orLess, orNone, prism}
+use Rattle.volume.specs.Best.{acrossX, acrossY, acrossZ, prismOn, orLess, orNone, prism}
+use Rattle.volume.specs.Pairs.{pairOn, prismPairs}
 
 -- on one axis: the window s across it, the extent e along it, and what the code has of their prism
 pub record IsAcross (vs : List Float) (ids : List ℕ) (s t : Window) (lo hi e : Float) (a : Across) : Type 0 where

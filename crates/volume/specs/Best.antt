@@ -1,5 +1,4 @@
--- Best volume (01): which volume is carried, by what method, whether it is to be trusted, and the prism bound; and the cells of the
--- footprints that the prism is made of (02, A3). f32, each step rounded once.
+-- Best volume (01): which volume is carried, by what method, whether it is to be trusted, and the prism bound. f32, each step rounded once.
 use Prim.Native.Nat.{ℕ}
 use mathlib.Core.Bool.{Bool, true, false, not, _&&_, cond}
 use mathlib.Core.List.{List}
@@ -8,14 +7,12 @@ use Rattle.ieee.specs.Cube.{cubeAbove}
 use Rattle.ieee.specs.Order.{least}
 use Rattle.ieee.specs.Single.{_⊗_, nought, extent}
 use Rattle.raster.specs.declared.Axis.{Axis}
-use Rattle.raster.specs.declared.Pair.{Pair}
 use Rattle.raster.specs.declared.Window.{Window}
-use Rattle.raster.specs.Footprint.{windowOf, noCells, footprint}
+use Rattle.raster.specs.Footprint.{windowOf, footprint}
 use Rattle.sums.specs.declared.bounds.Bounds.{Bounds}
 use Rattle.verdict.specs.declared.Quality.{Quality}
 use Rattle.volume.specs.declared.Best.{Best}
 use Rattle.volume.specs.declared.Method.{Method}
-use Rattle.volume.specs.declared.Pairs.{Pairs}
 use Rattle.volume.specs.declared.PrismBound.{PrismBound}
 
 -- ---- the prism: the least positive of three products footprint × extent
@@ -60,28 +57,6 @@ orNone p cube = cond (lt p (inf false)) (p ⊗ cube) nought
 
 unfoldable pub prism : List Float → List ℕ → Bounds → Float → Float
 prism vs ids b cube = orNone (leastPositive (prismX vs ids b) (prismY vs ids b) (prismZ vs ids b)) cube
-
--- ---- the pairs: the cells of the same three footprints
-
-unfoldable pub pairOn : List Float → List ℕ → Window → Float → Pair
-pairOn vs ids s e = cond (hasFootprint s e) (footprint vs ids s .cells) noCells
-
-unfoldable pub prismPairs : List Float → List ℕ → Bounds → Pairs
-prismPairs vs ids b =
-    record {
-      z = pairOn vs ids (acrossZ b) (extent (b .zmin) (b .zmax));
-      y = pairOn vs ids (acrossY b) (extent (b .ymin) (b .ymax));
-      x = pairOn vs ids (acrossX b) (extent (b .xmin) (b .xmax));
-    }
-
-abbrev pub noPairs : Pairs
-noPairs = record { z = noCells; y = noCells; x = noCells }
-
--- an open shell has those of its own prism, p; any other six zeros
-unfoldable pub pairsOf : Quality → Pairs → Pairs
-pairsOf Quality.Closed p = noPairs
-pairsOf Quality.Degenerate p = noPairs
-pairsOf Quality.OpenShell p = p
 
 -- ---- whether the volume of an open shell is to be trusted
 

@@ -5,7 +5,7 @@ ghost use lib.ListN.{length, replicate};
 ghost use Rattle.ieee.specs.Magnitude.{magnitude};
 ghost use Rattle.vertices.specs.Areas.{rasterBytes};
 ghost use Rattle.volume.specs.Best.{prismOn, orLess, orNone, prism as prismOf, closedBest, degenerateBest, openBest, bestOf};
-ghost use Rattle.volume.specs.Best.{pairOn, prismPairs, noPairs, pairsOf};
+ghost use Rattle.volume.specs.Pairs.{pairOn, prismPairs, noPairs, pairsOf};
 ghost use Rattle.volume.specs.inner.Across.{cellsAcross};
 ghost use Rattle.volume.specs.Best.{upper as upperOf, collapsed as collapsedOf, trusted as trustedOf};
 use raster::Axis;

@@ -12,7 +12,7 @@ use Rattle.sums.specs.declared.bounds.Bounds.{Bounds}
 use Rattle.sums.specs.Box.{box}
 use Rattle.rows.specs.Rows.{flatten, rowsOf, scaled, sorted, largest, smallest}
 use Rattle.rows.specs.Plain.{allPlain}
-use Rattle.volume.specs.Best.{prismPairs, pairsOf}
+use Rattle.volume.specs.Pairs.{prismPairs, pairsOf}
 use Rattle.refusals.specs.Refusals.{Passes}
 use Rattle.qto.specs.declared.Extremes.{Extremes}
 use Rattle.qto.specs.declared.Measures.{Measures}

@@ -1,5 +1,6 @@
 -- `volume::best_volume` meets its contract: the prism is asked for an open shell alone. Assumes nothing.
-use Rattle.volume.specs.Best.{bestOf, pairsOf}
+use Rattle.volume.specs.Best.{bestOf}
+use Rattle.volume.specs.Pairs.{pairsOf}
 use Rattle.ids.proofs.Lent.{cleared-all}
 use mathlib.Core.Path.{_∙_}
 use borrow.Author.Needs.{needs}

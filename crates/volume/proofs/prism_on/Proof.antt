@@ -1,6 +1,7 @@
 -- `volume::prism_on` meets its contract: a footprint is asked where the box has a length on each axis; else the raster is cleared. Assumes
 -- nothing.
-use Rattle.volume.specs.Best.{prismOn, pairOn}
+use Rattle.volume.specs.Best.{prismOn}
+use Rattle.volume.specs.Pairs.{pairOn}
 use Rattle.ids.proofs.Lent.{cleared-all}
 use mathlib.Core.Path.{_∙_}
 use borrow.Author.Needs.{needs}

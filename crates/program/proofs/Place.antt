@@ -16,8 +16,8 @@ use Rattle.place.proofs.Record.{rows-stay, records-agree}
 use Rattle.place.proofs.Place.{check-stays}
 use Rattle.road.proofs.Agree.{but-best, same-record}
 use Rattle.road.proofs.Flags.{flags-keep}
+use Rattle.words.specs.Words.{floatsOf}
 use Rattle.meshfile.specs.Format.{Contents, File}
-use Rattle.meshfile.specs.Reading.{floatsOf}
 use Rattle.program.specs.Program.{checkMesh, listed, textAt, meshText, textFor, textOf}
 use Rattle.program.specs.Place.{meshFloats, meshUnit, meshRecord, meshRows, IsOpen, AgreeTexts, TextDoesNotShow}
 

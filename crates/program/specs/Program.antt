@@ -16,8 +16,8 @@ use Rattle.record.specs.Numbers.{profileAt}
 use Rattle.refusals.specs.declared.Check.{Check}
 use Rattle.refusals.specs.Refusals.{checkOf}
 use Rattle.qto.specs.Full.{recordOf, surfaceRows}
+use Rattle.words.specs.Words.{floatsOf}
 use Rattle.meshfile.specs.Format.{File, fileOf}
-use Rattle.meshfile.specs.Reading.{floatsOf}
 use Rattle.listing.specs.Listing.{listingOf, refusedLine}
 
 -- ---- a mesh

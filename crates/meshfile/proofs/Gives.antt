@@ -11,7 +11,7 @@ use lib.ListN.{length, take, drop, length-drop}
 use lib.Seq.{length-take-le}
 use Rattle.record.specs.declared.Profile.{Profile}
 use Rattle.record.specs.Numbers.{profileAt}
-use Rattle.words.proofs.Parts.{part-words, part-is}
+use Rattle.words.proofs.Parts.{part-words, part-is, neither}
 use Rattle.words.specs.Words.{u32At, wordsIn, floatsOf}
 use Rattle.meshfile.specs.declared.Layout.{Layout}
 use Rattle.meshfile.specs.declared.MeshFile.{MeshFile}
@@ -21,10 +21,6 @@ use Rattle.meshfile.specs.Format.{File}
 use Rattle.meshfile.specs.Reading.{meshAreasShort, readingOf, floatsAfter, idsAfter, Reads}
 use Rattle.meshfile.specs.inner.Steps.{layoutOf, contentsAt, Fits, AreasFilled}
 use Rattle.meshfile.proofs.Layouts.{inside, file-holds, file-refused}
-
-neither : (a b : Bool) → (a || b) ≡ false → (a ≡ false) × (b ≡ false)
-neither true b q = let y : _≡_ {A = ℕ} 0 1 = cc in absurd (omega arith)
-neither false b q = (refl, q)
 
 -- a fault
 pub refused : (bytes : List ℕ) (vs : List Float) (ids : List ℕ) (n : ℕ) → layoutOf bytes ≡ Layout.Fault n

@@ -20,17 +20,21 @@ stl-one most bytes vs ids r r′ vs₁ vs₂ ids₁ ids₂ x y =
 
 -- ---- the refusals
 
+-- of a file alone: 5 or 6
+abbrev pub Stl56 : Stl → Type 0
+Stl56 (Stl.Triangles n) = Unit {0}
+Stl56 (Stl.Refused n) = (n ≡ 5) ⊎ (n ≡ 6)
+
 by-tests : (a b c : Bool) (n : ℕ)
-    → StlRefuses (cond a (Stl.Refused 5) (cond b (Stl.Refused 6) (cond (not c) (Stl.Refused 5) (Stl.Triangles n))))
-unfolding StlRefuses
-by-tests true b c n = inr (inl refl)
-by-tests false true c n = inr (inr refl)
-by-tests false false false n = inr (inl refl)
+    → Stl56 (cond a (Stl.Refused 5) (cond b (Stl.Refused 6) (cond (not c) (Stl.Refused 5) (Stl.Triangles n))))
+by-tests true b c n = inl refl
+by-tests false true c n = inr refl
+by-tests false false false n = inl refl
 by-tests false false true n = tt
 
-file-56 : (most : ℕ) (bytes : List ℕ) → StlRefuses (stlOf most bytes)
+pub stl-56 : (most : ℕ) (bytes : List ℕ) → Stl56 (stlOf most bytes)
 unfolding stlOf
-file-56 most bytes =
+stl-56 most bytes =
     by-tests (ltb (length bytes) 84) (ltb most (stlCount bytes)) (eqb (length bytes) (stlLength (stlCount bytes))) (stlCount bytes)
 
 short-3 : (b : Bool) (n : ℕ) → StlRefuses (cond b (Stl.Refused 3) (Stl.Triangles n))
@@ -38,14 +42,14 @@ unfolding StlRefuses
 short-3 true n = inl refl
 short-3 false n = tt
 
-in-areas : (r : Stl) (f i : ℕ) → StlRefuses r → StlRefuses (inAreas r f i)
-unfolding inAreas
-in-areas (Stl.Refused n) f i h = h
+in-areas : (r : Stl) (f i : ℕ) → Stl56 r → StlRefuses (inAreas r f i)
+unfolding inAreas StlRefuses
+in-areas (Stl.Refused n) f i h = inr h
 in-areas (Stl.Triangles n) f i h = short-3 (ltb f (9 * n) || ltb i (3 * n)) n
 
 pub stl-refuses-by-356 : StlRefusesBy356
 stl-refuses-by-356 most bytes vs ids r vs′ ids′ x =
-    subst StlRefuses (sym (x .answers)) (in-areas (stlOf most bytes) (length vs) (length ids) (file-56 most bytes))
+    subst StlRefuses (sym (x .answers)) (in-areas (stlOf most bytes) (length vs) (length ids) (stl-56 most bytes))
 
 pub stl-refusals-write-nothing : StlRefusalsWriteNothing
 unfolding cornersLater idsLater

@@ -8,3 +8,4 @@ pub mod Mesh
 pub mod Unseen
 pub mod Front
 pub mod One
+pub mod Numbers

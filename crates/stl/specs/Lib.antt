@@ -2,4 +2,5 @@
 pub mod Stl
 pub mod Reading
 pub mod Worth
+pub mod Numbers
 pub mod inner

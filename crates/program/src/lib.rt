@@ -147,10 +147,10 @@ pub fn run_stl(bytes: &[u8], text: &mut [u8; TEXT]) -> usize
 pub fn run_stl_front(bytes: &[u8; STL_KEPT], n: usize, text: &mut [u8; TEXT]) -> usize
     ensures { λ r. ⌜ PrintsFront stlTextOf (now (bytes .entry)) n (now (text .entry)) r (now (text .exit)) ⌝ }
 {
-    let all: &[u8] = bytes;
-    if n < all.len() {
-        run_stl(&all[..n], text)
+    let kept: &[u8] = bytes;
+    if n < kept.len() {
+        run_stl(&kept[..n], text)
     } else {
-        run_stl(all, text)
+        run_stl(kept, text)
     }
 }

@@ -1,9 +1,9 @@
 // Binary STL (document 02, A4): a mount's bytes read into lent floats and ids. Every triangle has corners and ids of its own.
 ghost use mathlib.Core.Path.{_≡_};
-ghost use Prim.Native.Nat.{_*_, _/_, _%_, _≤_};
+ghost use Prim.Native.Nat.{_*_, _/_, _%_, _≤_, _<_};
 ghost use lib.ListN.{length};
 ghost use Rattle.words.specs.Words.{floatsOf};
-ghost use Rattle.stl.specs.Stl.{stlLength, stlOf, cornersTo, idsTo};
+ghost use Rattle.stl.specs.Stl.{stlCount, stlLength, stlOf, cornersTo, idsTo};
 ghost use Rattle.stl.specs.Reading.{ReadsStl, mostTriangles, mostLarge};
 ghost use Rattle.stl.specs.inner.Filled.{Holds, Filled};
 
@@ -13,6 +13,14 @@ pub enum Stl {
     Refused(u8),
 }
 
+// What the count behind the header says.
+fn count_of(bytes: &[u8]) -> usize
+    requires { ⌜ 84 ≤ length (now bytes) ⌝ }
+    ensures { λ r. ⌜ (r ≡ stlCount (now (bytes .entry))) × (r < 4294967296) ⌝ }
+{
+    words::u32_at(bytes, 80) as usize
+}
+
 // How many triangles the bytes hold, if no more than so many; or the refusal of the fault that is met first.
 fn triangles_in(bytes: &[u8], most: usize) -> Stl
     ensures { λ r. ⌜ r ≡ stlOf most (now (bytes .entry)) ⌝ }
@@ -20,7 +28,7 @@ fn triangles_in(bytes: &[u8], most: usize) -> Stl
     if bytes.len() < 84 {
         return Stl::Refused(5);
     }
-    let n = words::u32_at(bytes, 80) as usize;
+    let n = count_of(bytes);
     if most < n {
         return Stl::Refused(6);
     }

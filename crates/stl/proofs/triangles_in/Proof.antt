@@ -13,7 +13,7 @@ returns : tie.Need-returns
 returns c = sym (under-84 _ _ (omega (arith, c .if1 .taken)))
 
 -- the count has been read
-module _ (c : tie.After-u32-at) where
+module _ (c : tie.After-count-of) where
   abbrev start : tie.Start
   start = c .before .before .before
 
@@ -21,21 +21,21 @@ module _ (c : tie.After-u32-at) where
   whole = omega (arith, c .before .if1 .left)
 
 returns-2 : tie.Need-returns-2
-returns-2 c = sym (too-many _ _ (whole (c .before)) (omega (arith, c .if2 .taken, c .before .u32-at .ensures)))
+returns-2 c = sym (too-many _ _ (whole (c .before)) (omega (arith, c .if2 .taken, c .before .count-of .ensures .0)))
 
 returns-3 : tie.Need-returns-3
 returns-3 c =
     let k = c .before .before in
-    sym (wrong-length _ _ (whole k) (omega (arith, c .before .if2 .left, k .u32-at .ensures))
-    (λ q. c .if3 .taken (omega (arith, q, k .u32-at .ensures))))
+    sym (wrong-length _ _ (whole k) (omega (arith, c .before .if2 .left, k .count-of .ensures .0))
+    (λ q. c .if3 .taken (omega (arith, q, k .count-of .ensures .0))))
 
 returns-4 : tie.Need-returns-4
 returns-4 c =
     let k = c .before .before in
-    rw (k .u32-at .ensures)
-    (sym (right-length _ _ (whole k) (omega (arith, c .before .if2 .left, k .u32-at .ensures)) (omega (arith, c .if3 .left, k .u32-at .ensures))))
+    rw (k .count-of .ensures .0)
+    (sym (right-length _ _ (whole k) (omega (arith, c .before .if2 .left, k .count-of .ensures .0)) (omega (arith, c .if3 .left, k .count-of .ensures .0))))
 
 pub triangles-in-spec : {M : Type 1} → statement M
 triangles-in-spec =
     tie.close
-    (tie.spec returns (λ c κs. search needs) (λ c. search needs) returns-2 (λ c. search needs) (λ c. search needs) returns-3 returns-4)
+    (tie.spec returns (λ c κs. search needs) returns-2 (λ c. search needs) (λ c. search needs) returns-3 returns-4)

@@ -1,4 +1,4 @@
-// What the programs that read one file and print one text share: standard input is read to its end, and a text is written to standard output.
+// What the programs that read one file and print one text share: reading standard input to its end, and writing standard output.
 ghost use Prim.Native.Nat.{_+_, _≤_};
 ghost use mathlib.Core.Path.{_≡_};
 ghost use mathlib.Core.Bool.{cond};

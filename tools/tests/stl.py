@@ -5,6 +5,7 @@ from __future__ import annotations
 import math
 import struct
 from collections import Counter
+from fractions import Fraction
 from typing import Iterable, Sequence
 
 from tests.shapes import cross, minus
@@ -20,7 +21,7 @@ Triangle = tuple[Point, Point, Point]
 
 def normal(triangle: Triangle) -> Point:
     """The unit normal, as most writers store it."""
-    a, b, c = triangle
+    a, b, c = ([Fraction(n) for n in corner] for corner in triangle)
     across = [float(n) for n in cross(minus(b, a), minus(c, a))]
     size = math.hypot(*across)
     return tuple(n / size for n in across) if size else (0.0, 0.0, 0.0)

@@ -11,9 +11,10 @@ use lib.Dec.{T, eqb}
 use lib.ListN.{length, take, drop, length-append}
 use lib.Seq.{drop-drop, take-append-seam, drop-append-seam}
 use Rattle.record.specs.Numbers.{flagsFit}
+use Rattle.words.specs.Words.{u16At, u32At}
 use Rattle.meshfile.specs.declared.Front.{Front}
 use Rattle.meshfile.specs.declared.Ending.{Ending}
-use Rattle.meshfile.specs.Format.{flagValues, u16At, u32At, mostInFile, lengthFits, frontOf, flagsIn, endingOf, ended, idsIn}
+use Rattle.meshfile.specs.Format.{flagValues, mostInFile, lengthFits, frontOf, flagsIn, endingOf, ended, idsIn}
 use Rattle.meshfile.specs.Format.{verticesIn, unitIn, fileOf, Contents, File}
 use Rattle.meshfile.specs.Written.{bytesOf, allBytes, chunkOf, plainFile, flaggedFile, Below, Proper, IsFileOf, Accepts}
 use Rattle.meshfile.proofs.Fronts.{Record, front-is}

@@ -9,15 +9,16 @@ use lib.Dec.{T}
 use lib.ListN.{length, take, drop, length-drop, take-append-drop, drop-of-length-le}
 use lib.Seq.{drop-drop, drop-cons, length-take-le}
 use Rattle.record.specs.Numbers.{flagsFit}
+use Rattle.words.specs.Words.{byte, u16At, u32At, wordsIn}
 use Rattle.meshfile.specs.declared.Parts.{Parts}
-use Rattle.meshfile.specs.Format.{byte, u16At, u32At, wordsIn, Contents}
+use Rattle.meshfile.specs.Format.{Contents}
 use Rattle.meshfile.specs.inner.Steps.{contentsAt}
 use Rattle.meshfile.specs.Written.{bytesOf, allBytes, chunkOf, plainFile, flaggedFile, Below, Proper, IsFileOf, AcceptsOnly}
 use Rattle.meshfile.proofs.Fronts.{Record}
 use Rattle.meshfile.proofs.Endings.{Flags, Ends, plain as endsPlain, flags as endsFlags, ends}
-use Rattle.meshfile.proofs.Words.{word-drop}
+use Rattle.words.proofs.Words.{word-drop}
 use Rattle.meshfile.proofs.Layouts.{Laid, laid-inside, drop-to, held}
-use Rattle.meshfile.proofs.Gives.{part-length, part-words}
+use Rattle.words.proofs.Parts.{part-length, part-words}
 use Rattle.meshfile.proofs.Bytes.{four, four-below, bytes-back, all-words, words-below, below-drop, below-take}
 use Rattle.meshfile.proofs.Accepts.{appended}
 

@@ -9,8 +9,9 @@ use borrow.Author.Tests.{ltb-false, lt-ltb, le-ltb}
 use lib.Dec.{ltb, eqb}
 use lib.ListN.{length, take, drop, length-drop}
 use lib.Seq.{length-take-le, getD-take, take-take, take-nil}
+use Rattle.words.specs.Words.{byte, u16At, u32At}
 use Rattle.meshfile.specs.declared.Front.{Front}
-use Rattle.meshfile.specs.Format.{byte, u16At, u32At, mostInFile, lengthFits, frontOf, flagsIn, endingOf, ended, idsIn, verticesIn}
+use Rattle.meshfile.specs.Format.{mostInFile, lengthFits, frontOf, flagsIn, endingOf, ended, idsIn, verticesIn}
 use Rattle.meshfile.specs.Format.{unitIn, fileOf}
 use Rattle.meshfile.specs.Written.{FilesAreShort, FrontDecidesFile}
 use Rattle.meshfile.proofs.Fronts.{record-of, four-bytes, whole-words, two-bytes}

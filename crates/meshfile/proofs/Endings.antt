@@ -8,10 +8,11 @@ use borrow.Author.Tests.{ltb-false, lt-ltb, le-ltb}
 use lib.Dec.{ltb}
 use lib.ListN.{length}
 use Rattle.record.specs.Numbers.{flagsFit}
+use Rattle.words.specs.Words.{byte}
 use Rattle.meshfile.specs.declared.Front.{Front}
 use Rattle.meshfile.specs.declared.Ending.{Ending}
 use Rattle.meshfile.specs.declared.FlagValues.{FlagValues}
-use Rattle.meshfile.specs.Format.{flagValues, byte, frontOf, flagsIn, endingOf}
+use Rattle.meshfile.specs.Format.{flagValues, frontOf, flagsIn, endingOf}
 use Rattle.meshfile.proofs.Fronts.{Record, record-of, two-bytes}
 
 pub flags-front : (n : ℕ) (bytes : List ℕ) → frontOf 4 bytes ≡ Front.Payload n → (n ≡ 2) × (8 ≤ length bytes)

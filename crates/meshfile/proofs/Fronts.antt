@@ -8,8 +8,9 @@ use borrow.Author.Tests.{ltb-false, eqb-true, lt-ltb, le-ltb, eq-eqb, ne-eqb, no
 use lib.Dec.{ltb, eqb}
 use lib.ListN.{length, take, drop, length-drop}
 use lib.Seq.{take-all}
+use Rattle.words.specs.Words.{u16At, u32At}
 use Rattle.meshfile.specs.declared.Front.{Front}
-use Rattle.meshfile.specs.Format.{u16At, u32At, mostInFile, lengthFits, frontOf}
+use Rattle.meshfile.specs.Format.{mostInFile, lengthFits, frontOf}
 
 -- a record of this kind whose payload is n bytes long
 pub record Record (kind n : ℕ) (bytes : List ℕ) : Type 0 where

@@ -11,39 +11,16 @@ use lib.ListN.{length, take, drop, length-drop}
 use lib.Seq.{length-take-le}
 use Rattle.record.specs.declared.Profile.{Profile}
 use Rattle.record.specs.Numbers.{profileAt}
+use Rattle.words.proofs.Parts.{part-words, part-is, neither}
+use Rattle.words.specs.Words.{u32At, wordsIn, floatsOf}
 use Rattle.meshfile.specs.declared.Layout.{Layout}
 use Rattle.meshfile.specs.declared.MeshFile.{MeshFile}
 use Rattle.meshfile.specs.declared.Parts.{Parts}
 use Rattle.meshfile.specs.declared.Reading.{Reading}
-use Rattle.meshfile.specs.Format.{u32At, wordsIn, File}
-use Rattle.meshfile.specs.Reading.{floatsOf, meshAreasShort, readingOf, floatsAfter, idsAfter, Reads}
+use Rattle.meshfile.specs.Format.{File}
+use Rattle.meshfile.specs.Reading.{meshAreasShort, readingOf, floatsAfter, idsAfter, Reads}
 use Rattle.meshfile.specs.inner.Steps.{layoutOf, contentsAt, Fits, AreasFilled}
 use Rattle.meshfile.proofs.Layouts.{inside, file-holds, file-refused}
-
-pub length-words : (l : List ℕ) → length (wordsIn l) ≡ length l / 4
-unfolding wordsIn
-length-words [] = refl
-length-words (a ∷ []) = refl
-length-words (a ∷ b ∷ []) = refl
-length-words (a ∷ b ∷ c ∷ []) = refl
-length-words (a ∷ b ∷ c ∷ d ∷ l) = omega (arith, length-words l)
-
--- a part of the bytes is as long as was asked, and so are its words
-pub part-length : (k n : ℕ) (bytes : List ℕ) → k + n ≤ length bytes → length (take n (drop k bytes)) ≡ n
-part-length k n bytes h = length-take-le n (drop k bytes) (omega (arith, length-drop k bytes))
-
-pub part-words : (k n : ℕ) (bytes : List ℕ) → k + 4 * n ≤ length bytes → length (wordsIn (take (4 * n) (drop k bytes))) ≡ n
-part-words k n bytes h = omega (arith, length-words (take (4 * n) (drop k bytes)), part-length k (4 * n) bytes h)
-
--- as it is lent, up to its end
-pub part-is : (k n : ℕ) (bytes : List ℕ) → take (k + n - k) (drop k bytes) ≡ take n (drop k bytes)
-part-is k n bytes =
-    let e : k + n - k ≡ n = omega arith in
-    rw e
-
-neither : (a b : Bool) → (a || b) ≡ false → (a ≡ false) × (b ≡ false)
-neither true b q = let y : _≡_ {A = ℕ} 0 1 = cc in absurd (omega arith)
-neither false b q = (refl, q)
 
 -- a fault
 pub refused : (bytes : List ℕ) (vs : List Float) (ids : List ℕ) (n : ℕ) → layoutOf bytes ≡ Layout.Fault n

@@ -5,11 +5,12 @@ use Prim.Native.Nat.{ℕ, _+_, _*_, _/_, _≤_}
 use native.Mathlib.Omega.{arith}
 use lib.ListN.{length, take, drop, length-drop}
 use lib.Seq.{drop-drop}
+use Rattle.words.specs.Words.{u32At, wordsIn}
 use Rattle.meshfile.specs.declared.Front.{Front}
 use Rattle.meshfile.specs.declared.Ending.{Ending}
 use Rattle.meshfile.specs.declared.Layout.{Layout}
 use Rattle.meshfile.specs.declared.Parts.{Parts}
-use Rattle.meshfile.specs.Format.{u32At, wordsIn, frontOf, endingOf, ended, idsIn, verticesIn, unitIn, fileOf, Contents}
+use Rattle.meshfile.specs.Format.{frontOf, endingOf, ended, idsIn, verticesIn, unitIn, fileOf, Contents}
 use Rattle.meshfile.specs.Format.{File}
 use Rattle.meshfile.specs.inner.Steps.{partsBy, idsFrom, verticesFrom, unitFrom, layoutOf, contentsAt, fileAt}
 use Rattle.meshfile.proofs.Fronts.{Record, record-of, four-bytes, whole-words}

@@ -1,7 +1,6 @@
--- Fronts of records, where everything stands, the words that are put, what reading gives, and the format from the writer's side.
+-- Fronts of records, where everything stands, what reading gives, and the format from the writer's side.
 mod Fronts
 mod Endings
-mod Words
 mod Layouts
 mod Gives
 pub mod Most

@@ -7,13 +7,14 @@ use native.Mathlib.Omega.{arith}
 use borrow.Author.Tests.{le-ltb}
 use lib.Ieee.{Float}
 use lib.ListN.{length, take, drop, length-take}
+use Rattle.words.specs.Words.{wordsIn}
 use Rattle.meshfile.specs.declared.Layout.{Layout}
 use Rattle.meshfile.specs.declared.MeshFile.{MeshFile}
 use Rattle.meshfile.specs.declared.Reading.{Reading}
-use Rattle.meshfile.specs.Format.{mostInFile, wordsIn, Contents, File, fileOf}
+use Rattle.meshfile.specs.Format.{mostInFile, Contents, File, fileOf}
 use Rattle.meshfile.specs.Reading.{meshAreasShort, meshFile, readingOf, Reads}
 use Rattle.meshfile.specs.inner.Steps.{layoutOf, contentsAt, fileAt}
-use Rattle.meshfile.proofs.Gives.{length-words}
+use Rattle.words.proofs.Parts.{length-words}
 use Rattle.meshfile.proofs.Layouts.{Stands, file-is, stands}
 
 few-words : (n : ℕ) (l : List ℕ) → 4 * n / 4 ≤ mostInFile → length (wordsIn (take (4 * n) l)) ≤ mostInFile

@@ -9,11 +9,12 @@ use lib.Dec.{eqb, ltb}
 use lib.Ieee.{Float}
 use lib.ListN.{length}
 use Rattle.record.specs.Numbers.{flagsFit}
+use Rattle.words.specs.Words.{byte, u16At, u32At}
 use Rattle.meshfile.specs.declared.Front.{Front}
 use Rattle.meshfile.specs.declared.Ending.{Ending}
 use Rattle.meshfile.specs.declared.MeshFile.{MeshFile}
 use Rattle.meshfile.specs.declared.Reading.{Reading}
-use Rattle.meshfile.specs.Format.{flagValues, byte, u16At, u32At, mostInFile, lengthFits, File, frontOf, flagsIn, endingOf, ended}
+use Rattle.meshfile.specs.Format.{flagValues, mostInFile, lengthFits, File, frontOf, flagsIn, endingOf, ended}
 use Rattle.meshfile.specs.Format.{idsIn, verticesIn, unitIn, fileOf}
 use Rattle.meshfile.specs.Reading.{meshAreasShort, meshFile, readingOf, floatsAfter, idsAfter, Refuses, RefusesBy356}
 use Rattle.meshfile.specs.Reading.{RefusalsWriteNothing, ReadOne}

@@ -1,33 +1,14 @@
 -- The program's input (01, The program `takeoff`): what a file holds, record by record, or the refusal of the fault that is met first.
-use Prim.Native.Nat.{ℕ, _+_, _*_, _/_, _%_}
+use Prim.Native.Nat.{ℕ, _+_, _/_, _%_}
 use mathlib.Core.Bool.{Bool, not, cond}
 use mathlib.Core.List.{List, [], _∷_}
 use lib.Dec.{eqb, ltb}
-use lib.ListN.{length, getD, take, drop}
+use lib.ListN.{length, take, drop}
 use Rattle.record.specs.Numbers.{flagsFit}
+use Rattle.words.specs.Words.{byte, u16At, u32At, wordsIn}
 use Rattle.meshfile.specs.declared.Front.{Front}
 use Rattle.meshfile.specs.declared.Ending.{Ending}
 use Rattle.meshfile.specs.declared.FlagValues.{FlagValues}
-
--- ---- numbers, little-endian
-
-abbrev pub byte : List ℕ → ℕ → ℕ
-byte bytes i = getD bytes i 0
-
--- a u16 and a u32 at a place
-unfoldable pub u16At : List ℕ → ℕ → ℕ
-u16At bytes i = byte bytes i + 256 * byte bytes (i + 1)
-
-unfoldable pub u32At : List ℕ → ℕ → ℕ
-u32At bytes i = byte bytes i + 256 * byte bytes (i + 1) + 65536 * byte bytes (i + 2) + 16777216 * byte bytes (i + 3)
-
--- the words of a payload; what is left over at the end belongs to none
-unfoldable pub wordsIn : List ℕ → List ℕ
-wordsIn [] = []
-wordsIn (a ∷ []) = []
-wordsIn (a ∷ b ∷ []) = []
-wordsIn (a ∷ b ∷ c ∷ []) = []
-wordsIn (a ∷ b ∷ c ∷ d ∷ l) = (a + 256 * b + 65536 * c + 16777216 * d) ∷ wordsIn l
 
 -- ---- one record: u32 payload length, u16 kind, payload
 

@@ -4,19 +4,15 @@ use mathlib.Core.Path.{_≡_}
 use mathlib.Core.Logic.{_⊎_}
 use Prim.Native.Nat.{ℕ}
 use mathlib.Core.Bool.{Bool, _||_, cond}
-use mathlib.Core.List.{List, [], _∷_, _++_}
+use mathlib.Core.List.{List, _++_}
 use lib.Dec.{eqb, ltb}
 use lib.ListN.{length, drop}
 use lib.Ieee.{Float, binary32, ofBits}
 use Rattle.record.specs.Numbers.{profileAt}
+use Rattle.words.specs.Words.{floatsOf}
 use Rattle.meshfile.specs.declared.MeshFile.{MeshFile}
 use Rattle.meshfile.specs.declared.Reading.{Reading}
 use Rattle.meshfile.specs.Format.{Contents, File, fileOf}
-
--- the floats of words: a NaN's pattern is a NaN
-unfoldable pub floatsOf : List ℕ → List Float
-floatsOf [] = []
-floatsOf (w ∷ ws) = ofBits binary32 w ∷ floatsOf ws
 
 -- refusal 3: an area of f floats or of i ids is too short for what the file holds
 unfoldable pub meshAreasShort : Contents → ℕ → ℕ → Bool

@@ -3,8 +3,8 @@ ghost use mathlib.Core.Path.{_≡_};
 ghost use Prim.Native.Nat.{_+_, _*_, _≤_, _<_};
 ghost use lib.ListN.{length};
 ghost use Rattle.meshfile.specs.declared.Front.{Front};
-ghost use Rattle.meshfile.specs.Format.{byte as byteOf, u16At, u32At, wordsIn, lengthFits, frontOf, flagsIn, endingOf};
-ghost use Rattle.meshfile.specs.Reading.{floatsOf, Reads};
+ghost use Rattle.meshfile.specs.Format.{lengthFits, frontOf, flagsIn, endingOf};
+ghost use Rattle.meshfile.specs.Reading.{Reads};
 ghost use Rattle.meshfile.specs.inner.Steps.{partsBy, idsFrom, verticesFrom, layoutOf, contentsAt, Fits, AreasFilled};
 use record::Profile;
 
@@ -20,38 +20,6 @@ pub struct MeshFile {
 pub enum Reading {
     File(MeshFile),
     Refused(u8),
-}
-
-// ---- numbers, little-endian
-
-// The byte at a place.
-fn byte(bytes: &[u8], at: usize) -> u32
-    requires { ⌜ at < length (now bytes) ⌝ }
-    ensures { λ r. ⌜ (r ≡ byteOf (now (bytes .entry)) at) × (r < 256) ⌝ }
-{
-    bytes[at] as u32
-}
-
-// The u16 at a place.
-fn u16_at(bytes: &[u8], at: usize) -> u32
-    requires { ⌜ at + 2 ≤ length (now bytes) ⌝ }
-    ensures { λ r. ⌜ r ≡ u16At (now (bytes .entry)) at ⌝ }
-{
-    let low = byte(bytes, at);
-    let high = byte(bytes, at + 1);
-    low + 256 * high
-}
-
-// The u32 at a place.
-fn u32_at(bytes: &[u8], at: usize) -> u32
-    requires { ⌜ at + 4 ≤ length (now bytes) ⌝ }
-    ensures { λ r. ⌜ r ≡ u32At (now (bytes .entry)) at ⌝ }
-{
-    let first = byte(bytes, at);
-    let second = byte(bytes, at + 1);
-    let third = byte(bytes, at + 2);
-    let fourth = byte(bytes, at + 3);
-    first + 256 * second + 65536 * third + 16777216 * fourth
 }
 
 // ---- one record
@@ -81,10 +49,10 @@ fn front_of(bytes: &[u8], kind: u32) -> Front
     if bytes.len() < 6 {
         return Front::Fault(5);
     }
-    if u16_at(bytes, 4) != kind {
+    if words::u16_at(bytes, 4) != kind {
         return Front::Fault(5);
     }
-    let n = u32_at(bytes, 0) as usize;
+    let n = words::u32_at(bytes, 0) as usize;
     if !length_fits(kind, n) {
         return Front::Fault(5);
     }
@@ -128,8 +96,8 @@ fn flags_in(bytes: &[u8], n: usize) -> Ending
     requires { ⌜ (n ≡ 2) × (8 ≤ length (now bytes)) ⌝ }
     ensures { λ r. ⌜ r ≡ flagsIn (Front.Payload n) (now (bytes .entry)) ⌝ }
 {
-    let clip = byte(bytes, 6);
-    let defect = byte(bytes, 7);
+    let clip = words::byte(bytes, 6);
+    let defect = words::byte(bytes, 7);
     if !record::flags_fit(clip, defect) {
         return Ending::Fault(5);
     }
@@ -197,28 +165,6 @@ fn layout_of(bytes: &[u8]) -> Layout
 
 // ---- what stands there
 
-fn put_floats(bytes: &[u8], vertices: &mut [f32])
-    requires { ⌜ length (now bytes) ≡ 4 * length (now vertices) ⌝ }
-    ensures { λ _. ⌜ now (vertices .exit) ≡ floatsOf (wordsIn (now (bytes .entry))) ⌝ }
-{
-    let mut i = 0;
-    while i < vertices.len() {
-        vertices[i] = floats::f32_of(u32_at(bytes, 4 * i));
-        i += 1;
-    }
-}
-
-fn put_ids(bytes: &[u8], ids: &mut [u32])
-    requires { ⌜ length (now bytes) ≡ 4 * length (now ids) ⌝ }
-    ensures { λ _. ⌜ now (ids .exit) ≡ wordsIn (now (bytes .entry)) ⌝ }
-{
-    let mut i = 0;
-    while i < ids.len() {
-        ids[i] = u32_at(bytes, 4 * i);
-        i += 1;
-    }
-}
-
 // The floats and ids go to the front of the two areas, which are long enough.
 fn fill(bytes: &[u8], vertices: &mut [f32], ids: &mut [u32], p: Parts) -> MeshFile
     requires { ⌜ Fits p (length (now bytes)) (length (now vertices)) (length (now ids)) ⌝ }
@@ -228,10 +174,10 @@ fn fill(bytes: &[u8], vertices: &mut [f32], ids: &mut [u32], p: Parts) -> MeshFi
     let f = p.floats;
     let i = p.ids;
     let at = 22 + 4 * f;
-    put_floats(&bytes[16..16 + 4 * f], &mut vertices[..f]);
-    put_ids(&bytes[at..at + 4 * i], &mut ids[..i]);
+    words::put_floats(&bytes[16..16 + 4 * f], &mut vertices[..f]);
+    words::put_words(&bytes[at..at + 4 * i], &mut ids[..i]);
     MeshFile {
-        unit: floats::f32_of(u32_at(bytes, 6)),
+        unit: floats::f32_of(words::u32_at(bytes, 6)),
         floats: f,
         ids: i,
         clip: p.flags.clip == 1,

@@ -30,8 +30,8 @@ use Rattle.refusals.specs.declared.Check.{Check}
 use Rattle.refusals.specs.Refusals.{checkOf, unitFits}
 use Rattle.qto.specs.Full.{best, buckets, measures, measuresFrom, recordBy, recordFrom, recordOf, surfaceOf, surfaceRows, totals, verdict}
 use Rattle.qto.specs.Full.{volumeOf}
-use Rattle.meshfile.specs.Format.{File, ended, endingOf, fileOf, frontOf, u16At, idsIn, lengthFits, unitIn, verticesIn, u32At, wordsIn}
-use Rattle.meshfile.specs.Reading.{floatsOf}
+use Rattle.words.specs.Words.{u16At, u32At, wordsIn, floatsOf}
+use Rattle.meshfile.specs.Format.{File, ended, endingOf, fileOf, frontOf, idsIn, lengthFits, unitIn, verticesIn}
 use Rattle.meshfile.specs.Written.{allBytes, bytesOf, plainFile, chunkOf}
 use Rattle.listing.specs.Cube.{cubeRecord, cubeRows, CubeLines}
 use Rattle.listing.proofs.Cube.{cube-lines}

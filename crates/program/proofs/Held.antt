@@ -7,18 +7,15 @@ use mathlib.Core.List.{List, [], _∷_, _++_}
 use lib.ListN.{length, take, drop}
 use lib.Seq.{take-append-seam}
 use lib.Ieee.{Float}
+use Rattle.words.proofs.Parts.{length-floats}
+use Rattle.words.specs.Words.{floatsOf}
 use Rattle.meshfile.specs.declared.MeshFile.{MeshFile}
 use Rattle.meshfile.specs.declared.Reading.{Reading}
 use Rattle.meshfile.specs.Format.{Contents, File, fileOf}
-use Rattle.meshfile.specs.Reading.{floatsOf, meshAreasShort, readingOf, floatsAfter, idsAfter, Reads}
+use Rattle.meshfile.specs.Reading.{meshAreasShort, readingOf, floatsAfter, idsAfter, Reads}
 use Rattle.meshfile.proofs.Most.{never-short}
 use Rattle.listing.specs.Listing.{refusedLine}
 use Rattle.program.specs.Program.{meshText, textFor, textOf}
-
-length-floats : (ws : List ℕ) → length (floatsOf ws) ≡ length ws
-unfolding floatsOf
-length-floats [] = refl
-length-floats (w ∷ ws) = ap suc (length-floats ws)
 
 -- the front of an area is what was put there
 front : {A : Type 0} (n : ℕ) (l rest : List A) → length l ≡ n → take n (l ++ rest) ≡ l

@@ -2,9 +2,11 @@
 mod Given
 mod Answered
 mod Held
+mod Mount
 pub mod Printed
 pub mod Suffice
 pub mod NotFinite
 pub mod Place
+pub mod MountPromises
 pub mod Glove
 pub mod Cube

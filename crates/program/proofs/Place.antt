@@ -16,8 +16,8 @@ use Rattle.place.proofs.Record.{rows-stay, records-agree}
 use Rattle.place.proofs.Place.{check-stays}
 use Rattle.road.proofs.Agree.{but-best, same-record}
 use Rattle.road.proofs.Flags.{flags-keep}
+use Rattle.words.specs.Words.{floatsOf}
 use Rattle.meshfile.specs.Format.{Contents, File}
-use Rattle.meshfile.specs.Reading.{floatsOf}
 use Rattle.program.specs.Program.{checkMesh, listed, textAt, meshText, textFor, textOf}
 use Rattle.program.specs.Place.{meshFloats, meshUnit, meshRecord, meshRows, IsOpen, AgreeTexts, TextDoesNotShow}
 
@@ -83,9 +83,15 @@ module _ (m : Contents) (vertices : List ℕ) where
               };
         }
 
+-- two meshes of which the second is the first moved
+pub moved-texts : (dx dy dz : ℤ) (m m′ : Contents) → m′ .unit ≡ m .unit → m′ .ids ≡ m .ids → m′ .clip ≡ m .clip → m′ .defect ≡ m .defect
+    → Moved dx dy dz (meshFloats m) (meshFloats m′) → T (unitEnough (meshUnit m))
+    → AgreeTexts m m′ (textFor (File.Holds m)) (textFor (File.Holds m′))
+moved-texts dx dy dz m m′ unit ids clip defect moved enough =
+    subst (λ (x : Contents). AgreeTexts m x (textFor (File.Holds m)) (textFor (File.Holds x))) (but-for-floats m m′ unit ids clip defect)
+    (texts m (m′ .vertices) dx dy dz moved enough)
+
 pub text-does-not-show : TextDoesNotShow
 unfolding textOf
 text-does-not-show dx dy dz m m′ bytes bytes′ h h′ unit ids clip defect moved enough =
-    rw (h, h′)
-    (subst (λ (x : Contents). AgreeTexts m x (textFor (File.Holds m)) (textFor (File.Holds x))) (but-for-floats m m′ unit ids clip defect)
-    (texts m (m′ .vertices) dx dy dz moved enough))
+    rw (h, h′) (moved-texts dx dy dz m m′ unit ids clip defect moved enough)

@@ -2,5 +2,6 @@
 pub mod Program
 pub mod Promises
 pub mod Place
+pub mod Mount
 pub mod Glove
 pub mod Cube

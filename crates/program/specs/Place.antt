@@ -15,8 +15,8 @@ use Rattle.refusals.specs.declared.Check.{Check}
 use Rattle.qto.specs.Full.{recordOf, surfaceRows}
 use Rattle.place.specs.Moved.{Moved, unitEnough}
 use Rattle.road.specs.Agree.{AgreeButBest}
+use Rattle.words.specs.Words.{floatsOf}
 use Rattle.meshfile.specs.Format.{Contents, File, fileOf}
-use Rattle.meshfile.specs.Reading.{floatsOf}
 use Rattle.listing.specs.Listing.{listingOf}
 use Rattle.program.specs.Program.{checkMesh, textOf}
 

@@ -16,8 +16,8 @@ use Rattle.record.specs.Numbers.{profileAt}
 use Rattle.refusals.specs.declared.Check.{Check}
 use Rattle.refusals.specs.Refusals.{checkOf}
 use Rattle.qto.specs.Full.{recordOf, surfaceRows}
+use Rattle.words.specs.Words.{floatsOf}
 use Rattle.meshfile.specs.Format.{File, fileOf}
-use Rattle.meshfile.specs.Reading.{floatsOf}
 use Rattle.listing.specs.Listing.{listingOf, refusedLine}
 
 -- ---- a mesh
@@ -56,7 +56,7 @@ pub record Prints (text area : List ℕ) (r : ℕ) (area′ : List ℕ) : Type 0
   pub answers : r ≡ length text
   pub later : area′ ≡ text ++ drop (length text) area
 
--- Any two answers that the contract of `run` allows are equal, and so is what stands in the area. (`run-one`)
+-- Any two answers that the contract of `run`, or of `run_stl`, allows are equal, and so is what stands in the area. (`run-one`)
 abbrev pub RunOne : Type 0
-RunOne = (bytes area : List ℕ) (r₁ r₂ : ℕ) (area₁ area₂ : List ℕ)
-    → Prints (textOf bytes) area r₁ area₁ → Prints (textOf bytes) area r₂ area₂ → (r₁ ≡ r₂) × (area₁ ≡ area₂)
+RunOne = (text area : List ℕ) (r₁ r₂ : ℕ) (area₁ area₂ : List ℕ)
+    → Prints text area r₁ area₁ → Prints text area r₂ area₂ → (r₁ ≡ r₂) × (area₁ ≡ area₂)

@@ -2,7 +2,7 @@
 -- is longer than any file.
 use mathlib.Core.Path.{_≡_}
 use mathlib.Core.Logic.{_⊎_}
-use Prim.Native.Nat.{ℕ, _%_, _^_, _≤_, _<_}
+use Prim.Native.Nat.{ℕ, _+_, _%_, _^_, _≤_, _<_}
 use mathlib.Core.Bool.{false, not, _||_, cond}
 use mathlib.Core.List.{List}
 use lib.Dec.{ltb}
@@ -12,7 +12,7 @@ use Rattle.sums.specs.Fine.{fine, allFine}
 use Rattle.refusals.specs.declared.Check.{Check}
 use Rattle.refusals.specs.Refusals.{unitFits}
 use Rattle.listing.specs.Listing.{refusedLine}
-use Rattle.program.specs.Program.{checkMesh, textOf, Prints}
+use Rattle.program.specs.Program.{checkMesh, Prints}
 
 -- the rows of 01's table that a file can meet: it is never too large, and no area is too short (`areas-suffice`)
 unfoldable pub checkFile : List Float → List ℕ → Float → Check
@@ -29,26 +29,24 @@ AreasSuffice = (vs : List Float) (ids : List ℕ) (u : Float) → length vs ≤ 
 abbrev pub NotFiniteRefused : Type 0
 NotFiniteRefused = (w : ℕ) → 0x7f80_0000 ≤ w % 2 ^ 31 → fine (ofBits binary32 w) ≡ false
 
--- How many bytes of its input the program keeps: one more than the longest file has.
-abbrev pub kept : ℕ
-kept = 12319
+-- ---- input that is longer than any file, for either program: what it prints of bytes, and how many the longest file has
 
--- Of input that is longer than any file these decide, so it needs to keep no more.
-abbrev pub KeptDecides : Type 0
-KeptDecides = (bytes : List ℕ) → 12318 < length bytes → textOf (take kept bytes) ≡ textOf bytes
+-- Of input that is longer one byte more decides, so the program needs to keep no more. (`front-decides`, `stl-text-front-decides`)
+abbrev pub KeptDecides : (List ℕ → List ℕ) → ℕ → Type 0
+KeptDecides text most = (bytes : List ℕ) → most < length bytes → text (take (most + 1) bytes) ≡ text bytes
 
--- and it is refused
-abbrev pub LongRefused : Type 0
-LongRefused = (bytes : List ℕ) → 12318 < length bytes → (n : ℕ) × ((n ≡ 5) ⊎ (n ≡ 6)) × (textOf bytes ≡ refusedLine n)
+-- and it is refused (`long-refused`, `stl-long-refused`)
+abbrev pub LongRefused : (List ℕ → List ℕ) → ℕ → Type 0
+LongRefused text most = (bytes : List ℕ) → most < length bytes → (n : ℕ) × ((n ≡ 5) ⊎ (n ≡ 6)) × (text bytes ≡ refusedLine n)
 
--- The complete contract of `run_front`, of an area of bytes and a number n: the text of the first n bytes is printed, and that is the text
--- of every input that
--- begins with them, whether they are all of it or as many as the area holds. So what a program need not keep does not matter.
-pub record PrintsFront (bytes : List ℕ) (n : ℕ) (area : List ℕ) (r : ℕ) (area′ : List ℕ) : Type 0 where
-  pub prints : Prints (textOf (take n bytes)) area r area′
-  pub decides : (input : List ℕ) → take n bytes ≡ take (length bytes) input → textOf (take n bytes) ≡ textOf input
+-- The complete contract of `run_front` and `run_stl_front`, of an area of bytes and a number n: the text of the first n bytes is printed, and
+-- that is the text of every input that begins with them, whether they are all of it or as many as the area holds. So what a program need
+-- not keep does not matter.
+pub record PrintsFront (text : List ℕ → List ℕ) (bytes : List ℕ) (n : ℕ) (area : List ℕ) (r : ℕ) (area′ : List ℕ) : Type 0 where
+  pub prints : Prints (text (take n bytes)) area r area′
+  pub decides : (input : List ℕ) → take n bytes ≡ take (length bytes) input → text (take n bytes) ≡ text input
 
--- Any two answers that the contract of `run_front` allows are equal, and so is what stands in the area. (`run-front-one`)
+-- Any two answers that it allows are equal, and so is what stands in the area. (`run-front-one`)
 abbrev pub RunFrontOne : Type 0
-RunFrontOne = (bytes : List ℕ) (n : ℕ) (area : List ℕ) (r₁ r₂ : ℕ) (area₁ area₂ : List ℕ)
-    → PrintsFront bytes n area r₁ area₁ → PrintsFront bytes n area r₂ area₂ → (r₁ ≡ r₂) × (area₁ ≡ area₂)
+RunFrontOne = (text : List ℕ → List ℕ) (bytes : List ℕ) (n : ℕ) (area : List ℕ) (r₁ r₂ : ℕ) (area₁ area₂ : List ℕ)
+    → PrintsFront text bytes n area r₁ area₁ → PrintsFront text bytes n area r₂ area₂ → (r₁ ≡ r₂) × (area₁ ≡ area₂)

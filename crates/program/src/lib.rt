@@ -1,23 +1,33 @@
-// What the program `takeoff` does between reading and writing: the bytes of a mesh file in, the bytes of its listing or of `refused N` out.
+// What the programs `takeoff` and `takeoff_stl` do between reading and writing: the bytes of a mesh file or of an STL in, the bytes of its
+// listing or of `refused N` out.
 ghost use mathlib.Core.Path.{_≡_};
+ghost use mathlib.Core.Bool.{false};
 ghost use Prim.Native.Nat.{_+_, _*_, _/_, _≤_};
 ghost use lib.ListN.{length, take};
+ghost use lib.Ieee.{binary32, ofBits};
 ghost use Rattle.ids.specs.Pieces.{shareEdge, pieces as piecesIn};
 ghost use Rattle.rows.specs.Rows.{rowsOf};
 ghost use Rattle.record.specs.Flags.{flagged};
+ghost use Rattle.record.specs.declared.Profile.{Profile};
 ghost use Rattle.listing.specs.Listing.{listingOf, refusedLine};
 ghost use Rattle.listing.specs.Lists.{headBytes};
 ghost use Rattle.program.specs.Program.{meshText, textOf, Prints};
 ghost use Rattle.program.specs.Promises.{PrintsFront};
+ghost use Rattle.program.specs.Mount.{stlTextOf};
 use listing::Listed;
 use meshfile::MeshFile;
 use meshfile::Reading;
 use pieces::PieceCount;
 use qto::Answer;
 use record::MeshQto;
+use record::Profile;
+use stl::Stl;
 
 // How many bytes of its input a program keeps. The longest file has one byte less, so these decide about all input (`PrintsFront`).
 pub const KEPT: usize = 12319;
+
+// The same for an STL: the longest has 170 triangles.
+pub const STL_KEPT: usize = 8585;
 
 // How many bytes the longest listing asks for: 512 rows.
 pub const TEXT: usize = 18784;
@@ -94,12 +104,53 @@ pub fn run(bytes: &[u8], text: &mut [u8; TEXT]) -> usize
 
 // What the program prints for an input of which it has kept the first n bytes: all of it, or as many as the area holds.
 pub fn run_front(bytes: &[u8; KEPT], n: usize, text: &mut [u8; TEXT]) -> usize
-    ensures { λ r. ⌜ PrintsFront (now (bytes .entry)) n (now (text .entry)) r (now (text .exit)) ⌝ }
+    ensures { λ r. ⌜ PrintsFront textOf (now (bytes .entry)) n (now (text .entry)) r (now (text .exit)) ⌝ }
 {
     let all: &[u8] = bytes;
     if n < all.len() {
         run(&all[..n], text)
     } else {
         run(all, text)
+    }
+}
+
+// ---- an STL
+
+// What a mesh file says beside its floats and ids, for n triangles of an STL: the unit is 0.001, and there are no flags.
+fn stl_mesh(n: usize) -> MeshFile
+    requires { ⌜ n ≤ 170 ⌝ }
+    ensures { λ r. ⌜ (r .unit ≡ ofBits binary32 0x3a83_126f) × (r .clip ≡ false) × (r .profile ≡ Profile.Valid) ⌝ }
+{
+    MeshFile {
+        unit: floats::f32_of(0x3a83_126f),
+        floats: 9 * n,
+        ids: 3 * n,
+        clip: false,
+        profile: Profile::Valid,
+    }
+}
+
+// What the program prints for an STL that it has read: the text of its mesh, in millimetres and without flags.
+pub fn run_stl(bytes: &[u8], text: &mut [u8; TEXT]) -> usize
+    ensures { λ r. ⌜ Prints (stlTextOf (now (bytes .entry))) (now (text .entry)) r (now (text .exit)) ⌝ }
+{
+    let mut vertices = [0f32; 1536];
+    let mut ids = [0u32; 1536];
+    let found = stl::read(bytes, &mut vertices, &mut ids);
+    match found {
+        Stl::Refused(n) => print_refusal(n, text),
+        Stl::Triangles(n) => print_mesh(stl_mesh(n), &vertices[..9 * n], &ids[..3 * n], text),
+    }
+}
+
+// The same for an input of which the program has kept the first n bytes.
+pub fn run_stl_front(bytes: &[u8; STL_KEPT], n: usize, text: &mut [u8; TEXT]) -> usize
+    ensures { λ r. ⌜ PrintsFront stlTextOf (now (bytes .entry)) n (now (text .entry)) r (now (text .exit)) ⌝ }
+{
+    let all: &[u8] = bytes;
+    if n < all.len() {
+        run_stl(&all[..n], text)
+    } else {
+        run_stl(all, text)
     }
 }

@@ -12,7 +12,7 @@ use Rattle.meshfile.proofs.fill.Tie as tie
 abbrev start : tie.After-put-floats-arg2 → tie.Start
 start c = c .before .before .before .before .before
 
-abbrev floats-put : tie.After-put-ids-arg2 → tie.After-put-floats
+abbrev floats-put : tie.After-put-words-arg2 → tie.After-put-floats
 floats-put c = c .before .before .before .before
 
 slice-aggregate-put-floats : tie.Need-slice-aggregate-put-floats
@@ -21,23 +21,23 @@ slice-aggregate-put-floats c = sym (length-take-le _ _ (start c .pre .floats-roo
 put-floats-requires : tie.Need-put-floats-requires
 put-floats-requires c κs = simp (length-take, length-drop) (omega (arith, start c .pre))
 
-slice-aggregate-put-ids : tie.Need-slice-aggregate-put-ids
-slice-aggregate-put-ids c = sym (length-take-le _ _ (start (floats-put c .before) .pre .ids-room))
+slice-aggregate-put-words : tie.Need-slice-aggregate-put-words
+slice-aggregate-put-words c = sym (length-take-le _ _ (start (floats-put c .before) .pre .ids-room))
 
-put-ids-requires : tie.Need-put-ids-requires
-put-ids-requires c κs = simp (length-take, length-drop) (omega (arith, start (floats-put c .before) .pre))
+put-words-requires : tie.Need-put-words-requires
+put-words-requires c κs = simp (length-take, length-drop) (omega (arith, start (floats-put c .before) .pre))
 
 returns : tie.Need-returns
 returns c =
     let ids = c .before .before .before .before .before .before in
     let floats = floats-put (ids .before) in
     filled _ _ _ _ (start (floats .before) .pre .inside) _ _ _ _ _ (c .before .before .before .u32-at .ensures)
-    (c .before .before .f32-of .ensures) (c .profile-of .ensures) (floats .put-floats .ensures) (ids .put-ids .ensures)
+    (c .before .before .f32-of .ensures) (c .profile-of .ensures) (floats .put-floats .ensures) (ids .put-words .ensures)
 
 pub fill-spec : {M : Type 1} → statement M
 fill-spec =
     tie.close
     (tie.spec (λ c. search needs) (λ c. search needs) (λ c. search needs) (λ c. search needs) (λ c. search needs) (λ c. search needs)
     (λ c. search needs) (λ c. search needs) slice-aggregate-put-floats put-floats-requires (λ c. search needs) (λ c. search needs)
-    (λ c. search needs) (λ c. search needs) (λ c. search needs) (λ c. search needs) slice-aggregate-put-ids put-ids-requires
+    (λ c. search needs) (λ c. search needs) (λ c. search needs) (λ c. search needs) slice-aggregate-put-words put-words-requires
     (λ c κs. search needs) (λ c κs. search needs) (λ c κs. search needs) (λ c. search needs) (λ c. search needs) returns)

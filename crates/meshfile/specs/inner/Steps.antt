@@ -9,8 +9,9 @@ use Rattle.meshfile.specs.declared.Ending.{Ending}
 use Rattle.meshfile.specs.declared.Layout.{Layout}
 use Rattle.meshfile.specs.declared.Parts.{Parts}
 use Rattle.meshfile.specs.declared.MeshFile.{MeshFile}
-use Rattle.meshfile.specs.Format.{u32At, wordsIn, behind, frontOf, endingOf, Contents, File}
-use Rattle.meshfile.specs.Reading.{floatsOf, meshFile}
+use Rattle.words.specs.Words.{u32At, wordsIn, floatsOf}
+use Rattle.meshfile.specs.Format.{behind, frontOf, endingOf, Contents, File}
+use Rattle.meshfile.specs.Reading.{meshFile}
 
 unfoldable pub partsBy : ℕ → ℕ → Ending → Layout
 partsBy f i (Ending.Fault n) = Layout.Fault n

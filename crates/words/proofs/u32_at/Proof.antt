@@ -1,9 +1,9 @@
--- `meshfile::u32_at` meets its contract: the sum is the definition's, and fits. Assumes nothing.
+-- `words::u32_at` meets its contract: the sum is the definition's, and fits. Assumes nothing.
 use native.Mathlib.Omega.{arith}
 use borrow.Author.Needs.{needs}
-use Rattle.meshfile.specs.Format.{u32At}
-use Rattle.meshfile.proofs.u32_at.Statement.{statement}
-use Rattle.meshfile.proofs.u32_at.Tie as tie
+use Rattle.words.specs.Words.{u32At}
+use Rattle.words.proofs.u32_at.Statement.{statement}
+use Rattle.words.proofs.u32_at.Tie as tie
 
 returns : tie.Need-returns
 unfolding u32At

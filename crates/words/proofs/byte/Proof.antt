@@ -1,8 +1,8 @@
--- `meshfile::byte` meets its contract: a byte fits, and is below 256. Assumes nothing.
+-- `words::byte` meets its contract: a byte fits, and is below 256. Assumes nothing.
 use native.Mathlib.Omega.{arith}
 use borrow.Author.Needs.{needs}
-use Rattle.meshfile.proofs.byte.Statement.{statement}
-use Rattle.meshfile.proofs.byte.Tie as tie
+use Rattle.words.proofs.byte.Statement.{statement}
+use Rattle.words.proofs.byte.Tie as tie
 
 cast-result : tie.Need-cast-result
 cast-result c = omega (arith, c .shared-slice-known .given (c .before .args .at))

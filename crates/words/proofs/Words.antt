@@ -8,15 +8,14 @@ use native.Mathlib.Omega.{arith}
 use lib.Ieee.{Float, binary32, ofBits}
 use lib.ListN.{length, take, drop, set, length-drop, drop-of-length-le}
 use lib.Seq.{take-all, take-suc-set, getD-drop, drop-drop}
-use Rattle.meshfile.specs.Format.{u32At, wordsIn}
-use Rattle.meshfile.specs.Reading.{floatsOf}
+use Rattle.words.specs.Words.{u32At, wordsIn, floatsOf}
 
 pub floats-map : (ws : List ℕ) → map (ofBits binary32) ws ≡ floatsOf ws
 unfolding floatsOf
 floats-map [] = refl
 floats-map (w ∷ ws) = ap (λ (l : List Float). ofBits binary32 w ∷ l) (floats-map ws)
 
-words-first : (l : List ℕ) → 4 ≤ length l → wordsIn l ≡ u32At l 0 ∷ wordsIn (drop 4 l)
+pub words-first : (l : List ℕ) → 4 ≤ length l → wordsIn l ≡ u32At l 0 ∷ wordsIn (drop 4 l)
 unfolding u32At wordsIn
 words-first [] h = absurd (omega arith)
 words-first (a ∷ []) h = absurd (omega arith)

@@ -1,0 +1,10 @@
+-- Lists one behind the other, the tests of a file, the areas filled, and what that is worth.
+mod InOrder
+pub mod Tests
+mod Ids
+mod Corners
+mod Given
+pub mod Mesh
+pub mod Unseen
+pub mod Front
+pub mod One

@@ -1,0 +1,41 @@
+-- `stl::triangles_in` meets its contract: the three tests are the definition's, in its order. Assumes nothing.
+use mathlib.Core.Path.{_≡_, sym, _∙_}
+use Prim.Native.Nat.{_≤_}
+use native.Mathlib.Omega.{arith}
+use borrow.Author.Needs.{needs}
+use lib.ListN.{length}
+use Rattle.stl.specs.Stl.{stlCount, stlLength}
+use Rattle.stl.proofs.Tests.{under-84, too-many, wrong-length, right-length}
+use Rattle.stl.proofs.triangles_in.Statement.{statement}
+use Rattle.stl.proofs.triangles_in.Tie as tie
+
+returns : tie.Need-returns
+returns c = sym (under-84 _ _ (omega (arith, c .if1 .taken)))
+
+-- the count has been read
+module _ (c : tie.After-u32-at) where
+  abbrev start : tie.Start
+  start = c .before .before .before
+
+  whole : 84 ≤ length (start .args .bytes .now)
+  whole = omega (arith, c .before .if1 .left)
+
+returns-2 : tie.Need-returns-2
+returns-2 c = sym (too-many _ _ (whole (c .before)) (omega (arith, c .if2 .taken, c .before .u32-at .ensures)))
+
+returns-3 : tie.Need-returns-3
+returns-3 c =
+    let k = c .before .before in
+    sym (wrong-length _ _ (whole k) (omega (arith, c .before .if2 .left, k .u32-at .ensures))
+    (λ q. c .if3 .taken (omega (arith, q, k .u32-at .ensures))))
+
+returns-4 : tie.Need-returns-4
+returns-4 c =
+    let k = c .before .before in
+    rw (k .u32-at .ensures)
+    (sym (right-length _ _ (whole k) (omega (arith, c .before .if2 .left, k .u32-at .ensures)) (omega (arith, c .if3 .left, k .u32-at .ensures))))
+
+pub triangles-in-spec : {M : Type 1} → statement M
+triangles-in-spec =
+    tie.close
+    (tie.spec returns (λ c κs. search needs) (λ c. search needs) returns-2 (λ c. search needs) (λ c. search needs) returns-3 returns-4)

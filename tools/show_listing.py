@@ -40,15 +40,16 @@ PROFILES = {
     "hole_outside": "a hole lies outside it",
     "overlapping": "two of its regions overlap",
 }
-# Document 01, 'Order of checks' and 'The program `takeoff`'.
+# Document 01, 'Order of checks' and 'The program `takeoff`'; 02, A4.
 REFUSALS = {
     1: "more than 98304 vertex floats or more than 98304 ids",
     2: "the unit is not finite, or outside its range (2^-20 to 16 metres a unit)",
     3: "the work area, the raster or the surface area is too short for this mesh",
     4: "a vertex float is not finite or too large (its magnitude is above 8589934592)",
     5: "not a mesh file: a header missing or cut, a wrong kind or length, a payload cut, a flag value unknown, "
-    "or bytes after the end",
-    6: "too many: the file has more than 1536 floats or more than 1536 ids",
+    "or bytes after the end; from --stl not a binary STL, which has 84 bytes and 50 for each triangle",
+    6: "too many: the file has more than 1536 floats or more than 1536 ids; from --stl a count above 170 triangles, "
+    "or text in its place",
 }
 
 

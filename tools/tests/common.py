@@ -1,4 +1,4 @@
-"""What the tests share: where things are, how a tool is run, whether the program is fresh, and document 01's cube."""
+"""What the tests share: where things are, how a tool is run, whether the programs are fresh, and document 01's cube."""
 
 from __future__ import annotations
 
@@ -84,18 +84,18 @@ def run(tool: str, *args: str, given: bytes = b"", folder: str | Path = ROOT) ->
 
 @functools.cache
 def why_not_fresh() -> str:
-    """Why the program is not to be asked, by the script's own rule; empty where it is. Building takes minutes."""
+    """Why the programs are not to be asked, by the script's own rule; empty where they are. Building takes minutes."""
     command_line = [str(SCRIPT), "--fresh"]
     done = subprocess.run(command_line, capture_output=True, stdin=subprocess.DEVNULL, check=False, timeout=60)
     if done.returncode == 0:
         return ""
     if done.returncode == 1:
-        return "the program is not built, or older than its text; run ./takeoff --build"
+        return "a program is not built, or older than its text; run ./takeoff --build"
     return done.stderr.decode().strip() or f"./takeoff --fresh ends with status {done.returncode}"
 
 
 def needs_program(what: str) -> Callable:
-    """Leaves a test or a class of tests out, and says what to run, where the program is not fresh."""
+    """Leaves a test or a class of tests out, and says what to run, where a program is not fresh."""
     return unittest.skipIf(why_not_fresh(), f"{what}: {why_not_fresh()}")
 
 

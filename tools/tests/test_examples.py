@@ -1,4 +1,4 @@
-"""The examples: the files that are kept, and, where the program is fresh, the whole road from OBJ to words."""
+"""The examples: the files that are kept, and, where the programs are fresh, the whole road from OBJ or STL to words."""
 
 from __future__ import annotations
 
@@ -7,6 +7,10 @@ import unittest
 
 import show_listing
 from tests.common import CUBE_BYTES, CUBE_LISTING, EXAMPLES, MADE_WITH, SCRIPT, Case, needs_program, run
+from tests.stl import MOUNT, MOUNT_FILE, triangles_of, uneven
+
+# The examples that are binary STL, and what they have to be.
+STL = {"mount": MOUNT_FILE, "mount-cut": MOUNT_FILE[:-30]}
 
 # What the words have to say of each example.
 SAYS = {
@@ -15,12 +19,16 @@ SAYS = {
     "two-plinths": ["closed.", "4.125 m3, to be relied on", "Pieces:           2", "Box volume:       10.5 m3"],
     "corner-plinths": ["closed.", "13 m3, to be relied on", "Pieces:           2", "Box volume:       30 m3"],
     "mast-foot-mm": ["closed.", "0.53780186 m3, to be relied on", "inclined:       1.0715294 m2"],
+    "mount": ["closed.", "0.0009280002 m3, to be relied on", "Pieces:           44", "inclined:       0.022000002 m2"],
+    "mount-cut": ["Refused (5)"],
 }
 
 
 class Kept(Case):
     def test_every_example_is_here(self) -> None:
         self.assertEqual({path.stem for path in EXAMPLES.glob("*.obj")}, set(MADE_WITH))
+        self.assertEqual({path.stem for path in EXAMPLES.glob("*.stl")}, set(STL))
+        self.assertEqual({path.stem for path in EXAMPLES.glob("*.listing")}, {*MADE_WITH, *STL})
 
     def test_document_01s_cube(self) -> None:
         self.assertEqual((EXAMPLES / "cube.mesh").read_bytes(), CUBE_BYTES)
@@ -30,8 +38,16 @@ class Kept(Case):
         for name, args in MADE_WITH.items():
             self.check(run("obj_to_mesh.py", *args, f"{name}.obj", folder=EXAMPLES), 0, "", mesh(name))
 
+    def test_the_mount(self) -> None:
+        for name, data in STL.items():
+            self.assertEqual((EXAMPLES / f"{name}.stl").read_bytes(), data)
+        self.assertEqual((len(MOUNT), len(MOUNT_FILE), len(STL["mount-cut"])), (44, 2284, 2254))
+        self.assertEqual(triangles_of(MOUNT_FILE), MOUNT)
+        self.assertEqual(uneven(MOUNT), [])
+        self.assertEqual(len(uneven(MOUNT[1:])), 3)
+
     def test_words(self) -> None:
-        for name in MADE_WITH:
+        for name in [*MADE_WITH, *STL]:
             words = show_listing.words(listing(name))
             for part in SAYS[name]:
                 self.assertIn(part, words)
@@ -40,6 +56,8 @@ class Kept(Case):
         readme = (EXAMPLES / "README.md").read_text()
         for name, args in MADE_WITH.items():
             self.assertIn(" ".join(["../tools/obj_to_mesh.py", *args, "--out", f"{name}.mesh", f"{name}.obj"]), readme)
+        for name in STL:
+            self.assertIn(f"../takeoff --stl {name}.stl", readme)
 
 
 @needs_program("the whole road")
@@ -50,6 +68,15 @@ class WholeRoad(Case):
                 self.check(run("obj_to_mesh.py", *args, "--out", str(self.out), f"{name}.obj", folder=EXAMPLES), 0, "")
                 printed = subprocess.run([str(SCRIPT), str(self.out)], capture_output=True, check=False, timeout=60)
                 self.assertEqual(printed.stdout, listing(name), printed.stderr.decode())
+                words = show_listing.words(listing(name)).encode()
+                self.check(run("show_listing.py", given=printed.stdout), 0, "", words)
+
+    def test_stl_to_listing_to_words(self) -> None:
+        for name in STL:
+            with self.subTest(name=name):
+                command = [str(SCRIPT), "--stl", str(EXAMPLES / f"{name}.stl")]
+                printed = subprocess.run(command, capture_output=True, check=False, timeout=60)
+                self.assertEqual((printed.stdout, printed.stderr), (listing(name), b""))
                 words = show_listing.words(listing(name)).encode()
                 self.check(run("show_listing.py", given=printed.stdout), 0, "", words)
 

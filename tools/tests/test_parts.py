@@ -1,4 +1,4 @@
-"""A mesh file that reaches the program in parts, as through a pipe: it has to print what it prints for the whole."""
+"""A file that reaches the program in parts, as through a pipe: it has to print what it prints for the whole."""
 
 from __future__ import annotations
 
@@ -11,7 +11,8 @@ import time
 import unittest
 
 from mowfrost import meshfile
-from tests.common import CUBE_BYTES, CUBE_LISTING, SCRIPT, needs_program
+from tests.common import CUBE_BYTES, CUBE_LISTING, EXAMPLES, SCRIPT, needs_program
+from tests.stl import HEAD, LONGEST as LONGEST_STL, MOST, MOUNT, MOUNT_FILE, written
 
 LONGEST = 12318  # bytes of the longest file that is one
 PATIENCE = 60  # seconds
@@ -22,10 +23,11 @@ def unread(pipe: int) -> int:
     return struct.unpack("i", fcntl.ioctl(pipe, termios.FIONREAD, bytes(4)))[0]
 
 
-def printed(data: bytes, cuts: list[int]) -> str:
+def printed(data: bytes, cuts: list[int], *words: str) -> str:
     """What the script prints for bytes that are written up to a cut, and on only when the program has read so far."""
     reading, writing = os.pipe()
-    with subprocess.Popen([str(SCRIPT)], stdin=reading, stdout=subprocess.PIPE, stderr=subprocess.PIPE) as script:
+    command = [str(SCRIPT), *words]
+    with subprocess.Popen(command, stdin=reading, stdout=subprocess.PIPE, stderr=subprocess.PIPE) as script:
         os.close(reading)
         end = time.monotonic() + PATIENCE
         for start, stop in zip([0, *cuts], [*cuts, len(data)]):
@@ -96,6 +98,25 @@ class Parts(unittest.TestCase):
                 self.assertEqual(printed(data, cuts), whole)
                 self.assertEqual(printed(data + b"\0", [*cuts, LONGEST]), "refused 5\n")
                 self.assertEqual(printed(data[:-1], [cut for cut in cuts if cut < LONGEST - 1]), "refused 5\n")
+
+    def test_an_stl(self) -> None:
+        """In the header, in the count, behind it, in a corner, in the attributes, before the last byte; each byte."""
+        listing = (EXAMPLES / "mount.listing").read_text()
+        last = len(MOUNT_FILE) - 1
+        for cuts in ([1], [80], [82], [HEAD], [last], [40, 83, 98], [HEAD + 49, HEAD + 50], list(range(1, last + 1))):
+            with self.subTest(cuts=cuts[:5]):
+                self.assertEqual(printed(MOUNT_FILE, cuts, "--stl"), listing)
+        self.assertEqual(printed(MOUNT_FILE[:-1], [80, HEAD], "--stl"), "refused 5\n")
+
+    def test_a_full_stl_a_byte_more_and_less(self) -> None:
+        data = written((MOUNT * 4)[:MOST])
+        whole = printed(data, [], "--stl")
+        self.assertTrue(whole.startswith("quality "), whole)
+        for cuts in ([81], [4096], [8583], [84, 8534]):
+            with self.subTest(cuts=cuts):
+                self.assertEqual(printed(data, cuts, "--stl"), whole)
+                self.assertEqual(printed(data + b"\0", [*cuts, LONGEST_STL], "--stl"), "refused 5\n")
+                self.assertEqual(printed(data + bytes(4096), [*cuts, LONGEST_STL + 1], "--stl"), "refused 5\n")
 
 
 if __name__ == "__main__":

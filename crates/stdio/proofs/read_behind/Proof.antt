@@ -1,11 +1,11 @@
--- `takeoff::read_behind` meets its contract: only what stands behind the n bytes was lent. Assumes nothing.
+-- `stdio::read_behind` meets its contract: only what stands behind the n bytes was lent. Assumes nothing.
 use Prim.Native.Nat.{_-_}
 use native.Mathlib.Omega.{arith}
 use lib.ListN.{length}
 use borrow.Rule.Slice.PartMut.{mid-len, take-put}
 use borrow.Author.Needs.{needs}
-use Rattle.takeoff.proofs.read_behind.Statement.{statement}
-use Rattle.takeoff.proofs.read_behind.Tie as tie
+use Rattle.stdio.proofs.read_behind.Statement.{statement}
+use Rattle.stdio.proofs.read_behind.Tie as tie
 
 returns : tie.Need-returns
 returns c =

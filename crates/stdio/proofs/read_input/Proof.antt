@@ -1,12 +1,12 @@
--- `takeoff::read_input` meets its contract: each turn but the last reads at least one byte behind those that are there. Assumes nothing.
+-- `stdio::read_input` meets its contract: each turn but the last reads at least one byte behind those that are there. Assumes nothing.
 use Prim.Native.Nat.{_-_, _≤_}
 use mathlib.Core.Path.{_≡_}
 use lib.ListN.{length, take}
 use native.Mathlib.Omega.{arith}
 use borrow.Author.Needs.{needs}
-use Rattle.takeoff.proofs.Kept.{sooner}
-use Rattle.takeoff.proofs.read_input.Statement.{statement}
-use Rattle.takeoff.proofs.read_input.Tie as tie
+use Rattle.stdio.proofs.Kept.{sooner}
+use Rattle.stdio.proofs.read_input.Statement.{statement}
+use Rattle.stdio.proofs.read_input.Tie as tie
 
 abbrev Inv-loop : tie.InvT-loop
 Inv-loop bytes₀ n have₀ bytes have = (length bytes ≡ length bytes₀) × (n ≤ have) × (have ≤ length bytes) × (take n bytes ≡ take n bytes₀)

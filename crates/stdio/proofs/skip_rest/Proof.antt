@@ -1,7 +1,7 @@
--- `takeoff::skip_rest` is safe and ends: its measure is the number of turns that are left. Assumes nothing.
+-- `stdio::skip_rest` is safe and ends: its measure is the number of turns that are left. Assumes nothing.
 use native.Mathlib.Omega.{arith}
-use Rattle.takeoff.proofs.skip_rest.Statement.{statement}
-use Rattle.takeoff.proofs.skip_rest.Tie as tie
+use Rattle.stdio.proofs.skip_rest.Statement.{statement}
+use Rattle.stdio.proofs.skip_rest.Tie as tie
 
 abbrev Inv-loop : tie.InvT-loop
 Inv-loop turns₀ turns = Unit {0}

@@ -9,14 +9,14 @@
  *
  * Slices. An array is passed as a pointer and a length in elements. The pointer is aligned for its type and not NULL,
  * also where the length is 0: then nothing is read or written through it, and the address of any object of the type
- * will do. A slice behind a pointer to const is only read. One that may be written (work, raster, surfaces, record)
- * overlaps nothing else that is passed; those that are only read may overlap each other. All this, and that so many
- * elements are there, is the caller's word: the library cannot see it.
+ * will do. A slice behind a pointer to const is only read. One that may be written (work, raster, surfaces, record;
+ * where an STL is read vertices and ids) overlaps nothing else that is passed; those that are only read may overlap
+ * each other. All this, and that so many elements are there, is the caller's word: the library cannot see it.
  *
  * Lent areas. What they hold before a call changes no answer. A refusal leaves them all as they were. An area may be
  * longer than is asked for, and what lies behind is left as it was. Of a float that has to stay it is proved that it
  * keeps its value. The proofs know one NaN: that a NaN there stays one is proved, that it keeps its sign and its digits
- * is not; it is tested (oracle/src/compute/nans.rs).
+ * is not; it is tested (oracle/src/compute/nans.rs and, where an STL is read, oracle/src/stl).
  *
  * Floats. The processor is as it is when a C program starts: rounding to nearest, subnormal numbers kept, no traps. */
 #ifndef MOWFROST_H
@@ -34,7 +34,8 @@ extern "C" {
  *   2  the unit is not a number from 2^-20 to 16
  *   3  an area is too short
  *   4  a vertex float is not finite, or above 8,589,934,592 (2^33) in magnitude
- *   5  a flag has a value that it cannot have */
+ *   5  a flag has a value that it cannot have, or the bytes are no binary STL
+ *   6  an STL has more triangles than are taken */
 #define MF_REFUSED 0x80000000u
 #define MF_MOST 98304u
 
@@ -122,6 +123,27 @@ uint32_t mf_pieces(const uint32_t *ids, size_t ids_len, uint32_t *work, size_t w
 uint32_t mf_compute(const float *vertices, size_t vertices_len, const uint32_t *ids, size_t ids_len, float unit,
                     uint32_t clip, uint32_t defect, uint32_t *work, size_t work_len, uint8_t *raster, size_t raster_len,
                     float *surfaces, size_t surfaces_len, uint32_t record[MF_RECORD_WORDS]);
+
+/* ---- files
+ *
+ * Binary STL: 80 bytes of header, a count, then 50 bytes a triangle: its normal (12), its three corners (36), two
+ * attribute bytes; all little-endian. Answers the number of triangles. vertices then begins with their corners, nine
+ * floats each in the file's order, and ids with 0, 1, 2, ..: triangle t has 3t, 3t + 1 and 3t + 2. Header, normals and
+ * attributes are not looked at, so a file that begins with "solid" is read like any other. What lies behind 9 floats
+ * and 3 ids a triangle is left as it was. A corner may be any float, also one that mf_compute refuses by 4; a NaN comes
+ * as a NaN, whatever its sign and digits. An STL has no unit: mf_compute is told one, 0.001 where it is in millimetres.
+ *
+ * Refusals, tried in this order: 5 for fewer than 84 bytes; 6 for a count above MF_STL_MOST, whatever the length; 5 for
+ * a length other than 84 + 50 * count; 3 for fewer than 9 * count vertices or 3 * count ids. */
+#define MF_STL_MOST 170u
+#define MF_STL_LARGE_MOST 10922u
+
+uint32_t mf_read_stl(const uint8_t *bytes, size_t bytes_len, float *vertices, size_t vertices_len, uint32_t *ids,
+                     size_t ids_len);
+
+/* The same with MF_STL_LARGE_MOST in the place of MF_STL_MOST: as many triangles as mf_compute takes so. */
+uint32_t mf_read_stl_large(const uint8_t *bytes, size_t bytes_len, float *vertices, size_t vertices_len, uint32_t *ids,
+                           size_t ids_len);
 
 /* ---- float helpers
  *

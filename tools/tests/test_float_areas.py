@@ -18,17 +18,18 @@ FUNCTION = re.compile(
 FLOATS = re.compile(r"(\w+): &mut \[f(?:32|64)")
 
 # Functions that store into floats that they are lent, and how many statements do. All of them store into a row that is there
-# or begins, but the last two: `put_floats` is lent just as many floats as the file has, and `centres` an array of its caller's own.
+# or begins, but the last two: `put_floats` is lent just as many floats as a mesh file, or a triangle of an STL, has, and `centres` an array
+# of its caller's own.
 STORES = {
     ("rows", "put"): 4,
     ("surfaces", "first_area"): 1,
     ("surfaces", "grow"): 1,
     ("surfaces", "new_row"): 3,
-    ("meshfile", "put_floats"): 1,
+    ("words", "put_floats"): 1,
     ("grid", "centres"): 1,
 }
 
-# The two routines that are lent floats from outside, and every line in which they name them: the length is asked for, and
+# The three routines that are lent floats from outside, and every line in which they name them: the length is asked for, and
 # where nothing is refused they go to one function.
 NAMED = {
     ("qto", "compute", "surfaces"): [
@@ -38,6 +39,10 @@ NAMED = {
     ("meshfile", "read", "vertices"): [
         "if (vertices.len() < p.floats) | (ids.len() < p.ids) {",
         "Reading::File(fill(bytes, vertices, ids, p))",
+    ],
+    ("stl", "read_most", "vertices"): [
+        "if (vertices.len() < 9 * n) | (ids.len() < 3 * n) {",
+        "fill(bytes, n, vertices, ids);",
     ],
 }
 

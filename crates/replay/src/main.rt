@@ -1,8 +1,8 @@
 // Runs the meshes of data/meshes, each a u32 length and so many bytes of the program's format, and prints for each what
 // `takeoff` prints, and a line with what the routines on ids say of its ids, what `compute` says to a work area that is one word
-// short, and the pairs of its footprints. The gate holds this to `stdout`: the unchanged Rust's answers, and a plain reference's where the
-// Rust has none (docs/DIFFERENCES.md says how).
-ghost use Prim.Native.Nat.{_≤_, _<_};
+// short, and the pairs of its footprints. Then the files of data/mounts, in the same framing, each a binary STL: what `takeoff_stl` prints. The
+// gate holds this to `stdout`: the unchanged Rust's answers, and a plain reference's where the Rust has none (docs/DIFFERENCES.md says how).
+ghost use Prim.Native.Nat.{_≤_};
 ghost use lib.ListN.{length};
 use chain::EdgeChain;
 use chain::FaceNet;
@@ -143,7 +143,7 @@ fn print_line_of(bytes: &[u8]) {
     }
 }
 
-// ---- one mesh after the other
+// ---- one file after the other
 
 fn print_listing(bytes: &[u8]) {
     let mut text = [0u8; program::TEXT];
@@ -151,53 +151,57 @@ fn print_listing(bytes: &[u8]) {
     io::write_all(STDOUT_FILENO, &text[..end]);
 }
 
-fn wide(b: u8) -> usize
-    ensures { λ r. ⌜ r < 256 ⌝ }
-{
-    b as usize
+fn print_mount(bytes: &[u8]) {
+    let mut text = [0u8; program::TEXT];
+    let end = program::run_stl(bytes, &mut text);
+    io::write_all(STDOUT_FILENO, &text[..end]);
 }
 
-fn length_in(head: &[u8; 4]) -> usize {
-    wide(head[0]) + 256 * wide(head[1]) + 65536 * wide(head[2]) + 16777216 * wide(head[3])
-}
-
-// The next bytes, as many as the part has, are a mesh file.
-fn replay_mesh(fd: i32, part: &mut [u8]) {
+// The next bytes, as many as the part has, are an STL or a mesh file.
+fn replay_file(fd: i32, stl: bool, part: &mut [u8]) {
     let got = io::read_full(fd, part);
+    if stl {
+        print_mount(&part[..got]);
+        return;
+    }
     print_listing(&part[..got]);
     print_line_of(&part[..got]);
 }
 
-// Answers whether there was one. No mesh of the list is longer than the buffer.
-fn replay_next(fd: i32) -> bool {
+// Answers whether there was one. No file of the lists is longer than the buffer.
+fn replay_next(fd: i32, stl: bool) -> bool {
     let mut head = [0u8; 4];
     if io::read_full(fd, &mut head) < 4 {
         return false;
     }
-    let n = length_in(&head);
+    let n = words::u32_at(&head, 0) as usize;
     let mut area = io::large_buffer();
     if n > 65536 {
         return false;
     }
-    replay_mesh(fd, &mut area[..n]);
+    replay_file(fd, stl, &mut area[..n]);
     true
 }
 
-// A proved loop has to end: it counts down from a number that no file uses up.
-fn replay_all(fd: i32) {
+// A proved loop has to end: it counts down from a number that no list uses up.
+fn replay_all(fd: i32, stl: bool) {
     let mut turns = u64::MAX;
-    while turns > 0 && replay_next(fd) {
+    while turns > 0 && replay_next(fd, stl) {
         turns -= 1;
     }
 }
 
-fn main() {
-    let name = b"meshes";
+fn replay(name: &[u8], stl: bool) {
     let fd = os::open_read(name);
     if fd < 0 {
         os::fail(name);
         return;
     }
-    replay_all(fd);
+    replay_all(fd, stl);
     libc::close(fd);
+}
+
+fn main() {
+    replay(b"meshes", false);
+    replay(b"mounts", true);
 }

@@ -4,10 +4,10 @@ use Rattle.replay.proofs.replay_all.Statement.{statement}
 use Rattle.replay.proofs.replay_all.Tie as tie
 
 abbrev Inv-loop : tie.InvT-loop
-Inv-loop fd turns₀ turns = Unit {0}
+Inv-loop fd stl turns₀ turns = Unit {0}
 
 abbrev μ-loop : tie.MeasureT-loop
-μ-loop fd turns₀ turns = turns
+μ-loop fd stl turns₀ turns = turns
 
 pub replay-all-spec : {M : Type 1} → statement M
 replay-all-spec =

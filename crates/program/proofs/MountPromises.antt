@@ -19,8 +19,8 @@ use Rattle.stl.proofs.One.{Stl56, stl-56}
 use Rattle.stl.proofs.Front.{stl-front-decides, stl-files-are-short}
 use Rattle.program.specs.Program.{textFor}
 use Rattle.program.specs.Promises.{KeptDecides, LongRefused}
-use Rattle.program.specs.Place.{meshFloats}
-use Rattle.program.specs.Mount.{stlContents, stlFile, stlTextOf, StlTextDoesNotShow}
+use Rattle.program.specs.Place.{meshFloats, StlTextDoesNotShow}
+use Rattle.program.specs.Mount.{stlContents, stlFile, stlTextOf}
 use Rattle.meshfile.proofs.One.{File56}
 use Rattle.program.proofs.Printed.{refused-text}
 use Rattle.program.proofs.Place.{moved-texts}

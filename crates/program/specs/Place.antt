@@ -1,4 +1,4 @@
--- Demand 3 for the program: what it prints for a file, and for the same file with its mesh moved.
+-- Demand 3 for the programs: what is printed for a file, and for the same file with its mesh moved.
 use mathlib.Core.Path.{_≡_}
 use mathlib.Core.List.{List}
 use Prim.Native.Nat.{ℕ}
@@ -17,8 +17,12 @@ use Rattle.place.specs.Moved.{Moved, unitEnough}
 use Rattle.road.specs.Agree.{AgreeButBest}
 use Rattle.words.specs.Words.{floatsOf}
 use Rattle.meshfile.specs.Format.{Contents, File, fileOf}
+use Rattle.stl.specs.declared.Stl.{Stl}
+use Rattle.stl.specs.Stl.{stlOf}
+use Rattle.stl.specs.Reading.{mostTriangles}
 use Rattle.listing.specs.Listing.{listingOf}
 use Rattle.program.specs.Program.{checkMesh, textOf}
+use Rattle.program.specs.Mount.{stlContents, stlTextOf}
 
 -- ---- a file's mesh
 
@@ -62,3 +66,14 @@ TextDoesNotShow =
     → m′ .unit ≡ m .unit → m′ .ids ≡ m .ids → m′ .clip ≡ m .clip → m′ .defect ≡ m .defect
     → Moved dx dy dz (meshFloats m) (meshFloats m′) → T (unitEnough (meshUnit m))
     → AgreeTexts m m′ (textOf bytes) (textOf bytes′)
+
+-- ---- the same for an STL
+
+-- Two files, the corners of the second those of the first moved by whole numbers: unless the mesh is open they print the same bytes, and
+-- if it is they differ in four lines at most. The unit is one for which demand 3 speaks. (`stl-text-does-not-show`)
+abbrev pub StlTextDoesNotShow : Type 0
+StlTextDoesNotShow =
+    (dx dy dz : ℤ) (bytes bytes′ : List ℕ) (n n′ : ℕ)
+    → stlOf mostTriangles bytes ≡ Stl.Triangles n → stlOf mostTriangles bytes′ ≡ Stl.Triangles n′
+    → Moved dx dy dz (meshFloats (stlContents bytes n)) (meshFloats (stlContents bytes′ n′))
+    → AgreeTexts (stlContents bytes n) (stlContents bytes′ n′) (stlTextOf bytes) (stlTextOf bytes′)

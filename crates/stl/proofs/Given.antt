@@ -15,7 +15,7 @@ use Rattle.stl.specs.declared.Stl.{Stl}
 use Rattle.stl.specs.Stl.{stlOf, cornersTo, idsTo}
 use Rattle.stl.specs.Reading.{inAreas, cornersLater, idsLater, ReadsStl}
 use Rattle.stl.specs.Worth.{IsStl}
-use Rattle.stl.specs.inner.Filled.{Holds, Filled}
+use Rattle.stl.specs.inner.Filled.{RoomFor, Filled}
 use Rattle.stl.proofs.Tests.{taken-exactly}
 
 pub filled : (bytes : List ℕ) (n : ℕ) (vs : List Float) (ids : List ℕ) → 3 * n ≤ length ids
@@ -48,7 +48,7 @@ module _ (most : ℕ) (bytes : List ℕ) (vs : List Float) (ids : List ℕ) wher
     unfolding inAreas
     given q vs′ ids′ x = record { answers = rw (held, q); floats = x .floats; ids-later = x .ids-later }
 
-    pub holds : tooShort ≡ false → 3 * most ≤ 4294967296 → Holds n (length bytes) (length vs) (length ids)
+    pub holds : tooShort ≡ false → 3 * most ≤ 4294967296 → RoomFor n (length bytes) (length vs) (length ids)
     holds q words =
         let both = neither (ltb (length vs) (9 * n)) (ltb (length ids) (3 * n)) q in
         record {

@@ -18,13 +18,13 @@ pub record IsStl (most n : ℕ) (bytes : List ℕ) : Type 0 where
   pub count : stlCount bytes ≡ n
   pub few : n ≤ most
 
-pub record Taken (most n : ℕ) (bytes : List ℕ) : Type 0 where
+pub record TakenFiles (most n : ℕ) (bytes : List ℕ) : Type 0 where
   pub only-these : stlOf most bytes ≡ Stl.Triangles n → IsStl most n bytes
   pub all-these : IsStl most n bytes → stlOf most bytes ≡ Stl.Triangles n
 
 -- (`taken-exactly`)
 abbrev pub TakenExactly : Type 0
-TakenExactly = (most n : ℕ) (bytes : List ℕ) → Taken most n bytes
+TakenExactly = (most n : ℕ) (bytes : List ℕ) → TakenFiles most n bytes
 
 -- ---- Triangle t has the nine floats at its place, and the ids 3t, 3t + 1 and 3t + 2.
 

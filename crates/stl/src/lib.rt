@@ -5,7 +5,7 @@ ghost use lib.ListN.{length};
 ghost use Rattle.words.specs.Words.{floatsOf};
 ghost use Rattle.stl.specs.Stl.{stlCount, stlLength, stlOf, cornersTo, idsTo};
 ghost use Rattle.stl.specs.Reading.{ReadsStl, mostTriangles, mostLarge};
-ghost use Rattle.stl.specs.inner.Filled.{Holds, Filled};
+ghost use Rattle.stl.specs.inner.Filled.{RoomFor, Filled};
 
 // How many triangles there are, or the refusal.
 pub enum Stl {
@@ -66,7 +66,7 @@ fn put_ids(area: &mut [u32])
 
 // The corners and ids of n triangles go to the front of the two areas, which are long enough.
 fn fill(bytes: &[u8], n: usize, vertices: &mut [f32], ids: &mut [u32])
-    requires { ⌜ Holds n (length (now bytes)) (length (now vertices)) (length (now ids)) ⌝ }
+    requires { ⌜ RoomFor n (length (now bytes)) (length (now vertices)) (length (now ids)) ⌝ }
     ensures { λ _. ⌜ Filled (now (bytes .entry)) n (now (vertices .entry)) (now (ids .entry)) (now (vertices .exit)) (now (ids .exit)) ⌝ }
 {
     put_corners(bytes, n, &mut vertices[..9 * n]);

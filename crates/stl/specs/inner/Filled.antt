@@ -9,7 +9,7 @@ use Rattle.stl.specs.Stl.{stlLength}
 use Rattle.stl.specs.Reading.{cornersLater, idsLater}
 
 -- n triangles lie within b bytes, find room in areas of v floats and w ids, and their ids are words
-pub record Holds (n b v w : ℕ) : Type 0 where
+pub record RoomFor (n b v w : ℕ) : Type 0 where
   pub inside : stlLength n ≤ b
   pub floats-room : 9 * n ≤ v
   pub ids-room : 3 * n ≤ w

@@ -9,6 +9,7 @@
 #[allow(dead_code, clippy::all)]
 pub mod mesh;
 
+pub mod area;
 pub mod compute;
 pub mod counts;
 pub mod exception;

@@ -245,6 +245,26 @@ impl Count {
         }
     }
 
+    /// A mesh without flags that was read from a file, held to the record of the mesh that should have been read: over exact areas, and now
+    /// and then over others.
+    pub fn hold(&mut self, port: Port, read: &MeshFile, right: &MeshFile, random: &mut Random, lending: &mut Lending) {
+        let exact = Lent::exactly(right.vertices.len(), right.ids.len());
+        let answer = compute(right, exact);
+        self.note(right, &answer);
+        if let (Answer::Record(record, _), false) = (&answer, is_zero_record(right)) {
+            self.counted.meet(right, record);
+        }
+        lending.elsewhere(random);
+        let call = Call { mesh: read, clip: 0, defect: 0 };
+        self.compare(port, &call, exact, &Promise::of(right, &answer), lending);
+        if random.once_in(4) {
+            let choices = choices(exact, true, random);
+            let lent = random.pick(&choices);
+            let promise = Promise::of(right, &if lent.holds(exact) { answer } else { compute(right, lent) });
+            self.compare(port, &call, lent, &promise, lending);
+        }
+    }
+
     fn compare(&mut self, port: Port, call: &Call, lent: Lent, right: &Promise, lending: &mut Lending) {
         let (areas, record) = lending.lend(call.mesh, lent);
         let given = port(call, areas, record);

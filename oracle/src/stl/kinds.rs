@@ -13,7 +13,7 @@ use std::sync::LazyLock;
 type Own = (&'static str, fn(&mut Random) -> Shape);
 
 /// Beside the kinds of `compute`: what a mount has, and what STL files hold that those do not, or too seldom.
-const OWN: [Own; 13] = [
+const OWN: [Own; 14] = [
     ("none", |_| Shape::default()),
     ("one", |random| lattice(random, 1)),
     ("two or three", |random| {
@@ -23,6 +23,7 @@ const OWN: [Own; 13] = [
     ("a mount", mount),
     ("full", full),
     ("whole numbers", whole_numbers),
+    ("floors", floors),
     ("flat", flat),
     ("gaps of 0.1", gaps),
     ("nan corners", |random| spoilt(random, |random| f32::from_bits(nan(random)))),
@@ -103,8 +104,8 @@ fn whole(random: &mut Random, kind: usize) -> Stl {
     };
     let mut corners = corners(&shape);
     corners.truncate(MOST);
-    if !name.starts_with("gaps") {
-        // few of those that take many point tests stay as they are
+    // few of those that take many point tests stay as they are; gaps and floors do
+    if !name.starts_with("gaps") && name != "floors" {
         let vertices = corners.as_flattened();
         let soup = plain(UNIT, vertices, &(0..vertices.len() as u32 / 3).collect::<Vec<_>>());
         corners = affordable(soup, random).vertices.as_chunks().0.to_vec();
@@ -179,6 +180,18 @@ fn whole_numbers(random: &mut Random) -> Shape {
     let far = random.pick(&[0.0, 0.0, 1e5, 16_000_000.0]);
     let shape = shape.moved([far, -far, far]).shuffled(random);
     cut(random, shape, 4)
+}
+
+/// A floor and a small level triangle above a corner of it: the prism is the box, up to its roundings.
+fn floors(random: &mut Random) -> Shape {
+    let [wide, deep, high] = [0; 3].map(|_| random.between(30.0, 900.0) as f32);
+    let mut shape = Shape::default();
+    for [x, y, z] in [[0.0, 0.0, 0.0], [wide, 0.0, 0.0], [wide, deep, 0.0], [0.0, deep, 0.0]] {
+        shape.vertex(x, y, z);
+    }
+    let [a, b, c] = [[0.0, 0.0], [9.0, 0.0], [0.0, 9.0]].map(|[x, y]| shape.vertex(x, y, high));
+    shape.ids = vec![0, 1, 2, 0, 2, 3, a, b, c];
+    shape.rolled(random.below(3)).shuffled(random)
 }
 
 /// All corners at one height, in one line, or in one place.

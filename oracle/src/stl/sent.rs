@@ -21,13 +21,13 @@ const OWN: [Own; 10] = [
         let keep = random.below(FRONT + RECORD);
         some(random).bytes()[..].iter().copied().take(keep).collect()
     }),
-    ("tail", |random, _| tail(random)),
+    ("tail", |random, turn| tail(random, turn % 4 == 0)),
     ("full", |random, _| full(random)),
     ("full less one", |random, _| full(random)[..FULL - 1].to_vec()),
     ("full and one", |random, _| [full(random), vec![random.pick(&[0, 7])]].concat()),
     ("full and two", |random, _| [full(random), vec![random.pick(&[0, 7]); 2]].concat()),
     ("in parts", |random, turn| if turn % 2 == 0 { full(random) } else { some(random).bytes() }),
-    ("long, in parts", |random, _| tail(random)),
+    ("long, in parts", |random, turn| tail(random, turn % 4 == 1)),
 ];
 
 /// After so many files every kind has had its turn.
@@ -58,12 +58,15 @@ fn full(random: &mut Random) -> Vec<u8> {
 }
 
 /// Far too long, or up to and about where a page, a full file or a pipe ends; the count says what was there first, all of it, or too many.
-fn tail(random: &mut Random) -> Vec<u8> {
+fn tail(random: &mut Random, far: bool) -> Vec<u8> {
     let stl = some(random);
     let bytes = stl.bytes();
+    if far {
+        return counted(bytes, TAIL, stl.count);
+    }
     let end = match random.below(3) {
         0 => random.pick(&[4096, FULL, FULL + 1, FULL + 2, 65_535, 65_536, 65_537]),
-        1 => TAIL,
+        1 => random.within(FULL as i64, FULL as i64 + 300) as usize,
         _ => random.within(FULL as i64, TAIL as i64) as usize,
     };
     let fits = (end - FRONT) / RECORD;

@@ -22,6 +22,7 @@ oracle: the unchanged Rust original, asked in document 01's words
                                exception are named on standard error
   oracle meshes SEED COUNT     writes COUNT meshes in that framing, of every kind in turn
   oracle kinds                 names the kinds, in the order in which 'meshes' takes them
+  oracle kinds stl             names the kinds of STL files, in the order in which 'stl' and 'program-stl' take them
   oracle reach SEED COUNT      counts what those meshes reach: verdicts, methods, refusals, branches, triangles left out
   oracle answer                standard input: one file of the program's format, without a length before it; prints its
                                listing or 'refused N', as the program does
@@ -136,7 +137,8 @@ fn main() -> ExitCode {
             Ok(number) => write_out(&(task(command).sent)(number).bytes),
             Err(_) => return usage("NUMBER is a whole number from 0 up"),
         },
-        ["kinds"] => print_kinds(),
+        ["kinds"] => print_kinds(kinds::KINDS.iter().map(|kind| kind.name)),
+        ["kinds", "stl"] => print_kinds(stl::kinds::kinds().into_iter()),
         [command @ ("meshes" | "reach"), seed, count] => match (seed.parse(), count.parse()) {
             (Ok(seed), Ok(count)) if *command == "meshes" => write_meshes(seed, count),
             (Ok(seed), Ok(count)) => print_reach(seed, count),
@@ -299,10 +301,10 @@ fn write_meshes(seed: u64, count: u64) -> io::Result<ExitCode> {
     Ok(ExitCode::SUCCESS)
 }
 
-fn print_kinds() -> io::Result<ExitCode> {
+fn print_kinds(names: impl Iterator<Item = &'static str>) -> io::Result<ExitCode> {
     let mut out = io::stdout().lock();
-    for kind in kinds::KINDS {
-        writeln!(out, "{}", kind.name)?;
+    for name in names {
+        writeln!(out, "{name}")?;
     }
     Ok(ExitCode::SUCCESS)
 }

@@ -219,6 +219,12 @@ fn found(reader: &Reader) -> bool {
 #[test]
 fn wrong_readers_are_found() {
     assert!(!found(&RIGHT));
+    // the digits of a NaN that was read are outside the promise
+    let one_nan = |word: [u8; 4]| match f32::from_le_bytes(word) {
+        x if x.is_nan() => 0x7fc0_0000,
+        x => x.to_bits(),
+    };
+    assert!(!found(&Reader { float: one_nan, ..RIGHT }));
     for (why, wrong) in readers::wrong() {
         assert!(found(&wrong), "{why}");
     }
@@ -348,11 +354,13 @@ fn the_files_that_are_sent_have_what_they_are_for() {
     assert!(parted.iter().any(|file| file.parts == [80, 4, 12, 38]), "at the ends of headers");
 }
 
-/// The program itself, where it was built and its text is no newer.
+/// The program itself, where it was built and no text is newer.
 #[test]
 #[ignore = "asks the program: at the root, ./takeoff --build; then cargo test --release --offline -- --ignored the_program_agrees"]
 fn the_program_agrees() {
     let takeoff = concat!(env!("CARGO_MANIFEST_DIR"), "/../takeoff");
+    let fresh = Command::new(takeoff).arg("--fresh").status().is_ok_and(|status| status.success());
+    assert!(fresh, "the program is not there, or older than its text: at the root, ./takeoff --build");
     let count = run(&[takeoff, "--stl"], 2 * sent::turn());
     assert_eq!(count.differ, 0, "{:?}", count.shown);
 }

@@ -235,7 +235,7 @@ fn any_corners(random: &mut Random) -> Shape {
     let (triangles, any) = (random.within(1, 60) as usize, random.once_in(3));
     let float = |random: &mut Random| {
         let bits = random.bits() as u32;
-        f32::from_bits(if any { bits } else { bits & 0x8000_0000 | bits % 0x5000_0000 })
+        f32::from_bits(if any { bits } else { bits & 0x8000_0000 | (bits % 0x5000_0000) })
     };
     Shape { vertices: (0..9 * triangles).map(|_| float(random)).collect(), ids: (0..3 * triangles as u32).collect() }
 }

@@ -107,7 +107,10 @@ pub fn wrong() -> Vec<(&'static str, Reader)> {
         ("the count with a sign", Reader { count: |word| (u32::from_le_bytes(word) & 0x7fff_ffff) as u64, ..RIGHT }),
         ("floats big-endian", Reader { float: u32::from_be_bytes, ..RIGHT }),
         ("-0 read as 0", Reader { float: |word| (f32::from_le_bytes(word) + 0.0).to_bits(), ..RIGHT }),
-        ("a NaN read as 0", Reader { float: |word| (f32::from_le_bytes(word).max(f32::MIN)).to_bits(), ..RIGHT }),
+        (
+            "a NaN read as a number",
+            Reader { float: |word| (f32::from_le_bytes(word).max(f32::MIN)).to_bits(), ..RIGHT },
+        ),
         ("the last two corners swapped", Reader { ids: |t| [3 * t, 3 * t + 2, 3 * t + 1], ..RIGHT }),
         ("ids from 1", Reader { ids: |t| [3 * t + 1, 3 * t + 2, 3 * t + 3], ..RIGHT }),
         ("ids in a byte", Reader { ids: |t| [3 * t, 3 * t + 1, 3 * t + 2].map(|id| id & 0xff), ..RIGHT }),

@@ -38,7 +38,7 @@ pub struct Lending {
     ids: Area<u32>,
 }
 
-fn is_nan(bits: u32) -> bool {
+pub fn is_nan(bits: u32) -> bool {
     f32::from_bits(bits).is_nan()
 }
 

@@ -1,7 +1,7 @@
 //! `oracle stl N`: both readers over areas of every sort, answers, refusals and every place of the areas and of the file; then
 //! `compute` over the mesh that was read, beside the original's record of the mesh that should have been read.
 
-use super::areas::{Areas, Lending, Lent};
+use super::areas::{is_nan, Areas, Lending, Lent};
 use super::capi;
 use super::file::{count, read, MOST, MOST_LARGE, UNIT};
 use super::kinds::{file, name, turn};
@@ -63,6 +63,8 @@ pub struct Count {
     pub files: Files,
     /// NaNs that stayed bit for bit in areas of vertices: on refusals, and behind what was read.
     pub stayed: [Nans; 2],
+    /// NaNs that were read: with the digits that they have in the file, and with others.
+    pub nans: [u64; 2],
     /// The calls of `compute`.
     pub records: compute::Count,
     /// The first that differ, for a look.
@@ -187,6 +189,9 @@ impl Count {
             number if refused => self.forms[form].refused[[3, 5, 6].iter().position(|n| *n == number)?] += 1,
             _ => self.forms[form].read += 1,
         }
+        for (given, right) in vertices.iter().zip(&promise.vertices).filter(|(_, right)| is_nan(**right)) {
+            self.nans[(given != right) as usize] += 1;
+        }
         let floats: Vec<f32> = vertices.into_iter().map(f32::from_bits).collect();
         (!refused).then(|| plain(UNIT, &floats, &ids))
     }
@@ -207,6 +212,7 @@ impl Count {
         }
         self.files.join(&other.files);
         (0..2).for_each(|i| self.stayed[i].join(other.stayed[i]));
+        (0..2).for_each(|i| self.nans[i] += other.nans[i]);
         self.records.join(&other.records);
     }
 
@@ -227,8 +233,10 @@ impl Count {
     /// What stood in the files, the NaNs that stayed, and how far the records went.
     pub fn told(&self) -> Vec<String> {
         let [refused, behind] = self.stayed.map(|nans| format!("{} and {}", nans.signalling, nans.quiet));
+        let [same, others] = self.nans;
         let nans = format!(
-            "NaNs that stayed bit for bit in areas of vertices, signalling and quiet: {refused} on refusals, {behind} behind what was read"
+            "NaNs that stayed bit for bit in areas of vertices, signalling and quiet: {refused} on refusals, {behind} behind what \
+             was read. NaNs that were read: {same} with the digits that they have in the file, {others} with others"
         );
         let [counts, cells] = self.records.counted.told();
         vec![self.files.told(), nans, self.records.stayed.told(), counts, cells]

@@ -122,6 +122,11 @@ fn choices(triangles: usize, all: bool, random: &mut Random) -> Vec<Lent> {
     lent
 }
 
+struct File {
+    name: String,
+    bytes: Vec<u8>,
+}
+
 /// All that is lent to the calls of a run.
 struct Run {
     random: Random,
@@ -137,7 +142,8 @@ impl Run {
 
 impl Count {
     /// One file; `all`: over every choice of areas.
-    fn add(&mut self, port: Port, named: &str, bytes: &[u8], all: bool, run: &mut Run) {
+    fn add(&mut self, port: Port, file: &File, all: bool, run: &mut Run) {
+        let bytes = &file.bytes;
         let rights = FORMS.map(|most| read(bytes, most));
         self.files.add(bytes, &rights);
         let asked = count(bytes).map_or(0, |count| count as usize);
@@ -147,7 +153,7 @@ impl Count {
             run.readers.elsewhere(&mut run.random);
             let mut given = None;
             for lent in choices(triangles, all, &mut run.random) {
-                let mesh = self.compare(port, named, bytes, form, right, lent, run);
+                let mesh = self.compare(port, file, form, right, lent, run);
                 given = given.or(mesh);
             }
             // a mesh that both forms read has one record
@@ -158,12 +164,10 @@ impl Count {
     }
 
     /// One call; the mesh that it read, where it read one and all is right.
-    #[allow(clippy::too_many_arguments)]
     fn compare(
         &mut self,
         port: Port,
-        named: &str,
-        bytes: &[u8],
+        File { name, bytes }: &File,
         form: usize,
         right: &Result<MeshFile, u32>,
         lent: Lent,
@@ -178,7 +182,7 @@ impl Count {
             wrong.insert(0, format!("answer {given:x}, should be {:x}", promise.answer));
         }
         if !wrong.is_empty() {
-            self.show(format!("{named}: {}; at most {}, {lent:?}, {}", wrong.join("; "), FORMS[form], told(bytes)));
+            self.show(format!("{name}: {}; at most {}, {lent:?}, {}", wrong.join("; "), FORMS[form], told(bytes)));
             return None;
         }
         self.agree += 1;
@@ -292,9 +296,9 @@ fn told(bytes: &[u8]) -> String {
     format!("{} bytes, count {:x?}, first triangle {first:02x?}", bytes.len(), count(bytes))
 }
 
-fn over<'a>(port: Port, seed: u64, all: bool, files: impl Iterator<Item = (String, Vec<u8>)> + 'a) -> Count {
+fn over(port: Port, seed: u64, all: bool, files: impl Iterator<Item = (String, Vec<u8>)>) -> Count {
     let (mut count, mut run) = (Count::default(), Run::new(seed));
-    files.for_each(|(name, bytes)| count.add(port, &name, &bytes, all, &mut run));
+    files.for_each(|(name, bytes)| count.add(port, &File { name, bytes }, all, &mut run));
     count
 }
 
@@ -312,7 +316,7 @@ pub fn on_kind(port: Port, kind: &'static str, n: u64) -> Count {
     over(port, seed, false, numbers.map(|number| (format!("file {number} of seed {SEED}, {kind}"), file(SEED, number))))
 }
 
-pub fn all<'a>(port: Port<'a>, n: u64) -> impl Iterator<Item = (&'static str, Count)> + 'a {
+pub fn all(port: Port<'_>, n: u64) -> impl Iterator<Item = (&'static str, Count)> + '_ {
     let mut names: Vec<&str> = Vec::new();
     (0..turn()).map(name).for_each(|name| {
         if !names.contains(&name) {

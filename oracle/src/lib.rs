@@ -2,13 +2,14 @@
 //!
 //! `mesh::qto` is the original's own text, unchanged, compiled from where the build script found it. Everything else
 //! here is ours: what document 01 adds to it (refusals, flags in one call, pieces, the exact form of the one
-//! exception) and document 02 (the counts of triangles; pieces by edges; cells on the rim), the program's file format,
+//! exception) and document 02 (the counts of triangles; pieces by edges; cells on the rim; binary STL), the program's file format,
 //! the listing, the meshes to try, and two laws about pairs of meshes as properties (`pairs`): demand 3 (`moves`) and
 //! 02's A9 (`glove`).
 
 #[allow(dead_code, clippy::all)]
 pub mod mesh;
 
+pub mod area;
 pub mod compute;
 pub mod counts;
 pub mod exception;
@@ -31,5 +32,6 @@ pub mod record;
 pub mod sent;
 pub mod solids;
 pub mod speed;
+pub mod stl;
 pub mod stored;
 pub mod weld;

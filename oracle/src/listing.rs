@@ -8,7 +8,12 @@ use std::fmt::Write;
 
 /// The text for one file, and how it stands to the one exception.
 pub fn listing(bytes: &[u8]) -> (String, Exception) {
-    let mesh = match file::read(bytes) {
+    listed(file::read(bytes))
+}
+
+/// The same for what was read from a file of any format: its mesh, or the refusal.
+pub fn listed(read: Result<MeshFile, u32>) -> (String, Exception) {
+    let mesh = match read {
         Ok(mesh) => mesh,
         Err(refusal) => return (refused(refusal), Exception::Apart),
     };

@@ -1,10 +1,12 @@
 //! `oracle COMMAND ..`: see `USAGE`.
 
 use mowfrost_oracle::listing::{listing, replayed};
-use mowfrost_oracle::program::{compare, Program, LIMIT};
+use mowfrost_oracle::program::{compare, Program, Task, LIMIT, MESHES};
 use mowfrost_oracle::reach::Reach;
 use mowfrost_oracle::record::Exception;
-use mowfrost_oracle::{frames, kinds, sent, stored};
+use mowfrost_oracle::stl::{self, MOUNTS};
+use mowfrost_oracle::stored::{self, Stored};
+use mowfrost_oracle::{frames, kinds, sent};
 use std::io::{self, BufWriter, ErrorKind, Read, Write};
 use std::process::ExitCode;
 
@@ -20,17 +22,24 @@ oracle: the unchanged Rust original, asked in document 01's words
                                exception are named on standard error
   oracle meshes SEED COUNT     writes COUNT meshes in that framing, of every kind in turn
   oracle kinds                 names the kinds, in the order in which 'meshes' takes them
+  oracle kinds stl             names the kinds of STL files, in the order in which 'stl' and 'program-stl' take them
   oracle reach SEED COUNT      counts what those meshes reach: verdicts, methods, refusals, branches, triangles left out
   oracle answer                standard input: one file of the program's format, without a length before it; prints its
                                listing or 'refused N', as the program does
   oracle stored                writes the meshes that the crate 'replay' holds (crates/replay/data/meshes), in the framing
                                of 'meshes'
   oracle stored names          names them, a line each
+  oracle stored stl            writes the STL files that 'replay' holds (crates/replay/data/mounts), in the same framing
+  oracle stored stl names      names them, a line each
   oracle replayed              standard input as for 'listing'; prints what 'replay' has to print (crates/replay/stdout):
                                each listing and, where the file could be read, 'chain B O net L Z manifold M winding W short R':
                                boundary-free, over-incident, largest face sum, all sums 0, the two answers, and the refusal
                                of the mesh with one work word less (0 for a record); where the mesh has a record, behind it
                                'pairs C R C R C R': covered and rim cells of the z, y and x footprints
+  oracle replayed stl          standard input: STL files in that framing; prints what 'replay' has to print for them, behind
+                               all else: each listing or 'refused N'
+  oracle answer-stl            standard input: one STL file, without a length before it; prints its listing or 'refused N', as
+                               the program does
 
 Against the program:
 
@@ -41,6 +50,10 @@ Against the program:
                                sliver, and pieces, are by a plain reference; last line 'A agree, D differ'.
                                MOWFROST_WORKERS: so many processes at a time, by default 2
   oracle file NUMBER           writes the file of that number as 'program' sends it
+  oracle program-stl N BIN ..  the same for the program that reads STL files: N files of every kind in turn, every other one
+                               damaged, those of 'stored stl', and files that are empty, full, a byte or two longer, far too
+                               long or written in parts
+  oracle file-stl NUMBER       writes the file of that number as 'program-stl' sends it
 
 Against the port (x86-64; first, at the root of the repository: rt staticlib capi and rt staticlib probe. For another machine
 MOWFROST_PORT names a folder with a libcapi.a and a libprobe.a of its kind when this is built):
@@ -85,6 +98,15 @@ MOWFROST_PORT names a folder with a libcapi.a and a libprobe.a of its kind when 
                                bottom above 0 that differ, and with rows of equal area in another order. Then each id
                                routine on the same ids, both ways round, over areas as for 'ids'; last line 'A agree, D
                                differ'
+  oracle stl N                 the readers of STL files, of up to 170 and of up to 10,922 triangles, at every limit by name and on N
+                               files by chance of every kind in turn, every other one damaged, over areas that are exact,
+                               longer, one float or id short, far too short and empty: answers, refusals, every place of both
+                               areas and of the file; floats by their bits, but that a NaN that was read may have other
+                               digits. Then the record of the mesh that was read, without flags and at unit 0.001, as for
+                               'compute', beside the original's of the mesh that a plain reader has; what the files had and
+                               reached is counted; last line 'A agree, D differ'
+  oracle speed stl             microseconds a file of up to 170 and of up to 10,922 triangles, beside a plain form in Rust that
+                               tries the same and fills the same two slices
   oracle speed compute         milliseconds a record, at an eighth of the most triangles up to all; nanoseconds for small;
                                beside the original alone and with the plain counts of triangles behind it
   oracle speed                 compute and each id routine beside the original on the meshes whose ratios are bounded, with
@@ -100,25 +122,30 @@ fn main() -> ExitCode {
     let done = match words.as_slice() {
         ["listing"] => print_texts(listing),
         ["replayed"] => print_texts(replayed),
-        ["answer"] => print_answer(),
-        ["stored"] => write_stored(),
-        ["stored", "names"] => print_stored(),
-        ["program", n, bin @ ..] if !bin.is_empty() => match (n.parse(), workers()) {
-            (Ok(n), Some(workers)) => run_program(n, bin, workers),
+        ["replayed", "stl"] => print_texts(stl::listing),
+        ["answer"] => print_answer(listing),
+        ["answer-stl"] => print_answer(stl::listing),
+        ["stored"] => write_stored(stored::all()),
+        ["stored", "names"] => print_stored(stored::all()),
+        ["stored", "stl"] => write_stored(stl::stored::all()),
+        ["stored", "stl", "names"] => print_stored(stl::stored::all()),
+        [command @ ("program" | "program-stl"), n, bin @ ..] if !bin.is_empty() => match (n.parse(), workers()) {
+            (Ok(n), Some(workers)) => run_program(task(command), n, bin, workers),
             _ => return usage("N, and MOWFROST_WORKERS where it is set, are whole numbers, the second from 1 up"),
         },
-        ["file", number] => match number.parse() {
-            Ok(number) => write_file(number),
+        [command @ ("file" | "file-stl"), number] => match number.parse() {
+            Ok(number) => write_out(&(task(command).sent)(number).bytes),
             Err(_) => return usage("NUMBER is a whole number from 0 up"),
         },
-        ["kinds"] => print_kinds(),
+        ["kinds"] => print_kinds(kinds::KINDS.iter().map(|kind| kind.name)),
+        ["kinds", "stl"] => print_kinds(stl::kinds::kinds().into_iter()),
         [command @ ("meshes" | "reach"), seed, count] => match (seed.parse(), count.parse()) {
             (Ok(seed), Ok(count)) if *command == "meshes" => write_meshes(seed, count),
             (Ok(seed), Ok(count)) => print_reach(seed, count),
             _ => return usage("SEED and COUNT are whole numbers from 0 up"),
         },
         ["floats", "all"] => port::run(Run::FloatsAll),
-        [command @ ("floats" | "ids" | "weld" | "raster" | "compute" | "moves" | "glove"), n] => {
+        [command @ ("floats" | "ids" | "weld" | "raster" | "compute" | "moves" | "glove" | "stl"), n] => {
             match (*command, n.parse()) {
                 ("floats", Ok(n)) => port::run(Run::Floats(n)),
                 ("ids", Ok(n)) => port::run(Run::Ids(n)),
@@ -126,6 +153,7 @@ fn main() -> ExitCode {
                 ("raster", Ok(n)) => port::run(Run::Raster(n)),
                 ("compute", Ok(n)) => port::run(Run::Compute(n)),
                 ("moves", Ok(n)) => port::run(Run::Moves(n)),
+                ("stl", Ok(n)) => port::run(Run::Stl(n)),
                 (_, Ok(n)) => port::run(Run::Glove(n)),
                 _ => return usage("N is a whole number from 0 up, or 'all' of floats"),
             }
@@ -139,6 +167,7 @@ fn main() -> ExitCode {
         ["speed", "ids"] => port::run(Run::SpeedIds),
         ["speed", "weld"] => port::run(Run::SpeedWeld),
         ["speed", "raster"] => port::run(Run::SpeedRaster),
+        ["speed", "stl"] => port::run(Run::SpeedStl),
         ["speed", "compute"] => port::run(Run::SpeedCompute),
         ["help" | "--help" | "-h"] => {
             print!("{USAGE}");
@@ -200,8 +229,8 @@ fn all_input() -> io::Result<Vec<u8>> {
     Ok(input)
 }
 
-fn print_answer() -> io::Result<ExitCode> {
-    let (text, _) = listing(&all_input()?);
+fn print_answer(text_of: fn(&[u8]) -> (String, Exception)) -> io::Result<ExitCode> {
+    let (text, _) = text_of(&all_input()?);
     write_out(text.as_bytes())
 }
 
@@ -219,8 +248,8 @@ fn workers() -> Option<usize> {
     }
 }
 
-fn run_program(n: u64, bin: &[&str], workers: usize) -> io::Result<ExitCode> {
-    let count = compare(&Program::new(bin, LIMIT)?, n, workers)?;
+fn run_program(task: &Task, n: u64, bin: &[&str], workers: usize) -> io::Result<ExitCode> {
+    let count = compare(&Program::new(bin, LIMIT)?, task, n, workers)?;
     let mut out = io::stdout().lock();
     for (what, times) in count.reach.counts() {
         writeln!(out, "{times:>9} {what}")?;
@@ -236,19 +265,24 @@ fn run_program(n: u64, bin: &[&str], workers: usize) -> io::Result<ExitCode> {
     Ok(if count.differ == 0 { ExitCode::SUCCESS } else { ExitCode::FAILURE })
 }
 
-fn write_file(number: u64) -> io::Result<ExitCode> {
-    write_out(&sent::sent(number).bytes)
+/// What the program of a command is for.
+fn task(command: &str) -> &'static Task {
+    if command.ends_with("-stl") {
+        &MOUNTS
+    } else {
+        &MESHES
+    }
 }
 
-fn write_stored() -> io::Result<ExitCode> {
+fn write_stored(all: Vec<Stored>) -> io::Result<ExitCode> {
     let mut bytes = Vec::new();
-    stored::all().iter().for_each(|stored| frames::push(&mut bytes, &stored.bytes));
+    all.iter().for_each(|stored| frames::push(&mut bytes, &stored.bytes));
     write_out(&bytes)
 }
 
-fn print_stored() -> io::Result<ExitCode> {
+fn print_stored(all: Vec<Stored>) -> io::Result<ExitCode> {
     let mut out = BufWriter::new(io::stdout().lock());
-    for (number, stored) in stored::all().iter().enumerate() {
+    for (number, stored) in all.iter().enumerate() {
         writeln!(out, "{number:>3} {:>5} bytes: {}", stored.bytes.len(), stored.name)?;
     }
     out.flush()?;
@@ -267,10 +301,10 @@ fn write_meshes(seed: u64, count: u64) -> io::Result<ExitCode> {
     Ok(ExitCode::SUCCESS)
 }
 
-fn print_kinds() -> io::Result<ExitCode> {
+fn print_kinds(names: impl Iterator<Item = &'static str>) -> io::Result<ExitCode> {
     let mut out = io::stdout().lock();
-    for kind in kinds::KINDS {
-        writeln!(out, "{}", kind.name)?;
+    for name in names {
+        writeln!(out, "{name}")?;
     }
     Ok(ExitCode::SUCCESS)
 }

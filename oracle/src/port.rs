@@ -13,6 +13,7 @@ pub enum Run {
     Compute(u64),
     Moves(u64),
     Glove(u64),
+    Stl(u64),
     Repeat(String, String, usize, usize),
     Speed,
     SpeedFloats,
@@ -20,6 +21,7 @@ pub enum Run {
     SpeedWeld,
     SpeedRaster,
     SpeedCompute,
+    SpeedStl,
 }
 
 pub fn run(run: Run) -> io::Result<ExitCode> {
@@ -36,6 +38,7 @@ pub fn run(run: Run) -> io::Result<ExitCode> {
         Run::Compute(n) => linked::compute(n),
         Run::Moves(n) => linked::moves(n),
         Run::Glove(n) => linked::glove(n),
+        Run::Stl(n) => linked::stl(n),
         Run::Repeat(routine, on, triangles, times) => linked::repeat(&routine, &on, triangles, times),
         Run::Speed => linked::speed(),
         Run::SpeedFloats => linked::speed_floats(),
@@ -43,6 +46,7 @@ pub fn run(run: Run) -> io::Result<ExitCode> {
         Run::SpeedWeld => linked::speed_weld(),
         Run::SpeedRaster => linked::speed_raster(),
         Run::SpeedCompute => linked::speed_compute(),
+        Run::SpeedStl => linked::speed_stl(),
     }
 }
 
@@ -50,7 +54,7 @@ mod linked {
     use mowfrost_oracle::compute::speed::Row;
     use mowfrost_oracle::floats::compare::{on_all_32, on_chance, on_edges, Count};
     use mowfrost_oracle::floats::helpers::{Width, HELPERS};
-    use mowfrost_oracle::{compute, floats, glove, ids, moves, pairs, raster, speed, weld};
+    use mowfrost_oracle::{compute, floats, glove, ids, moves, pairs, raster, speed, stl, weld};
     use std::io::{self, StdoutLock, Write};
     use std::process::ExitCode;
 
@@ -175,6 +179,24 @@ mod linked {
         end(&mut out, agree, differ)
     }
 
+    /// A line a kind, one for all kinds, what the files had and the records were held to, then the sums.
+    pub fn stl(n: u64) -> io::Result<ExitCode> {
+        use stl::compare::{all, Count, PORT};
+        let line = |on: &str, count: &Count| {
+            let [agree, differ] = count.sums();
+            reached(on, agree, differ, &count.reached())
+        };
+        let (mut out, mut sums) = (io::stdout().lock(), Count::default());
+        for (on, count) in all(PORT, n) {
+            let records = &count.records;
+            show(&mut out, &line(on, &count), &[&count.shown[..], &records.shown, &records.noted].concat())?;
+            sums.join(&count);
+        }
+        show(&mut out, &line("all kinds", &sums), &sums.told())?;
+        let [agree, differ] = sums.sums();
+        end(&mut out, agree, differ)
+    }
+
     fn reached(on: &str, agree: u64, differ: u64, reached: &str) -> String {
         format!("{on:<18} {agree:>8} agree, {differ} differ ({reached})")
     }
@@ -271,6 +293,16 @@ mod linked {
         for raster::speed::Row { on, triangles, port, rust, rim } in raster::speed::rows() {
             let (alone, with) = (port / rust, port / rim);
             writeln!(out, "| {on} | {triangles} | {port:.3} | {rust:.3} | {alone:.2} | {rim:.3} | {with:.2} |")?;
+        }
+        Ok(ExitCode::SUCCESS)
+    }
+
+    pub fn speed_stl() -> io::Result<ExitCode> {
+        let mut out = io::stdout().lock();
+        writeln!(out, "| routine | triangles | port, µs | Rust, µs | ratio |\n|---|---|---|---|---|")?;
+        for stl::speed::Row { routine, triangles, port, rust } in stl::speed::rows() {
+            let ratio = port / rust;
+            writeln!(out, "| `{routine}` | {triangles} | {:.3} | {:.3} | {ratio:.2} |", 1e6 * port, 1e6 * rust)?;
         }
         Ok(ExitCode::SUCCESS)
     }

@@ -1,6 +1,6 @@
-//! `oracle program N BIN ..`: the program itself, a process a file, beside the listing. It has to print that byte for byte,
-//! to end with success and to say nothing on standard error. The floats that `meshfile::read` is lent there stand in the program's own
-//! memory, and C has no name for it: no run sees their bits, a NaN's least of all.
+//! `oracle program N BIN ..` and `oracle program-stl N BIN ..`: a program itself, a process a file, beside the listing. It has
+//! to print that byte for byte, to end with success and to say nothing on standard error. The floats that a reader is lent there stand in
+//! the program's own memory, and C has no name for it: no run sees their bits, a NaN's least of all.
 
 use crate::listing::listing;
 use crate::reach::Reach;
@@ -163,11 +163,21 @@ pub struct Count {
     pub shown: Vec<(u64, String)>,
 }
 
+/// What a program is for: the files that it is sent, by number, the text that it has to print, and what a file reaches.
+pub struct Task {
+    pub sent: fn(u64) -> Sent,
+    pub right: fn(&[u8]) -> (String, Exception),
+    pub reach: fn(&mut Reach, &[u8]),
+}
+
+/// `takeoff`.
+pub const MESHES: Task = Task { sent, right: listing, reach: Reach::count };
+
 impl Count {
-    fn add(&mut self, program: &Program, number: u64) -> io::Result<()> {
-        let sent = sent(number);
-        let (right, exception) = listing(&sent.bytes);
-        self.reach.count(&sent.bytes);
+    fn add(&mut self, program: &Program, task: &Task, number: u64) -> io::Result<()> {
+        let sent = (task.sent)(number);
+        let (right, exception) = (task.right)(&sent.bytes);
+        (task.reach)(&mut self.reach, &sent.bytes);
         let parts = if sent.parts.is_empty() { String::new() } else { format!(", {} parts", sent.parts.len() + 1) };
         let named = format!("file {number} of seed {SEED} ({}, {} bytes{parts})", sent.name, sent.bytes.len());
         let mut wrong = faults(&program.run(sent)?, &right);
@@ -211,7 +221,7 @@ impl Count {
 }
 
 /// The first n files, shared out among so many workers.
-pub fn compare(program: &Program, n: u64, workers: usize) -> io::Result<Count> {
+pub fn compare(program: &Program, task: &Task, n: u64, workers: usize) -> io::Result<Count> {
     let next = AtomicU64::new(0);
     let work = || {
         let mut count = Count::default();
@@ -220,7 +230,7 @@ pub fn compare(program: &Program, n: u64, workers: usize) -> io::Result<Count> {
             if number >= n {
                 return Ok(count);
             }
-            if let Err(e) = count.add(program, number) {
+            if let Err(e) = count.add(program, task, number) {
                 // The others need not go on.
                 next.store(n, Ordering::Relaxed);
                 return Err(e);

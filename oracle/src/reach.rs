@@ -117,7 +117,12 @@ impl Reach {
     }
 
     pub fn count(&mut self, bytes: &[u8]) {
-        let mesh = match file::read(bytes) {
+        self.add(file::read(bytes));
+    }
+
+    /// What was read from a file of any format: its mesh, or the refusal.
+    pub fn add(&mut self, read: Result<MeshFile, u32>) {
+        let mesh = match read {
             Ok(mesh) => mesh,
             Err(refusal) => return self.refused(refusal),
         };

@@ -15,7 +15,7 @@ pub const SEED: u64 = 3;
 pub const FULL: usize = 6 + 4 + 2 * (6 + 4 * MOST) + 6 + 2;
 
 /// About so many bytes stand behind a whole file at most: more than a pipe holds.
-const TAIL: usize = 70_000;
+pub const TAIL: usize = 70_000;
 
 pub struct Sent {
     pub name: &'static str,
@@ -54,7 +54,7 @@ pub fn sent(number: u64) -> Sent {
     let (name, make) = OWN[place - KINDS.len()];
     let random = &mut Random::new(SEED.wrapping_mul(0x1_0000_0001).wrapping_sub(1 + number));
     let bytes = make(random, turn);
-    let parts = if name.ends_with("in parts") { parts(random, bytes.len()) } else { Vec::new() };
+    let parts = if name.ends_with("in parts") { parts(random, bytes.len(), &[6, 10, 16]) } else { Vec::new() };
     Sent { name, bytes, parts }
 }
 
@@ -132,11 +132,11 @@ fn anything(random: &mut Random) -> Vec<u8> {
 }
 
 /// Where to stop on the way: anywhere, after each of the first bytes, at the ends of headers, before and after all.
-fn parts(random: &mut Random, length: usize) -> Vec<usize> {
+pub fn parts(random: &mut Random, length: usize, headers: &[usize]) -> Vec<usize> {
     let mut ends: Vec<usize> = match random.below(5) {
         0 => (0..random.within(1, 8)).map(|_| random.below(length + 1)).collect(),
         1 => (1..=random.within(1, 24) as usize).collect(),
-        2 => vec![6, 10, 16],
+        2 => headers.to_vec(),
         3 => vec![1, length.saturating_sub(1)],
         _ => vec![length],
     };

@@ -5,7 +5,7 @@ use mowfrost_oracle::file::read;
 use mowfrost_oracle::kinds::{mesh, KINDS};
 use mowfrost_oracle::listing::{listing, text};
 use mowfrost_oracle::pieces::pieces;
-use mowfrost_oracle::program::{compare, Count, Program, LIMIT};
+use mowfrost_oracle::program::{compare, Count, Program, LIMIT, MESHES};
 use mowfrost_oracle::reach::WANTED;
 use mowfrost_oracle::record::{original, Exception};
 use mowfrost_oracle::sent::{sent, FULL, TURN};
@@ -16,7 +16,7 @@ const ORACLE: &str = env!("CARGO_BIN_EXE_oracle");
 
 fn run(words: &[&str], n: u64, workers: usize) -> Count {
     let program = Program::new(words, LIMIT).expect("it starts");
-    compare(&program, n, workers).expect("it starts each time")
+    compare(&program, &MESHES, n, workers).expect("it starts each time")
 }
 
 /// How many of the first files differ, where this is what a shell runs; `answer` stands for the right program.
@@ -92,7 +92,7 @@ fn a_program_that_does_not_end_is_stopped_and_differs() {
     let (begun, short) = (Instant::now(), Duration::from_millis(200));
     let ends = |script: &str, limit: Duration| {
         let program = Program::new(&["sh", "-c", script], limit).expect("it starts");
-        compare(&program, 2, 2).expect("it starts").shown.remove(0).1
+        compare(&program, &MESHES, 2, 2).expect("it starts").shown.remove(0).1
     };
     assert!(ends("exec sleep 9", short).contains("did not end in time"));
     // another process keeps the pipes

@@ -9,6 +9,7 @@ use mowfrost_oracle::raster::cells::{grids, place, values, Cells, Place, Point};
 use mowfrost_oracle::reach::{Reach, WANTED};
 use mowfrost_oracle::record::{compute, Answer, Exception, Lent, Record};
 use mowfrost_oracle::sent::FULL;
+use mowfrost_oracle::stl;
 use mowfrost_oracle::stored::{all, Stored};
 use std::collections::HashSet;
 use std::io::Write;
@@ -337,8 +338,68 @@ fn the_commands_write_them_and_their_answers() {
 fn the_crate_holds_these() {
     let replay = Path::new(env!("CARGO_MANIFEST_DIR")).join("../crates/replay");
     let read = |name: &str| std::fs::read(replay.join(name)).unwrap_or_else(|e| panic!("{name}: {e}"));
-    let (meshes, stdout) = (read("data/meshes"), read("stdout"));
-    let text: String = frames::all(&meshes).map(|bytes| replayed(bytes).0).collect();
+    let (meshes, mounts, stdout) = (read("data/meshes"), read("data/mounts"), read("stdout"));
+    let texts = frames::all(&meshes).map(|bytes| replayed(bytes).0);
+    let text: String = texts.chain(frames::all(&mounts).map(|bytes| stl::listing(bytes).0)).collect();
     assert!(text.as_bytes() == stdout, "crates/replay/stdout is not what the Rust answers");
     assert!(meshes == framed(), "crates/replay/data/meshes is not what `oracle stored` writes here");
+    assert!(mounts == framed_mounts(), "crates/replay/data/mounts is not what `oracle stored stl` writes here");
+}
+
+// ---- STL files
+
+fn framed_mounts() -> Vec<u8> {
+    let mut bytes = Vec::new();
+    stl::stored::all().iter().for_each(|stored| frames::push(&mut bytes, &stored.bytes));
+    bytes
+}
+
+#[test]
+fn the_stl_files_say_what_they_were_made_for() {
+    let all = stl::stored::all();
+    let text = |stored: &Stored| stl::listing(&stored.bytes).0;
+    for stored in &all {
+        assert!(!stored.says.is_empty() && head(&text(stored)).starts_with(stored.says), "{}", stored.name);
+        assert_eq!(stl::listing(&stored.bytes).1, Exception::Apart, "{}", stored.name);
+    }
+    let different: HashSet<_> = all.iter().map(|stored| &stored.bytes).collect();
+    let names: HashSet<_> = all.iter().map(|stored| &stored.name).collect();
+    assert!(different.len() == all.len() && names.len() == all.len() && (24..60).contains(&all.len()));
+    assert!(framed_mounts().len() < 40 << 10);
+    for refusal in ["refused 4\n", "refused 5\n", "refused 6\n"] {
+        assert!(all.iter().filter(|stored| text(stored) == refusal).count() > 2, "{refusal}");
+    }
+}
+
+/// What no reader may look at, and a move by whole numbers, leave the text as it is.
+#[test]
+fn cubes_in_stl_files_have_one_text() {
+    let all = stl::stored::all();
+    let text = |name: &str| stl::listing(&all.iter().find(|stored| stored.name == name).expect("there is one").bytes).0;
+    let cube = text("the cube, closed by the weld");
+    // six faces of 40 by 40 mm, each triangle a piece of its own: the weld is the verdict's alone
+    let volume = 64_000.0 * (stl::file::UNIT * stl::file::UNIT * stl::file::UNIT);
+    assert!(cube.contains(&format!("\nvolume {:08x}\n", volume.to_bits())), "{cube}");
+    assert!(cube.contains("\npieces 12\nused 12\nrange 0\nsliver 0\nsurfaces 6\n"), "{cube}");
+    for other in
+        ["the header begins with solid", "all normals one", "normals NaN", "attributes set", "moved by whole numbers"]
+    {
+        assert_eq!(text(&format!("the cube, {other}")), cube, "{other}");
+    }
+    assert_eq!(text("zeros of both signs"), cube);
+    assert_ne!(text("the cube, inside out"), cube);
+    assert!(text("84 bytes, count 0").contains("\nprism 00000000\npieces 0\nused 0\nrange 0\nsliver 0\nsurfaces 0\n"));
+    assert!(text("the cube and slivers of one corner or two").contains("\nused 12\nrange 0\nsliver 3\n"));
+}
+
+#[test]
+fn the_commands_write_the_stl_files_and_their_answers() {
+    let (code, bytes, err) = oracle(&["stored", "stl"], &[]);
+    assert_eq!((code, bytes == framed_mounts(), err.as_str()), (Some(0), true, ""));
+    let (code, text, err) = oracle(&["replayed", "stl"], &bytes);
+    let answers: String = stl::stored::all().iter().map(|stored| stl::listing(&stored.bytes).0).collect();
+    assert_eq!((code, text == answers.as_bytes()), (Some(0), true));
+    assert!(err.ends_with(" meshes, 0 near the one exception, 0 against document 01\n"));
+    let (code, names, _) = oracle(&["stored", "stl", "names"], &[]);
+    assert_eq!((code, String::from_utf8_lossy(&names).lines().count()), (Some(0), stl::stored::all().len()));
 }

@@ -218,12 +218,7 @@ pub fn choices(exact: Lent, all: bool, random: &mut Random) -> Vec<Lent> {
 impl Count {
     /// One mesh over a choice of areas, and now and then with unknown flags; `all`: over every choice and every flag.
     fn add(&mut self, port: Port, mesh: &MeshFile, all: bool, random: &mut Random, lending: &mut Lending) {
-        let exact = Lent::exactly(mesh.vertices.len(), mesh.ids.len());
-        let answer = compute(mesh, exact);
-        self.note(mesh, &answer);
-        if let (Answer::Record(record, _), false) = (&answer, is_zero_record(mesh)) {
-            self.counted.meet(mesh, record);
-        }
+        let (exact, answer) = self.right(mesh);
         let promise = Promise::of(mesh, &answer);
         lending.elsewhere(random);
         let call = Call { mesh, clip: mesh.flags.clip as u32, defect: mesh.flags.defect as u32 };
@@ -242,6 +237,32 @@ impl Count {
                 let lent = choices[random.below(choices.len())];
                 self.compare(port, &Call { mesh, clip, defect }, lent, &Promise::refused(5), lending);
             }
+        }
+    }
+
+    /// The answer over exact areas, with what there is to count of it.
+    fn right(&mut self, mesh: &MeshFile) -> (Lent, Answer) {
+        let exact = Lent::exactly(mesh.vertices.len(), mesh.ids.len());
+        let answer = compute(mesh, exact);
+        self.note(mesh, &answer);
+        if let (Answer::Record(record, _), false) = (&answer, is_zero_record(mesh)) {
+            self.counted.meet(mesh, record);
+        }
+        (exact, answer)
+    }
+
+    /// A mesh without flags that was read from a file, held to the record of the mesh that should have been read: over exact areas, and now
+    /// and then over others.
+    pub fn hold(&mut self, port: Port, read: &MeshFile, right: &MeshFile, random: &mut Random, lending: &mut Lending) {
+        let (exact, answer) = self.right(right);
+        lending.elsewhere(random);
+        let call = Call { mesh: read, clip: 0, defect: 0 };
+        self.compare(port, &call, exact, &Promise::of(right, &answer), lending);
+        if random.once_in(4) {
+            let choices = choices(exact, true, random);
+            let lent = random.pick(&choices);
+            let promise = Promise::of(right, &if lent.holds(exact) { answer } else { compute(right, lent) });
+            self.compare(port, &call, lent, &promise, lending);
         }
     }
 

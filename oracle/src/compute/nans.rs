@@ -36,7 +36,7 @@ impl Nans {
         nans
     }
 
-    fn join(&mut self, other: Nans) {
+    pub fn join(&mut self, other: Nans) {
         (self.signalling, self.quiet) = (self.signalling + other.signalling, self.quiet + other.quiet);
     }
 }

@@ -1,18 +1,24 @@
--- What is proved of the program beside its contract: which refusals a file can meet, that no NaN gets past, and what becomes of input that
--- is longer than any file.
+-- What is proved of the programs beside their contracts: which refusals a file can meet, what of an STL does not show, that no NaN gets past,
+-- and what becomes of input that is longer than any file.
 use mathlib.Core.Path.{_≡_}
 use mathlib.Core.Logic.{_⊎_}
 use Prim.Native.Nat.{ℕ, _+_, _%_, _^_, _≤_, _<_}
 use mathlib.Core.Bool.{false, not, _||_, cond}
 use mathlib.Core.List.{List}
-use lib.Dec.{ltb}
+use lib.Dec.{eqb, ltb}
 use lib.ListN.{length, take}
 use lib.Ieee.{Float, binary32, ofBits}
 use Rattle.sums.specs.Fine.{fine, allFine}
 use Rattle.refusals.specs.declared.Check.{Check}
 use Rattle.refusals.specs.Refusals.{unitFits}
+use Rattle.stl.specs.declared.Stl.{Stl}
+use Rattle.stl.specs.Stl.{stlOf}
+use Rattle.stl.specs.Reading.{mostTriangles}
+use Rattle.stl.specs.Worth.{SameWhereSeen}
 use Rattle.listing.specs.Listing.{refusedLine}
 use Rattle.program.specs.Program.{checkMesh, Prints}
+use Rattle.program.specs.Mount.{stlContents, stlTextOf}
+use Rattle.program.specs.Place.{meshFloats, meshUnit}
 
 -- the rows of 01's table that a file can meet: it is never too large, and no area is too short (`areas-suffice`)
 unfoldable pub checkFile : List Float → List ℕ → Float → Check
@@ -24,6 +30,18 @@ checkFile vs ids u =
 
 abbrev pub AreasSuffice : Type 0
 AreasSuffice = (vs : List Float) (ids : List ℕ) (u : Float) → length vs ≤ 1536 → length ids ≤ 1536 → checkMesh vs ids u ≡ checkFile vs ids u
+
+-- those that an STL of n triangles can meet: with none it is the zero record; its unit is always one that 2 lets pass (`stl-check`)
+unfoldable pub checkStl : ℕ → List Float → Check
+checkStl n vs = cond (eqb n 0) Check.Zero (cond (not (allFine vs)) (Check.Refuse 4) Check.Full)
+
+abbrev pub StlCheck : Type 0
+StlCheck = (bytes : List ℕ) (n : ℕ) → stlOf mostTriangles bytes ≡ Stl.Triangles n
+    → let m = stlContents bytes n in checkMesh (meshFloats m) (m .ids) (meshUnit m) ≡ checkStl n (meshFloats m)
+
+-- Header, normals and attributes of an STL do not show in its text. (`stl-unseen`)
+abbrev pub StlUnseen : Type 0
+StlUnseen = (bytes bytes′ : List ℕ) → SameWhereSeen bytes bytes′ → stlTextOf bytes′ ≡ stlTextOf bytes
 
 -- no pattern of an infinity or a NaN, whatever its digits, gets past refusal 4
 abbrev pub NotFiniteRefused : Type 0

@@ -1,7 +1,7 @@
 -- Lists one behind the other, the tests of a file, the areas filled, and what that is worth.
 mod InOrder
 pub mod Tests
-mod Ids
+pub mod Ids
 mod Corners
 mod Given
 pub mod Mesh

@@ -1,17 +1,17 @@
 -- Header, normals and attributes do not matter: two files that differ only there have one count, one list of corners, and read alike.
 -- Assumes nothing.
-use mathlib.Core.Path.{_≡_, refl, sym, ap, _∙_}
-use mathlib.Core.Logic.{_⊎_, inl, inr}
-use mathlib.Core.List.{List, _++_}
-use Prim.Native.Nat.{ℕ, zero, suc, _+_, _*_, _<_}
+use mathlib.Core.Path.{_≡_, refl, sym, _∙_}
+use mathlib.Core.Logic.{inl, inr}
+use mathlib.Core.List.{List}
+use Prim.Native.Nat.{ℕ, zero, suc, _+_, _<_}
 use native.Mathlib.Omega.{arith}
 use lib.ListN.{length, getD, take, drop, length-take, length-drop}
 use lib.Seq.{getD-take, getD-drop, ext-getD}
 use lib.Ieee.{Float}
-use Rattle.words.specs.Words.{byte, u32At, wordsIn, floatsOf}
+use Rattle.words.specs.Words.{byte, u32At}
 use Rattle.stl.specs.declared.Stl.{Stl}
-use Rattle.stl.specs.Stl.{inOrder, stlCount, stlLength, stlOf, cornersAt, cornersTo}
-use Rattle.stl.specs.Reading.{cornersLater, ReadsStl}
+use Rattle.stl.specs.Stl.{inOrder, stlCount, stlLength, stlOf, cornersTo}
+use Rattle.stl.specs.Reading.{cornersLater}
 use Rattle.stl.specs.Worth.{SameWhereSeen, UnseenDoesNotMatter}
 
 module _ (bytes bytes′ : List ℕ) (same : SameWhereSeen bytes bytes′) where
@@ -25,7 +25,7 @@ module _ (bytes bytes′ : List ℕ) (same : SameWhereSeen bytes bytes′) where
         same .seen 83 (inl (omega arith, omega arith)),
       )
 
-  same-taken : (most : ℕ) → stlOf most bytes′ ≡ stlOf most bytes
+  pub same-taken : (most : ℕ) → stlOf most bytes′ ≡ stlOf most bytes
   unfolding stlOf
   same-taken most = rw (same .as-long, same-count)
 
@@ -44,7 +44,7 @@ module _ (bytes bytes′ : List ℕ) (same : SameWhereSeen bytes bytes′) where
       (λ i l. let h = part-long bytes′ t i l in
       part-at bytes′ t i h ∙ same .seen (stlLength t + 12 + i) (inr (omega arith, omega arith)) ∙ sym (part-at bytes t i h))
 
-  same-corners : (n : ℕ) → cornersTo bytes′ n ≡ cornersTo bytes n
+  pub same-corners : (n : ℕ) → cornersTo bytes′ n ≡ cornersTo bytes n
   unfolding inOrder
   same-corners zero = refl
   same-corners (suc n) = rw (same-corners n, same-part n)

@@ -2,7 +2,6 @@
 use mathlib.Core.Path.{sym}
 use native.Mathlib.Omega.{arith}
 use borrow.Author.Needs.{needs}
-use lib.ListN.{length-take}
 use lib.Seq.{length-take-le}
 use Rattle.stl.proofs.Given.{filled}
 use Rattle.stl.proofs.fill.Statement.{statement}

@@ -1,10 +1,9 @@
 -- `stl::put_ids` meets its contract: the ids put so far are their places. Assumes nothing.
-use mathlib.Core.Path.{_≡_, refl, subst}
-use Prim.Native.Nat.{ℕ, _-_, _/_, _%_, _≤_}
+use mathlib.Core.Path.{_≡_, refl}
+use Prim.Native.Nat.{_-_, _≤_}
 use native.Mathlib.Omega.{arith}
 use borrow.Author.Needs.{needs}
 use lib.ListN.{length}
-use Rattle.stl.specs.Stl.{idsTo}
 use Rattle.stl.proofs.Ids.{Numbered, numbered-next, numbered-all}
 use Rattle.stl.proofs.put_ids.Statement.{statement}
 use Rattle.stl.proofs.put_ids.Tie as tie

@@ -1,10 +1,9 @@
 -- `stl::triangles_in` meets its contract: the three tests are the definition's, in its order. Assumes nothing.
-use mathlib.Core.Path.{_≡_, sym, _∙_}
+use mathlib.Core.Path.{sym}
 use Prim.Native.Nat.{_≤_}
 use native.Mathlib.Omega.{arith}
 use borrow.Author.Needs.{needs}
 use lib.ListN.{length}
-use Rattle.stl.specs.Stl.{stlCount, stlLength}
 use Rattle.stl.proofs.Tests.{under-84, too-many, wrong-length, right-length}
 use Rattle.stl.proofs.triangles_in.Statement.{statement}
 use Rattle.stl.proofs.triangles_in.Tie as tie

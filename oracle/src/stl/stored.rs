@@ -163,4 +163,8 @@ fn gaps(list: &mut List) {
     let mut triangles = corners(&cube().moved([-0.02; 3]));
     triangles[0].iter_mut().for_each(|x| *x += 0.05);
     list.stl(CLOSED, "a gap of 0.05 within one cell", &Stl::of(&triangles));
+    // 0.02 is less than the weld distance: the narrow sides weld away, and the hole in one of them too
+    let mut plate = Shape::cuboid([0.0; 3], [0.4, 0.3, 0.02]);
+    plate.remove(4);
+    list.shape(CLOSED, "a plate drawn in metres, without a triangle of a narrow side", &plate);
 }

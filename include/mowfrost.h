@@ -1,7 +1,7 @@
 /* Mowfrost from C: every function that the static library exports, and what it promises.
  *
  * The library is proved and made by `rt staticlib capi`: target/staticlib/libcapi.a, for x86-64 Linux. It needs nothing
- * but memset. examples/takeoff.c is a program over it. The contracts that are proved stand in crates/capi/src, and
+ * but memset. examples/takeoff.c and mount.c are programs over it. The contracts that are proved stand in crates/capi/src, and
  * docs/ARCHITECTURE.md leads from there to the definitions.
  *
  * What comes back. Every function answers every input, or gives the one refusal that applies, and ends. It allocates
@@ -128,13 +128,14 @@ uint32_t mf_compute(const float *vertices, size_t vertices_len, const uint32_t *
  *
  * Binary STL: 80 bytes of header, a count, then 50 bytes a triangle: its normal (12), its three corners (36), two
  * attribute bytes; all little-endian. Answers the number of triangles. vertices then begins with their corners, nine
- * floats each in the file's order, and ids with 0, 1, 2, ..: triangle t has 3t, 3t + 1 and 3t + 2. Header, normals and
- * attributes are not looked at, so a file that begins with "solid" is read like any other. What lies behind 9 floats
- * and 3 ids a triangle is left as it was. A corner may be any float, also one that mf_compute refuses by 4; a NaN comes
- * as a NaN, whatever its sign and digits. An STL has no unit: mf_compute is told one, 0.001 where it is in millimetres.
+ * floats a triangle in the file's order, and ids with 0, 1, 2, ..: triangle t has 3t, 3t + 1 and 3t + 2. Header, normals
+ * and attributes are not looked at, so a file that begins with "solid" is read like any other. What lies behind 9 floats
+ * and 3 ids a triangle is left as it was. A coordinate may be any float, also one that mf_compute refuses by 4; a NaN
+ * comes as a NaN, whatever its sign and digits. An STL has no unit: mf_compute is told one, 0.001 where it is in
+ * millimetres.
  *
  * Refusals, tried in this order: 5 for fewer than 84 bytes; 6 for a count above MF_STL_MOST, whatever the length; 5 for
- * a length other than 84 + 50 * count; 3 for fewer than 9 * count vertices or 3 * count ids. */
+ * a length other than 84 + 50 * count; 3 where vertices has fewer than 9 * count floats, or ids fewer than 3 * count. */
 #define MF_STL_MOST 170u
 #define MF_STL_LARGE_MOST 10922u
 

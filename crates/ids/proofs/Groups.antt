@@ -24,6 +24,10 @@ pub or-right : (a b : Bool) → b ≡ true → a || b ≡ true
 or-right true b h = refl
 or-right false b h = h
 
+pub neither : (a b : Bool) → a || b ≡ false → (a ≡ false) × (b ≡ false)
+neither true b h = absurd (true≢false h)
+neither false b h = (refl, h)
+
 pub or-left : (a b : Bool) → a ≡ true → a || b ≡ true
 or-left true b h = refl
 or-left false b h = absurd (false≢true h)

@@ -12,6 +12,7 @@ pub mod Winding
 pub mod Answers
 pub mod Examples
 pub mod Groups
+pub mod Apart
 pub mod Shared
 pub mod Classes
 pub mod Solids

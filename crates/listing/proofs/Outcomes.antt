@@ -1,6 +1,6 @@
 -- What comes back, by whether the areas are too short; and that it is one thing only. Assumes nothing.
 use mathlib.Core.Path.{_≡_, refl, sym, ap, _∙_}
-use mathlib.Core.Bool.{Bool, true, false, _||_, true≢false}
+use mathlib.Core.Bool.{Bool, true, false}
 use mathlib.Core.List.{List, _++_}
 use Prim.Native.Nat.{ℕ, _+_, _*_, _≤_, _<_}
 use native.Mathlib.Nat.{zero-add}
@@ -8,6 +8,7 @@ use borrow.Author.Tests.{ltb-false, lt-ltb, le-ltb}
 use lib.Dec.{ltb}
 use lib.ListN.{length, drop}
 use lib.Ieee.{Float}
+use Rattle.ids.proofs.Groups.{neither}
 use Rattle.record.specs.declared.MeshQto.{MeshQto}
 use Rattle.listing.specs.declared.Listed.{Listed}
 use Rattle.listing.specs.Listing.{refusedLine}
@@ -16,10 +17,6 @@ use Rattle.listing.specs.Lists.{ListRefusalOne}
 use Rattle.spelling.specs.inner.Steps.{written, PutsText}
 
 -- ---- too short, or not
-
-neither : (a b : Bool) → a || b ≡ false → (a ≡ false) × (b ≡ false)
-neither true b h = absurd (true≢false h)
-neither false b h = (refl, h)
 
 pub areas-fit : (n s t : ℕ) → textAreasShort n s t ≡ false → (4 * n ≤ s) × (headBytes + 36 * n ≤ t)
 unfolding textBytes

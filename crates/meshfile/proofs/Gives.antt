@@ -10,7 +10,8 @@ use lib.Ieee.{Float, binary32, ofBits}
 use lib.ListN.{length, take, drop}
 use Rattle.record.specs.declared.Profile.{Profile}
 use Rattle.record.specs.Numbers.{profileAt}
-use Rattle.words.proofs.Parts.{part-words, part-is, neither}
+use Rattle.ids.proofs.Groups.{neither}
+use Rattle.words.proofs.Parts.{part-words, part-is}
 use Rattle.words.specs.Words.{u32At, wordsIn, floatsOf}
 use Rattle.meshfile.specs.declared.Layout.{Layout}
 use Rattle.meshfile.specs.declared.MeshFile.{MeshFile}

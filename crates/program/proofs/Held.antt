@@ -3,9 +3,9 @@
 use mathlib.Core.Path.{_≡_, refl, sym, ap, _∙_}
 use Prim.Native.Nat.{ℕ}
 use mathlib.Core.Bool.{false}
-use mathlib.Core.List.{List, _++_}
+use mathlib.Core.List.{List}
 use lib.ListN.{length, take, drop}
-use lib.Seq.{take-append-seam}
+use lib.Seq.{take-at}
 use lib.Ieee.{Float}
 use Rattle.words.proofs.Parts.{length-floats}
 use Rattle.words.specs.Words.{floatsOf}
@@ -16,10 +16,6 @@ use Rattle.meshfile.specs.Reading.{meshAreasShort, readingOf, floatsAfter, idsA
 use Rattle.meshfile.proofs.Most.{never-short}
 use Rattle.listing.specs.Listing.{refusedLine}
 use Rattle.program.specs.Program.{meshText, textFor, textOf}
-
--- the front of an area is what was put there
-front : {A : Type 0} (n : ℕ) (l rest : List A) → length l ≡ n → take n (l ++ rest) ≡ l
-front n l rest e = rw (← e) (take-append-seam l rest)
 
 readText : List Float → List ℕ → Reading → List ℕ
 readText vs ids (Reading.Refused n) = refusedLine n
@@ -33,8 +29,8 @@ module _ (vs : List Float) (ids : List ℕ) where
   text-by (File.Holds m) h =
       rw (
         h m refl,
-        front (length (m .vertices)) (floatsOf (m .vertices)) (drop (length (m .vertices)) vs) (length-floats (m .vertices)),
-        front (length (m .ids)) (m .ids) (drop (length (m .ids)) ids) refl,
+        take-at (floatsOf (m .vertices)) (drop (length (m .vertices)) vs) (length (m .vertices)) (length-floats (m .vertices)),
+        take-at (m .ids) (drop (length (m .ids)) ids) (length (m .ids)) refl,
       )
 
   module _ (hv : length vs ≡ 1536) (hi : length ids ≡ 1536) (bytes : List ℕ) (r : Reading) (vs′ : List Float) (ids′ : List ℕ)

@@ -2,11 +2,11 @@
 mod Given
 mod Answered
 mod Held
-mod Mount
+mod StlHeld
 pub mod Printed
 pub mod Suffice
 pub mod NotFinite
 pub mod Place
-pub mod MountPromises
+pub mod StlPromises
 pub mod Glove
 pub mod Cube

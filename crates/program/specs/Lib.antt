@@ -1,6 +1,6 @@
--- The program: what it prints for every input, and what is proved of that.
+-- The two programs for people: what they print for every input, and what is proved of that.
 pub mod Program
-pub mod Mount
+pub mod StlText
 pub mod Place
 pub mod Promises
 pub mod Glove

@@ -22,7 +22,7 @@ use Rattle.stl.specs.Stl.{stlOf}
 use Rattle.stl.specs.Reading.{mostTriangles}
 use Rattle.listing.specs.Listing.{listingOf}
 use Rattle.program.specs.Program.{checkMesh, textOf}
-use Rattle.program.specs.Mount.{stlContents, stlTextOf}
+use Rattle.program.specs.StlText.{stlContents, stlTextOf}
 
 -- ---- a file's mesh
 
@@ -69,8 +69,9 @@ TextDoesNotShow =
 
 -- ---- the same for an STL
 
--- Two files, the corners of the second those of the first moved by whole numbers: unless the mesh is open they print the same bytes, and
--- if it is they differ in four lines at most. The unit is one for which demand 3 speaks. (`stl-text-does-not-show`)
+-- Two files whose corners are whole numbers, those of the second the first's moved by whole numbers: unless the mesh is open they print the
+-- same bytes, and if it is they differ in four lines at most. 0.001 is a unit of which demand 3 speaks, so it is no premise.
+-- (`stl-text-does-not-show`)
 abbrev pub StlTextDoesNotShow : Type 0
 StlTextDoesNotShow =
     (dx dy dz : ℤ) (bytes bytes′ : List ℕ) (n n′ : ℕ)

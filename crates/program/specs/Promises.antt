@@ -1,5 +1,5 @@
--- What is proved of the programs beside their contracts: which refusals a file can meet, what of an STL does not show, that no NaN gets past,
--- and what becomes of input that is longer than any file.
+-- What is proved of the programs beside their contracts: which refusals a file can meet, what of an STL does not show, that no NaN gets
+-- past, and what becomes of input that is longer than any file.
 use mathlib.Core.Path.{_≡_}
 use mathlib.Core.Logic.{_⊎_}
 use Prim.Native.Nat.{ℕ, _+_, _%_, _^_, _≤_, _<_}
@@ -17,7 +17,7 @@ use Rattle.stl.specs.Reading.{mostTriangles}
 use Rattle.stl.specs.Worth.{SameWhereSeen}
 use Rattle.listing.specs.Listing.{refusedLine}
 use Rattle.program.specs.Program.{checkMesh, Prints}
-use Rattle.program.specs.Mount.{stlContents, stlTextOf}
+use Rattle.program.specs.StlText.{stlContents, stlTextOf}
 use Rattle.program.specs.Place.{meshFloats, meshUnit}
 
 -- the rows of 01's table that a file can meet: it is never too large, and no area is too short (`areas-suffice`)
@@ -47,19 +47,20 @@ StlUnseen = (bytes bytes′ : List ℕ) → SameWhereSeen bytes bytes′ → stl
 abbrev pub NotFiniteRefused : Type 0
 NotFiniteRefused = (w : ℕ) → 0x7f80_0000 ≤ w % 2 ^ 31 → fine (ofBits binary32 w) ≡ false
 
--- ---- input that is longer than any file, for either program: what it prints of bytes, and how many the longest file has
+-- ---- input that is longer than any file, for either program: `text` is what it prints for bytes, `most` how many its longest file has
 
--- Of input that is longer one byte more decides, so the program needs to keep no more. (`front-decides`, `stl-text-front-decides`)
+-- Of input that is longer one byte more decides, so the program needs to keep no more. (`front-decides`: of `textOf` and 12,318;
+-- `stl-text-front-decides`: of `stlTextOf` and 8,584)
 abbrev pub KeptDecides : (List ℕ → List ℕ) → ℕ → Type 0
 KeptDecides text most = (bytes : List ℕ) → most < length bytes → text (take (most + 1) bytes) ≡ text bytes
 
--- and it is refused (`long-refused`, `stl-long-refused`)
+-- and it is refused (`long-refused`, `stl-long-refused`: of the same)
 abbrev pub LongRefused : (List ℕ → List ℕ) → ℕ → Type 0
 LongRefused text most = (bytes : List ℕ) → most < length bytes → (n : ℕ) × ((n ≡ 5) ⊎ (n ≡ 6)) × (text bytes ≡ refusedLine n)
 
--- The complete contract of `run_front` and `run_stl_front`, of an area of bytes and a number n: the text of the first n bytes is printed, and
--- that is the text of every input that begins with them, whether they are all of it or as many as the area holds. So what a program need
--- not keep does not matter.
+-- The complete contract of `run_front` and `run_stl_front`, of an area of bytes and a number n: the text of the first n bytes is printed,
+-- and that is the text of every input that begins with them, whether they are all of it or as many as the area holds. So what a program
+-- need not keep does not matter.
 pub record PrintsFront (text : List ℕ → List ℕ) (bytes : List ℕ) (n : ℕ) (area : List ℕ) (r : ℕ) (area′ : List ℕ) : Type 0 where
   pub prints : Prints (text (take n bytes)) area r area′
   pub decides : (input : List ℕ) → take n bytes ≡ take (length bytes) input → text (take n bytes) ≡ text input

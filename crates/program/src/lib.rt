@@ -13,7 +13,7 @@ ghost use Rattle.listing.specs.Listing.{listingOf, refusedLine};
 ghost use Rattle.listing.specs.Lists.{headBytes};
 ghost use Rattle.program.specs.Program.{meshText, textOf, Prints};
 ghost use Rattle.program.specs.Promises.{PrintsFront};
-ghost use Rattle.program.specs.Mount.{stlTextOf};
+ghost use Rattle.program.specs.StlText.{stlUnit, stlTextOf};
 use listing::Listed;
 use meshfile::MeshFile;
 use meshfile::Reading;
@@ -119,7 +119,8 @@ pub fn run_front(bytes: &[u8; KEPT], n: usize, text: &mut [u8; TEXT]) -> usize
 // What a mesh file says beside its floats and ids, for n triangles of an STL: the unit is 0.001, and there are no flags.
 fn stl_mesh(n: usize) -> MeshFile
     requires { ⌜ n ≤ 170 ⌝ }
-    ensures { λ r. ⌜ (r .unit ≡ ofBits binary32 0x3a83_126f) × (r .clip ≡ false) × (r .profile ≡ Profile.Valid) ⌝ }
+    ensures { λ r. ⌜ (r .unit ≡ ofBits binary32 stlUnit) × (r .clip ≡ false) × (r .profile ≡ Profile.Valid)
+        × (r .floats ≡ 9 * n) × (r .ids ≡ 3 * n) ⌝ }
 {
     MeshFile {
         unit: floats::f32_of(0x3a83_126f),

@@ -14,11 +14,7 @@ use Rattle.refusals.specs.Refusals.{areasShort, unitFits, checkOf}
 use Rattle.refusals.specs.inner.Admitted.{Admitted}
 use Rattle.vertices.specs.Areas.{workWords, surfaceFloats, rasterBytes}
 use Rattle.ids.specs.Lent.{mostEntries}
-
-neither : (p q : Bool) → (p || q) ≡ false → (p ≡ false) × (q ≡ false)
-neither false false e = (refl, refl)
-neither false true e = absurd (false≢true (ap not e))
-neither true q e = absurd (false≢true (ap not e))
+use Rattle.ids.proofs.Groups.{neither}
 
 pub not-more : (a b : ℕ) → ltb a b ≡ false → b ≤ a
 not-more a b e = let h = ltb-false a b e in omega arith

@@ -1,7 +1,8 @@
 // Runs the meshes of data/meshes, each a u32 length and so many bytes of the program's format, and prints for each what
 // `takeoff` prints, and a line with what the routines on ids say of its ids, what `compute` says to a work area that is one word
-// short, and the pairs of its footprints. Then the files of data/mounts, in the same framing, each a binary STL: what `takeoff_stl` prints. The
-// gate holds this to `stdout`: the unchanged Rust's answers, and a plain reference's where the Rust has none (docs/DIFFERENCES.md says how).
+// short, and the pairs of its footprints. Then the files of data/mounts, in the same framing, each a binary STL: what
+// `takeoff_stl` prints. The gate holds this to `stdout`: the unchanged Rust's answers, and a plain reference's where the Rust has
+// none (docs/DIFFERENCES.md says how).
 ghost use Prim.Native.Nat.{_≤_};
 ghost use lib.ListN.{length};
 use chain::EdgeChain;
@@ -151,7 +152,7 @@ fn print_listing(bytes: &[u8]) {
     io::write_all(STDOUT_FILENO, &text[..end]);
 }
 
-fn print_mount(bytes: &[u8]) {
+fn print_stl(bytes: &[u8]) {
     let mut text = [0u8; program::TEXT];
     let end = program::run_stl(bytes, &mut text);
     io::write_all(STDOUT_FILENO, &text[..end]);
@@ -161,7 +162,7 @@ fn print_mount(bytes: &[u8]) {
 fn replay_file(fd: i32, stl: bool, part: &mut [u8]) {
     let got = io::read_full(fd, part);
     if stl {
-        print_mount(&part[..got]);
+        print_stl(&part[..got]);
         return;
     }
     print_listing(&part[..got]);

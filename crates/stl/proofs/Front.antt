@@ -17,9 +17,9 @@ stl-files-are-short most n bytes e =
     let s = taken-exactly most n bytes .only-these e in
     omega (arith, s .size, s .few)
 
--- it is refused, by its count alone
-long-refused : (most : ℕ) (bytes : List ℕ) → stlLength most < length bytes → stlCount bytes ≤ most → stlOf most bytes ≡ Stl.Refused 5
-long-refused most bytes h few = wrong-length most bytes (omega arith) few (λ q. omega (arith, q))
+-- where its count passes, its length does not
+too-long : (most : ℕ) (bytes : List ℕ) → stlLength most < length bytes → stlCount bytes ≤ most → stlOf most bytes ≡ Stl.Refused 5
+too-long most bytes h few = wrong-length most bytes (omega arith) few (λ q. omega (arith, q))
 
 pub stl-front-decides : StlFrontDecides
 stl-front-decides most bytes h = go (decLt most (stlCount bytes))
@@ -35,5 +35,5 @@ stl-front-decides most bytes h = go (decLt most (stlCount bytes))
         too-many most (take (stlLength most + 1) bytes) (omega (arith, long)) (omega (arith, count))
         ∙ sym (too-many most bytes (omega arith) many)
     go (no few) =
-        long-refused most (take (stlLength most + 1) bytes) (omega (arith, long)) (omega (arith, count))
-        ∙ sym (long-refused most bytes h (omega arith))
+        too-long most (take (stlLength most + 1) bytes) (omega (arith, long)) (omega (arith, count))
+        ∙ sym (too-long most bytes h (omega arith))

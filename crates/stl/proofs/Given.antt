@@ -10,7 +10,7 @@ use lib.Ieee.{Float}
 use lib.ListN.{length, take, drop}
 use lib.Seq.{length-take-le}
 use Rattle.words.specs.Words.{floatsOf}
-use Rattle.words.proofs.Parts.{neither}
+use Rattle.ids.proofs.Groups.{neither}
 use Rattle.stl.specs.declared.Stl.{Stl}
 use Rattle.stl.specs.Stl.{stlOf, cornersTo, idsTo}
 use Rattle.stl.specs.Reading.{inAreas, cornersLater, idsLater, ReadsStl}
@@ -48,8 +48,8 @@ module _ (most : ℕ) (bytes : List ℕ) (vs : List Float) (ids : List ℕ) wher
     unfolding inAreas
     given q vs′ ids′ x = record { answers = rw (held, q); floats = x .floats; ids-later = x .ids-later }
 
-    pub holds : tooShort ≡ false → 3 * most ≤ 4294967296 → RoomFor n (length bytes) (length vs) (length ids)
-    holds q words =
+    pub room : tooShort ≡ false → 3 * most ≤ 4294967296 → RoomFor n (length bytes) (length vs) (length ids)
+    room q words =
         let both = neither (ltb (length vs) (9 * n)) (ltb (length ids) (3 * n)) q in
         record {
           inside = omega (arith, is-stl .size);

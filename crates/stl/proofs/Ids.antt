@@ -7,7 +7,7 @@ use native.Mathlib.Decide.{ℕ-discrete}
 use lib.ListN.{length, getD, set}
 use lib.Seq.{getD-set-same, getD-set-other, ext-getD}
 use Rattle.stl.specs.Stl.{idsAt, idsTo}
-use Rattle.stl.proofs.InOrder.{order-length, order-at}
+use Rattle.stl.proofs.OverNumbers.{order-length, order-at}
 
 pub ids-length : (n : ℕ) → length (idsTo n) ≡ 3 * n
 ids-length n = order-length idsAt 3 n (λ t l. refl)

@@ -10,7 +10,7 @@ use Rattle.words.proofs.Parts.{part-length, part-words, length-floats}
 use Rattle.words.proofs.At.{word-at, float-at, word-part}
 use Rattle.stl.specs.Stl.{stlLength, cornersAt, cornersTo}
 use Rattle.stl.specs.Worth.{MeshOfStl}
-use Rattle.stl.proofs.InOrder.{order-length, order-at}
+use Rattle.stl.proofs.OverNumbers.{order-length, order-at}
 use Rattle.stl.proofs.Ids.{ids-length, each-id}
 
 module _ (n : ℕ) (bytes : List ℕ) (whole : stlLength n ≤ length bytes) where

@@ -5,12 +5,14 @@ use mathlib.Core.Logic.{inl, inr}
 use mathlib.Core.List.{List}
 use Prim.Native.Nat.{ℕ, zero, suc, _+_, _<_}
 use native.Mathlib.Omega.{arith}
-use lib.ListN.{length, getD, take, drop, length-take, length-drop}
-use lib.Seq.{getD-take, getD-drop, ext-getD}
+use lib.ListN.{length, take, drop, length-take, length-drop}
+use lib.Seq.{ext-getD}
 use lib.Ieee.{Float}
-use Rattle.words.specs.Words.{byte, u32At}
+use Rattle.words.specs.Words.{u32At}
+use Rattle.words.proofs.At.{byte-part}
 use Rattle.stl.specs.declared.Stl.{Stl}
-use Rattle.stl.specs.Stl.{inOrder, stlCount, stlLength, stlOf, cornersTo}
+use Rattle.ids.specs.Triangles.{overNumbers}
+use Rattle.stl.specs.Stl.{stlCount, stlLength, stlOf, cornersTo}
 use Rattle.stl.specs.Reading.{cornersLater}
 use Rattle.stl.specs.Worth.{SameWhereSeen, UnseenDoesNotMatter}
 
@@ -32,9 +34,6 @@ module _ (bytes bytes′ : List ℕ) (same : SameWhereSeen bytes bytes′) where
   abbrev partOf : List ℕ → ℕ → List ℕ
   partOf l t = take 36 (drop (stlLength t + 12) l)
 
-  part-at : (l : List ℕ) (t i : ℕ) → i < 36 → getD (partOf l t) i 0 ≡ byte l (stlLength t + 12 + i)
-  part-at l t i h = getD-take 36 (drop (stlLength t + 12) l) i 0 h ∙ getD-drop (stlLength t + 12) l i 0
-
   part-long : (l : List ℕ) (t i : ℕ) → i < length (partOf l t) → i < 36
   part-long l t i h = omega (arith, length-take 36 (drop (stlLength t + 12) l))
 
@@ -42,10 +41,11 @@ module _ (bytes bytes′ : List ℕ) (same : SameWhereSeen bytes bytes′) where
   same-part t =
       ext-getD 0 (partOf bytes′ t) (partOf bytes t) (simp (length-take, length-drop, same .as-long))
       (λ i l. let h = part-long bytes′ t i l in
-      part-at bytes′ t i h ∙ same .seen (stlLength t + 12 + i) (inr (omega arith, omega arith)) ∙ sym (part-at bytes t i h))
+      byte-part (stlLength t + 12) 36 i bytes′ h ∙ same .seen (stlLength t + 12 + i) (inr (omega arith, omega arith))
+      ∙ sym (byte-part (stlLength t + 12) 36 i bytes h))
 
   pub same-corners : (n : ℕ) → cornersTo bytes′ n ≡ cornersTo bytes n
-  unfolding inOrder
+  unfolding overNumbers
   same-corners zero = refl
   same-corners (suc n) = rw (same-corners n, same-part n)
 

@@ -6,6 +6,7 @@ use Prim.Native.Nat.{ℕ, _+_, _*_, _-_, _%_, _≤_, _<_}
 use mathlib.Core.List.{List}
 use lib.ListN.{length, getD, take}
 use lib.Ieee.{Float, nan, binary32, ofBits}
+use Rattle.ids.specs.Pieces.{shareEdge, pieces}
 use Rattle.words.specs.Words.{byte, u32At, floatsOf}
 use Rattle.stl.specs.declared.Stl.{Stl}
 use Rattle.stl.specs.Stl.{stlCount, stlLength, stlOf, cornersTo, idsTo}
@@ -40,9 +41,13 @@ pub record MeshOf (n : ℕ) (bytes : List ℕ) : Type 0 where
 abbrev pub MeshOfStl : Type 0
 MeshOfStl = (n : ℕ) (bytes : List ℕ) → stlLength n ≤ length bytes → MeshOf n bytes
 
+-- Each triangle is a piece of its own: no two have an id in common. (`pieces-of-stl`)
+abbrev pub PiecesOfStl : Type 0
+PiecesOfStl = (n : ℕ) → pieces shareEdge (idsTo n) ≡ n
+
 -- ---- Header, normals and attributes do not matter.
 
--- the bytes that are looked at: the four of the count, and of each triangle's 50, from the 12th on, the 36 of its corners
+-- the bytes that are looked at: the four of the count, and of each triangle's 50 the 36 of its corners, which stand behind the first 12
 abbrev pub Seen : ℕ → Type 0
 Seen i = ((80 ≤ i) × (i < 84)) ⊎ ((96 ≤ i) × ((i - 96) % 50 < 36))
 
@@ -56,10 +61,12 @@ UnseenDoesNotMatter = (most : ℕ) (bytes bytes′ : List ℕ) → SameWhereSeen
     → (vs : List Float) (ids : List ℕ) (r : Stl) (vs′ : List Float) (ids′ : List ℕ)
     → ReadsStl most bytes vs ids r vs′ ids′ → ReadsStl most bytes′ vs ids r vs′ ids′
 
--- ---- Of input that is longer than any file one byte more than the longest decides, and it is refused.
+-- ---- Of input that is longer than any file one byte more than the longest decides, and it is refused. (`stl-front-decides`,
+-- `stl-files-are-short`)
 
 abbrev pub StlFrontDecides : Type 0
-StlFrontDecides = (most : ℕ) (bytes : List ℕ) → stlLength most < length bytes → stlOf most (take (stlLength most + 1) bytes) ≡ stlOf most bytes
+StlFrontDecides = (most : ℕ) (bytes : List ℕ) → stlLength most < length bytes
+    → stlOf most (take (stlLength most + 1) bytes) ≡ stlOf most bytes
 
 abbrev pub StlFilesAreShort : Type 0
 StlFilesAreShort = (most n : ℕ) (bytes : List ℕ) → stlOf most bytes ≡ Stl.Triangles n → length bytes ≤ stlLength most

@@ -1,6 +1,6 @@
 // Binary STL (document 02, A4): a mount's bytes read into lent floats and ids. Every triangle has corners and ids of its own.
 ghost use mathlib.Core.Path.{_≡_};
-ghost use Prim.Native.Nat.{_*_, _/_, _%_, _≤_, _<_};
+ghost use Prim.Native.Nat.{_+_, _*_, _/_, _%_, _≤_, _<_};
 ghost use lib.ListN.{length};
 ghost use Rattle.words.specs.Words.{floatsOf};
 ghost use Rattle.stl.specs.Stl.{stlCount, stlLength, stlOf, cornersTo, idsTo};
@@ -38,6 +38,14 @@ fn triangles_in(bytes: &[u8], most: usize) -> Stl
     Stl::Triangles(n)
 }
 
+// Where the corners of triangle t stand: behind its normal.
+fn corners_at(t: usize) -> usize
+    requires { ⌜ stlLength t + 12 < 18446744073709551616 ⌝ }
+    ensures { λ r. ⌜ r ≡ stlLength t + 12 ⌝ }
+{
+    96 + 50 * t
+}
+
 // The corners of n triangles fill the area: of each the nine floats behind its normal.
 fn put_corners(bytes: &[u8], n: usize, area: &mut [f32])
     requires { ⌜ (stlLength n ≤ length (now bytes)) × (length (now area) ≡ 9 * n) ⌝ }
@@ -45,7 +53,7 @@ fn put_corners(bytes: &[u8], n: usize, area: &mut [f32])
 {
     let mut t = 0;
     while t < n {
-        let at = 96 + 50 * t;
+        let at = corners_at(t);
         let to = 9 * t;
         words::put_floats(&bytes[at..at + 36], &mut area[to..to + 9]);
         t += 1;
@@ -73,7 +81,7 @@ fn fill(bytes: &[u8], n: usize, vertices: &mut [f32], ids: &mut [u32])
     put_ids(&mut ids[..3 * n]);
 }
 
-// With a greatest count. Its ids have to be words.
+// `read` for any greatest count for which three ids a triangle are words.
 fn read_most(bytes: &[u8], most: usize, vertices: &mut [f32], ids: &mut [u32]) -> Stl
     requires { ⌜ 3 * most ≤ 4294967296 ⌝ }
     ensures { λ r. ⌜ ReadsStl most (now (bytes .entry)) (now (vertices .entry)) (now (ids .entry)) r
@@ -92,8 +100,8 @@ fn read_most(bytes: &[u8], most: usize, vertices: &mut [f32], ids: &mut [u32]) -
     }
 }
 
-// The mesh of a binary STL of up to 170 triangles: its corners and ids go to the front of the two areas. A refusal writes nothing: 5 or 6 for
-// the fault that is met first, and then 3 for an area that is too short.
+// The mesh of a binary STL of up to 170 triangles: its corners and ids go to the front of the two areas. A refusal writes nothing: 5 or 6
+// for the fault that is met first, and then 3 for an area that is too short.
 pub fn read(bytes: &[u8], vertices: &mut [f32], ids: &mut [u32]) -> Stl
     ensures { λ r. ⌜ ReadsStl mostTriangles (now (bytes .entry)) (now (vertices .entry)) (now (ids .entry)) r
         (now (vertices .exit)) (now (ids .exit)) ⌝ }
@@ -101,7 +109,7 @@ pub fn read(bytes: &[u8], vertices: &mut [f32], ids: &mut [u32]) -> Stl
     read_most(bytes, 170, vertices, ids)
 }
 
-// The same with up to 10,922 triangles, as many as the record takes.
+// The same with up to 10,922 triangles, as many as the record takes with corners of their own.
 pub fn read_large(bytes: &[u8], vertices: &mut [f32], ids: &mut [u32]) -> Stl
     ensures { λ r. ⌜ ReadsStl mostLarge (now (bytes .entry)) (now (vertices .entry)) (now (ids .entry)) r
         (now (vertices .exit)) (now (ids .exit)) ⌝ }

@@ -24,7 +24,7 @@ float-at (w ∷ ws) zero d l = refl
 float-at (w ∷ ws) (suc i) d l = float-at ws i d (omega arith)
 
 -- a byte and a word within a part
-byte-part : (p n k : ℕ) (bytes : List ℕ) → k < n → byte (take n (drop p bytes)) k ≡ byte bytes (p + k)
+pub byte-part : (p n k : ℕ) (bytes : List ℕ) → k < n → byte (take n (drop p bytes)) k ≡ byte bytes (p + k)
 byte-part p n k bytes l = getD-take n (drop p bytes) k 0 l ∙ getD-drop p bytes k 0
 
 pub word-part : (p n k : ℕ) (bytes : List ℕ) → k + 4 ≤ n → u32At (take n (drop p bytes)) k ≡ u32At bytes (p + k)

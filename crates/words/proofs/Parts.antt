@@ -1,6 +1,5 @@
 -- A part of bytes is as long as was asked, and so are its words and their floats. Assumes nothing.
 use mathlib.Core.Path.{_≡_, refl, ap}
-use mathlib.Core.Bool.{Bool, true, false, _||_}
 use mathlib.Core.List.{List, [], _∷_}
 use Prim.Native.Nat.{ℕ, suc, _+_, _*_, _-_, _/_, _≤_}
 use native.Mathlib.Omega.{arith}
@@ -32,8 +31,3 @@ pub part-is : (k n : ℕ) (bytes : List ℕ) → take (k + n - k) (drop k bytes)
 part-is k n bytes =
     let e : k + n - k ≡ n = omega arith in
     rw e
-
--- neither area is too short
-pub neither : (a b : Bool) → (a || b) ≡ false → (a ≡ false) × (b ≡ false)
-neither true b q = let y : _≡_ {A = ℕ} 0 1 = cc in absurd (omega arith)
-neither false b q = (refl, q)

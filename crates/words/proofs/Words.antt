@@ -15,7 +15,7 @@ unfolding floatsOf
 floats-map [] = refl
 floats-map (w ∷ ws) = ap (λ (l : List Float). ofBits binary32 w ∷ l) (floats-map ws)
 
-pub words-first : (l : List ℕ) → 4 ≤ length l → wordsIn l ≡ u32At l 0 ∷ wordsIn (drop 4 l)
+words-first : (l : List ℕ) → 4 ≤ length l → wordsIn l ≡ u32At l 0 ∷ wordsIn (drop 4 l)
 unfolding u32At wordsIn
 words-first [] h = absurd (omega arith)
 words-first (a ∷ []) h = absurd (omega arith)

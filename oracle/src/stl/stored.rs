@@ -1,5 +1,5 @@
 //! The STL files that the crate `replay` holds, so that the gate has some of the Rust's answers to files without the Rust: each for one
-//! reason, and small but for one.
+//! reason, and small but for two.
 
 use super::damage::counted;
 use super::dress::beginning;

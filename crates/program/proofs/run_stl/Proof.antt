@@ -3,7 +3,7 @@ use mathlib.Core.Path.{sym}
 use Prim.Native.Nat.{_*_, _≤_}
 use lib.ListN.{length-take}
 use lib.Seq.{length-take-le}
-use Rattle.program.proofs.Mount.{refusal-text, is-mount, mesh-text}
+use Rattle.program.proofs.StlHeld.{refusal-text, is-stl, mesh-text}
 use native.Mathlib.Omega.{arith}
 use borrow.Author.Needs.{needs}
 use Rattle.program.proofs.run_stl.Statement.{statement}
@@ -15,7 +15,7 @@ module _ (c : tie.After-found2) where
   read = c .before .before .before .before
 
   few : c .found2 .given .0 .0 ≤ 170
-  few = is-mount _ _ _ (omega arith) (omega arith) _ _ _ (read .read .ensures) _ (c .found2 .given .1) .few
+  few = is-stl _ _ _ (omega arith) (omega arith) _ _ _ (read .read .ensures) _ (c .found2 .given .1) .few
 
 print-mesh-requires : tie.Need-print-mesh-requires
 print-mesh-requires c κs =

@@ -4,7 +4,7 @@ use lib.Seq.{length-take-le}
 use native.Mathlib.Omega.{arith}
 use borrow.Author.Needs.{needs}
 use Rattle.program.proofs.Printed.{prints-first, prints-all}
-use Rattle.program.proofs.MountPromises.{stl-text-front-decides}
+use Rattle.program.proofs.StlPromises.{stl-text-front-decides}
 use Rattle.program.proofs.run_stl_front.Statement.{statement}
 use Rattle.program.proofs.run_stl_front.Tie as tie
 

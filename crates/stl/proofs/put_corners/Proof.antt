@@ -18,14 +18,18 @@ loop-holds : tie.Need-loop-holds Inv-loop μ-loop
 loop-holds c = (omega arith, refl, stand-none _ _)
 
 put-floats-requires : tie.Need-put-floats-requires Inv-loop μ-loop
-put-floats-requires c κs = simp (length-take, length-drop) (omega arith)
+put-floats-requires c κs = simp (length-take, length-drop) (omega (arith, c .before .before .corners-at .ensures))
 
 loop-again : tie.Need-loop-again Inv-loop μ-loop
 loop-again c =
-    let put = c .before .before .put-floats in
-    let l = c .before .before .before .before .before .before .loop in
-    let stands = stand-next _ (l .t) (l .area) _ (omega arith) (omega (arith, put .kept)) (put .ensures) (l .inv .2) in
-    (search needs, search needs, stands)
+    let put = c .before .before in
+    let placed = put .before .before .before in
+    let l = placed .before .before .loop in (
+      search needs,
+      search needs,
+      stand-next _ (l .t) (placed .corners-at .result) (l .area) _ (omega arith) (omega (arith, put .put-floats .kept))
+          (put .put-floats .ensures) (l .inv .2) (placed .corners-at .ensures),
+    )
 
 returns : tie.Need-returns Inv-loop μ-loop
 returns c =
@@ -36,7 +40,6 @@ returns c =
 pub put-corners-spec : {M : Type 1} → statement M
 put-corners-spec =
     tie.close
-    (tie.spec Inv-loop μ-loop loop-holds (λ c. search needs) (λ c. search needs) (λ c. search needs) (λ c. search needs)
+    (tie.spec Inv-loop μ-loop loop-holds (λ c κs. search needs) (λ c. search needs) (λ c. search needs) (λ c. search needs)
     (λ c. search needs) (λ c. search needs) (λ c. search needs) (λ c. search needs) (λ c. search needs) (λ c. search needs)
-    (λ c. search needs) (λ c. search needs) put-floats-requires (λ c. search needs) (λ c. search needs) loop-again
-    (λ c. search needs) returns)
+    (λ c. search needs) put-floats-requires (λ c. search needs) (λ c. search needs) loop-again (λ c. search needs) returns)

@@ -5,7 +5,7 @@ use native.Mathlib.Omega.{arith}
 use borrow.Author.Needs.{needs}
 use Rattle.stl.specs.declared.Stl.{Stl}
 use Rattle.stl.specs.Stl.{stlOf}
-use Rattle.stl.proofs.Given.{refused, is-stl, short, given, holds}
+use Rattle.stl.proofs.Given.{refused, is-stl, short, given, room}
 use Rattle.stl.proofs.read_most.Statement.{statement}
 use Rattle.stl.proofs.read_most.Tie as tie
 
@@ -33,7 +33,7 @@ fill-requires : tie.Need-fill-requires
 fill-requires c κs =
     let tested = c .before .before in
     let found = tested .before .before in
-    holds _ _ (start found .args .vertices .now) (start found .args .ids .now) _ (held found) (tested .if1 .left) (start found .pre)
+    room _ _ (start found .args .vertices .now) (start found .args .ids .now) _ (held found) (tested .if1 .left) (start found .pre)
 
 returns-2 : tie.Need-returns-2
 returns-2 c = refused _ _ _ _ _ (sym (c .before .before .before .triangles-in .ensures) ∙ c .before .found .given .1)

@@ -20,7 +20,7 @@ use Rattle.stl.proofs.Tests.{taken-exactly}
 use Rattle.stl.proofs.Mesh.{mesh-of-stl}
 use Rattle.listing.specs.Listing.{refusedLine}
 use Rattle.program.specs.Program.{meshText, textFor}
-use Rattle.program.specs.Mount.{stlFile, stlTextOf}
+use Rattle.program.specs.StlText.{stlUnit, stlFile, stlTextOf}
 
 -- with areas of 1,536 nothing is too short, so the answer is the file's
 in-areas : (bytes : List ℕ) (r : Stl) → stlOf mostTriangles bytes ≡ r → inAreas r 1536 1536 ≡ r
@@ -40,23 +40,23 @@ module _ (bytes : List ℕ) (vs : List Float) (ids : List ℕ) (hv : length vs �
   refusal-text n e = rw (answer-is, e)
 
   module _ (n : ℕ) (e : r ≡ Stl.Triangles n) where
-    pub is-mount : IsStl mostTriangles n bytes
-    is-mount = taken-exactly mostTriangles n bytes .only-these (answer-is ∙ e)
+    pub is-stl : IsStl mostTriangles n bytes
+    is-stl = taken-exactly mostTriangles n bytes .only-these (answer-is ∙ e)
 
     corners-first : take (9 * n) vs′ ≡ floatsOf (cornersTo bytes n)
     unfolding cornersLater
     corners-first =
         rw (made .floats, e)
         (take-at (floatsOf (cornersTo bytes n)) (drop (9 * n) vs) (9 * n)
-        (mesh-of-stl n bytes (omega (arith, is-mount .size)) .floats-length))
+        (mesh-of-stl n bytes (omega (arith, is-stl .size)) .floats-length))
 
     ids-first : take (3 * n) ids′ ≡ idsTo n
     unfolding idsLater
     ids-first =
         rw (made .ids-later, e)
-        (take-at (idsTo n) (drop (3 * n) ids) (3 * n) (mesh-of-stl n bytes (omega (arith, is-mount .size)) .ids-length))
+        (take-at (idsTo n) (drop (3 * n) ids) (3 * n) (mesh-of-stl n bytes (omega (arith, is-stl .size)) .ids-length))
 
-    pub mesh-text : (u : Float) (clip : Bool) (profile : Profile) → u ≡ ofBits binary32 0x3a83_126f → clip ≡ false
+    pub mesh-text : (u : Float) (clip : Bool) (profile : Profile) → u ≡ ofBits binary32 stlUnit → clip ≡ false
         → profile ≡ Profile.Valid → meshText (take (9 * n) vs′) (take (3 * n) ids′) u clip profile ≡ stlTextOf bytes
     unfolding stlTextOf stlFile textFor profileAt
     mesh-text u clip profile eu ec ep = rw (answer-is, e, corners-first, ids-first, eu, ec, ep)

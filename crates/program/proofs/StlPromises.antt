@@ -25,15 +25,15 @@ use Rattle.stl.proofs.Front.{stl-front-decides, stl-files-are-short}
 use Rattle.program.specs.Program.{textFor}
 use Rattle.program.specs.Promises.{checkFile, checkStl, StlCheck, StlUnseen, KeptDecides, LongRefused}
 use Rattle.program.specs.Place.{meshFloats, meshUnit, StlTextDoesNotShow}
-use Rattle.program.specs.Mount.{stlContents, stlFile, stlTextOf}
+use Rattle.program.specs.StlText.{stlUnit, stlContents, stlFile, stlTextOf}
 use Rattle.meshfile.proofs.One.{File56}
 use Rattle.program.proofs.Printed.{refused-text}
 use Rattle.program.proofs.Suffice.{areas-suffice}
 use Rattle.program.proofs.Place.{moved-texts}
 
 -- nine floats a triangle
-corners-length : (bytes : List ℕ) (n : ℕ) → stlOf mostTriangles bytes ≡ Stl.Triangles n → length (meshFloats (stlContents bytes n)) ≡ 9 * n
-corners-length bytes n e =
+nine-each : (bytes : List ℕ) (n : ℕ) → stlOf mostTriangles bytes ≡ Stl.Triangles n → length (meshFloats (stlContents bytes n)) ≡ 9 * n
+nine-each bytes n e =
     let is : IsStl mostTriangles n bytes = taken-exactly mostTriangles n bytes .only-these e in
     mesh-of-stl n bytes (omega (arith, is .size)) .floats-length
 
@@ -49,7 +49,7 @@ unfolding stlTextOf
 stl-unseen bytes bytes′ same =
     rw (same-taken bytes bytes′ same mostTriangles) (ap textFor (file-alike bytes bytes′ same (stlOf mostTriangles bytes)))
 
-fits : unitFits (ofBits binary32 0x3a83_126f) ≡ true
+fits : unitFits (ofBits binary32 stlUnit) ≡ true
 unfolding unitFits le ofBits
 fits = refl
 
@@ -64,7 +64,7 @@ unfolding checkFile checkStl
 stl-check bytes n e =
     let m = stlContents bytes n in
     let few = taken-exactly mostTriangles n bytes .only-these e .few in
-    let floats = corners-length bytes n e in
+    let floats = nine-each bytes n e in
     rw (
       areas-suffice (meshFloats m) (m .ids) (meshUnit m) (omega (arith, floats)) (omega (arith, ids-length n)),
       ids-length n,
@@ -109,12 +109,12 @@ stl-long-refused bytes long =
 
 -- ---- demand 3
 
-enough : T (unitEnough (ofBits binary32 0x3a83_126f))
+enough : T (unitEnough (ofBits binary32 stlUnit))
 unfolding le ofBits
 enough = tt
 
 pub stl-text-does-not-show : StlTextDoesNotShow
 unfolding stlTextOf stlFile
 stl-text-does-not-show dx dy dz bytes bytes′ n n′ e e′ moved =
-    let same : n′ ≡ n = omega (arith, corners-length bytes n e, corners-length bytes′ n′ e′, moved .lengths) in
+    let same : n′ ≡ n = omega (arith, nine-each bytes n e, nine-each bytes′ n′ e′, moved .lengths) in
     rw (e, e′) (moved-texts dx dy dz (stlContents bytes n) (stlContents bytes′ n′) refl (ap idsTo same) refl refl moved enough)

@@ -11,14 +11,14 @@ use lib.Dec.{T, eqb}
 use lib.ListN.{length, take, drop, length-append}
 use lib.Seq.{drop-drop, take-append-seam, drop-append-seam}
 use Rattle.record.specs.Numbers.{flagsFit}
-use Rattle.words.specs.Words.{u16At, u32At}
+use Rattle.words.specs.Words.{u16At, u32At, bytesOf, allBytes, Below}
 use Rattle.meshfile.specs.declared.Front.{Front}
 use Rattle.meshfile.specs.declared.Ending.{Ending}
 use Rattle.meshfile.specs.Format.{flagValues, mostInFile, lengthFits, frontOf, flagsIn, endingOf, ended, idsIn}
 use Rattle.meshfile.specs.Format.{verticesIn, unitIn, fileOf, Contents, File}
-use Rattle.meshfile.specs.Written.{bytesOf, allBytes, chunkOf, plainFile, flaggedFile, Below, Proper, IsFileOf, Accepts}
+use Rattle.meshfile.specs.Written.{chunkOf, plainFile, fileBytes, Proper, IsFileOf, Accepts}
 use Rattle.meshfile.proofs.Fronts.{Record, front-is}
-use Rattle.meshfile.proofs.Bytes.{four-of, length-all, words-all}
+use Rattle.words.proofs.Bytes.{four-of, length-all, words-all}
 
 -- ---- one record as it is written
 
@@ -105,7 +105,7 @@ file-written m tail p e =
     (ids-written (m .unit) (m .vertices) (m .ids) tail (m .clip) (m .defect) (p .ids) (p .ids-most) e)))
 
 pub accepts : Accepts
-unfolding IsFileOf flaggedFile endingOf
+unfolding IsFileOf fileBytes endingOf
 accepts m bytes p (inl e) =
     ap fileOf e ∙ file-written m (chunkOf 4 (m .clip ∷ m .defect ∷ [])) p (flags-written (m .clip) (m .defect) (p .flags))
 accepts m bytes p (inr e) = ap fileOf (e .0 ∙ sym (append-nil (plainFile m))) ∙ file-written m [] p (rw (e .1, e .2))

@@ -9,17 +9,17 @@ use lib.Dec.{T}
 use lib.ListN.{length, take, drop, length-drop, take-append-drop, drop-of-length-le}
 use lib.Seq.{drop-drop, drop-cons, length-take-le}
 use Rattle.record.specs.Numbers.{flagsFit}
-use Rattle.words.specs.Words.{byte, u16At, u32At, wordsIn}
+use Rattle.words.specs.Words.{byte, u16At, u32At, wordsIn, bytesOf, allBytes, Below}
 use Rattle.meshfile.specs.declared.Parts.{Parts}
 use Rattle.meshfile.specs.Format.{Contents}
 use Rattle.meshfile.specs.inner.Steps.{contentsAt}
-use Rattle.meshfile.specs.Written.{bytesOf, allBytes, chunkOf, plainFile, flaggedFile, Below, Proper, IsFileOf, AcceptsOnly}
+use Rattle.meshfile.specs.Written.{chunkOf, plainFile, fileBytes, Proper, IsFileOf, AcceptsOnly}
 use Rattle.meshfile.proofs.Fronts.{Record}
 use Rattle.meshfile.proofs.Endings.{Flags, Ends, plain as endsPlain, flags as endsFlags, ends}
 use Rattle.words.proofs.Words.{word-drop}
 use Rattle.meshfile.proofs.Layouts.{Laid, laid-inside, drop-to, held}
 use Rattle.words.proofs.Parts.{part-length, part-words}
-use Rattle.meshfile.proofs.Bytes.{four, four-below, bytes-back, all-words, words-below, below-drop, below-take}
+use Rattle.words.proofs.Bytes.{four, four-below, bytes-back, all-words, words-below, below-drop, below-take}
 use Rattle.meshfile.proofs.Accepts.{appended}
 
 -- ---- one record as it was written
@@ -136,7 +136,7 @@ module _ (bytes : List ℕ) (below : Below 256 bytes) (p : Parts) (laid : Laid b
       }
 
   is-file : IsFileOf m bytes
-  unfolding IsFileOf flaggedFile contentsAt
+  unfolding IsFileOf fileBytes contentsAt
   is-file =
       ⊎-elim (λ e. inl (split ∙ ap (λ (r : List ℕ). plainFile m ++ r) e))
       (λ e. inr (split ∙ ap (λ (r : List ℕ). plainFile m ++ r) (e .0) ∙ append-nil (plainFile m), e .1, e .2))

@@ -1,88 +1,112 @@
--- What reading gives: a fault, too short an area, or both areas filled. Assumes nothing.
-use mathlib.Core.Path.{_≡_, ap}
-use mathlib.Core.Bool.{Bool, true, false, _||_}
+-- What reading gives: a fault, too short an area, or both areas filled; the same whatever the vertices' words are taken as. Assumes nothing.
+use mathlib.Core.Path.{_≡_, refl, sym, ap, _∙_, subst}
+use mathlib.Core.Bool.{Bool, true, false, _||_, cond}
 use mathlib.Core.List.{List, _++_}
-use Prim.Native.Nat.{ℕ, _+_, _*_, _-_, _≤_}
+use Prim.Native.Nat.{ℕ, _+_, _*_, _≤_}
 use native.Mathlib.Omega.{arith}
 use borrow.Author.Tests.{ltb-false}
-use lib.Dec.{eqb, ltb}
-use lib.Ieee.{Float, binary32, ofBits}
+use lib.Dec.{ltb}
 use lib.ListN.{length, take, drop}
-use Rattle.record.specs.declared.Profile.{Profile}
-use Rattle.record.specs.Numbers.{profileAt}
 use Rattle.ids.proofs.Groups.{neither}
-use Rattle.words.proofs.Parts.{part-words, part-is}
-use Rattle.words.specs.Words.{u32At, wordsIn, floatsOf}
+use Rattle.words.proofs.Parts.{part-words}
+use Rattle.words.specs.Words.{wordsIn}
 use Rattle.meshfile.specs.declared.Layout.{Layout}
-use Rattle.meshfile.specs.declared.MeshFile.{MeshFile}
+use Rattle.meshfile.specs.declared.MeshBits.{MeshBits}
 use Rattle.meshfile.specs.declared.Parts.{Parts}
-use Rattle.meshfile.specs.declared.Reading.{Reading}
-use Rattle.meshfile.specs.Format.{File}
-use Rattle.meshfile.specs.Reading.{meshAreasShort, readingOf, floatsAfter, idsAfter, Reads}
-use Rattle.meshfile.specs.inner.Steps.{layoutOf, contentsAt, Fits, AreasFilled}
+use Rattle.meshfile.specs.declared.ReadingBits.{ReadingBits}
+use Rattle.meshfile.specs.Reading.{meshAreasShort, meshBits, readingOf, verticesAfter, idsAfter, ReadsAs}
+use Rattle.meshfile.specs.inner.Steps.{layoutOf, inRoom, contentsAt}
 use Rattle.meshfile.proofs.Layouts.{inside, file-holds, file-refused}
 
--- a fault
-pub refused : (bytes : List ℕ) (vs : List Float) (ids : List ℕ) (n : ℕ) → layoutOf bytes ≡ Layout.Fault n
-    → Reads bytes vs ids (Reading.Refused n) vs ids
-unfolding readingOf floatsAfter idsAfter
-refused bytes vs ids n fault =
-    let at = file-refused bytes n fault in
-    record { answers = rw at; floats = rw at; ids-after = rw at }
+-- ---- the areas' lengths, as the code tests them
 
-module _ (bytes : List ℕ) (p : Parts) (vs : List Float) (ids : List ℕ) where
-  pub filled : 22 + 4 * p .floats + 4 * p .ids ≤ length bytes
-      → (w : ℕ) (u : Float) (profile : Profile) (front : List Float) (words′ : List ℕ)
-      → w ≡ u32At bytes 6 → u ≡ ofBits binary32 w → profile ≡ profileAt (p .flags .defect)
-      → front ≡ floatsOf (wordsIn (take (16 + 4 * p .floats - 16) (drop 16 bytes)))
-      → words′ ≡ wordsIn (take (22 + 4 * p .floats + 4 * p .ids - (22 + 4 * p .floats)) (drop (22 + 4 * p .floats) bytes))
-      → AreasFilled (contentsAt bytes p) vs ids
-      (record { unit = u; floats = p .floats; ids = p .ids; clip = eqb (p .flags .clip) 1; profile = profile })
-      (front ++ drop (p .floats) vs) (words′ ++ drop (p .ids) ids)
-  unfolding contentsAt
-  filled h w u profile front words′ ew eu ep ef ei =
-      let f = p .floats in
-      let i = p .ids in
-      let lf : length (wordsIn (take (4 * f) (drop 16 bytes))) ≡ f = part-words 16 f bytes (omega arith) in
-      let li : length (wordsIn (take (4 * i) (drop (22 + 4 * f) bytes))) ≡ i = part-words (22 + 4 * f) i bytes h in
-      record {
-        answers = rw (lf, li, ep, eu, ew);
-        floats = rw (lf, ef, part-is 16 (4 * f) bytes);
-        ids-after = rw (li, ei, part-is (22 + 4 * f) (4 * i) bytes);
-      }
+abbrev tooShort : ℕ → ℕ → Parts → Bool
+tooShort v w p = ltb v (p .floats) || ltb w (p .ids)
 
-  -- too short an area, or not, as the code tests it
-  abbrev tooShort : Bool
-  tooShort = ltb (length vs) (p .floats) || ltb (length ids) (p .ids)
+-- what was found in the room is the layout
+module _ (v w : ℕ) where
+  cut-whole : (b : Bool) (q p : Parts) → cond b (Layout.Fault 3) (Layout.Whole q) ≡ Layout.Whole p → (b ≡ false) × (q ≡ p)
+  cut-whole true q p h = let y : _≡_ {A = ℕ} 0 1 = cc in absurd (omega arith)
+  cut-whole false q p h = (refl, cc)
 
-  module _ (whole : layoutOf bytes ≡ Layout.Whole p) where
-    short-is : (b : Bool) → tooShort ≡ b → meshAreasShort (contentsAt bytes p) (length vs) (length ids) ≡ b
-    unfolding meshAreasShort contentsAt
-    short-is b q =
-        let room = inside bytes p whole in
-        rw (part-words 16 (p .floats) bytes (omega arith), part-words (22 + 4 * p .floats) (p .ids) bytes room) q
+  room-whole : (l : Layout) (p : Parts) → inRoom v w l ≡ Layout.Whole p → (l ≡ Layout.Whole p) × (tooShort v w p ≡ false)
+  unfolding inRoom
+  room-whole (Layout.Fault n) p h = let y : _≡_ {A = ℕ} 0 1 = cc in absurd (omega arith)
+  room-whole (Layout.Whole q) p h =
+      let x = cut-whole (tooShort v w q) q p h in
+      (ap Layout.Whole (x .1), sym (ap (tooShort v w) (x .1)) ∙ x .0)
 
-    pub short : tooShort ≡ true → Reads bytes vs ids (Reading.Refused 3) vs ids
-    unfolding readingOf floatsAfter idsAfter
-    short q =
-        let at = file-holds bytes p whole in
-        let s = short-is true q in
-        record { answers = rw (at, s); floats = rw (at, s); ids-after = rw (at, s) }
+-- the parts lie within n bytes, and find room in areas of v floats and w ids
+pub record Fits (p : Parts) (n v w : ℕ) : Type 0 where
+  pub inside : 22 + 4 * p .floats + 4 * p .ids ≤ n
+  pub floats-room : p .floats ≤ v
+  pub ids-room : p .ids ≤ w
 
-    pub given : tooShort ≡ false → (r : MeshFile) (vs′ : List Float) (ids′ : List ℕ)
-        → AreasFilled (contentsAt bytes p) vs ids r vs′ ids′
-        → Reads bytes vs ids (Reading.File r) vs′ ids′
-    unfolding readingOf floatsAfter idsAfter
-    given q r vs′ ids′ x =
-        let at = file-holds bytes p whole in
-        let s = short-is false q in
+-- ---- what comes of it
+
+module _ {A R : Type 0} (taken : List ℕ → List A) (answer : ReadingBits → R) (bytes : List ℕ) (vs : List A) (ids : List ℕ) where
+  -- the test is the definition's
+  short-is : (p : Parts) → layoutOf bytes ≡ Layout.Whole p
+      → meshAreasShort (contentsAt bytes p) (length vs) (length ids) ≡ tooShort (length vs) (length ids) p
+  unfolding meshAreasShort contentsAt
+  short-is p whole =
+      let room = inside bytes p whole in
+      rw (part-words 16 (p .floats) bytes (omega arith), part-words (22 + 4 * p .floats) (p .ids) bytes room)
+
+  fault : (n : ℕ) → layoutOf bytes ≡ Layout.Fault n → ReadsAs taken answer bytes vs ids (answer (ReadingBits.Refused n)) vs ids
+  unfolding readingOf verticesAfter idsAfter
+  fault n h =
+      let at = file-refused bytes n h in
+      record { answers = rw at; vertices = rw at; ids-after = rw at }
+
+  short : (p : Parts) → layoutOf bytes ≡ Layout.Whole p → tooShort (length vs) (length ids) p ≡ true
+      → ReadsAs taken answer bytes vs ids (answer (ReadingBits.Refused 3)) vs ids
+  unfolding readingOf verticesAfter idsAfter
+  short p whole q =
+      let at = file-holds bytes p whole in
+      let s = short-is p whole ∙ q in
+      record { answers = rw (at, s); vertices = rw (at, s); ids-after = rw (at, s) }
+
+  cut-fault : (b : Bool) (p : Parts) (n : ℕ) → layoutOf bytes ≡ Layout.Whole p → tooShort (length vs) (length ids) p ≡ b
+      → cond b (Layout.Fault 3) (Layout.Whole p) ≡ Layout.Fault n
+      → ReadsAs taken answer bytes vs ids (answer (ReadingBits.Refused n)) vs ids
+  cut-fault true p n whole s h =
+      let three : 3 ≡ n = cc in
+      subst (λ (k : ℕ). ReadsAs taken answer bytes vs ids (answer (ReadingBits.Refused k)) vs ids) three (short p whole s)
+  cut-fault false p n whole s h = let y : _≡_ {A = ℕ} 0 1 = cc in absurd (omega arith)
+
+  by-layout : (l : Layout) (n : ℕ) → layoutOf bytes ≡ l → inRoom (length vs) (length ids) l ≡ Layout.Fault n
+      → ReadsAs taken answer bytes vs ids (answer (ReadingBits.Refused n)) vs ids
+  unfolding inRoom
+  by-layout (Layout.Fault k) n e h =
+      let same : k ≡ n = cc in
+      subst (λ (j : ℕ). ReadsAs taken answer bytes vs ids (answer (ReadingBits.Refused j)) vs ids) same (fault k e)
+  by-layout (Layout.Whole p) n e h = cut-fault (tooShort (length vs) (length ids) p) p n e refl h
+
+  pub refused : (n : ℕ) → Layout.Fault n ≡ inRoom (length vs) (length ids) (layoutOf bytes)
+      → ReadsAs taken answer bytes vs ids (answer (ReadingBits.Refused n)) vs ids
+  refused n h = by-layout (layoutOf bytes) n refl (sym h)
+
+  module _ (p : Parts) (h : Layout.Whole p ≡ inRoom (length vs) (length ids) (layoutOf bytes)) where
+    pub fits : Fits p (length bytes) (length vs) (length ids)
+    fits =
+        let x = room-whole (length vs) (length ids) (layoutOf bytes) p (sym h) in
+        let both = neither (ltb (length vs) (p .floats)) (ltb (length ids) (p .ids)) (x .1) in
+        record { inside = inside bytes p (x .0); floats-room = ltb-false _ _ (both .0); ids-room = ltb-false _ _ (both .1) }
+
+    pub given : (b : MeshBits) (vs′ : List A) (ids′ : List ℕ) → b ≡ meshBits (contentsAt bytes p)
+        → vs′ ≡ taken (contentsAt bytes p .vertices) ++ drop (p .floats) vs → ids′ ≡ contentsAt bytes p .ids ++ drop (p .ids) ids
+        → ReadsAs taken answer bytes vs ids (answer (ReadingBits.File b)) vs′ ids′
+    unfolding readingOf verticesAfter idsAfter contentsAt
+    given b vs′ ids′ hb hv hi =
+        let x = room-whole (length vs) (length ids) (layoutOf bytes) p (sym h) in
+        let at = file-holds bytes p (x .0) in
+        let s = short-is p (x .0) ∙ x .1 in
+        let room = inside bytes p (x .0) in
+        let lf = part-words 16 (p .floats) bytes (omega arith) in
+        let li = part-words (22 + 4 * p .floats) (p .ids) bytes room in
         record {
-          answers = rw (at, s) (ap Reading.File (x .answers));
-          floats = rw (at, s) (x .floats);
-          ids-after = rw (at, s) (x .ids-after);
+          answers = rw (at, s) (ap (λ (m : MeshBits). answer (ReadingBits.File m)) hb);
+          vertices = rw (at, s, lf) hv;
+          ids-after = rw (at, s, li) hi;
         }
-
-    pub fits : tooShort ≡ false → Fits p (length bytes) (length vs) (length ids)
-    fits q =
-        let both = neither (ltb (length vs) (p .floats)) (ltb (length ids) (p .ids)) q in
-        record { inside = inside bytes p whole; floats-room = ltb-false _ _ (both .0); ids-room = ltb-false _ _ (both .1) }

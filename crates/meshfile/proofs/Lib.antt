@@ -6,6 +6,7 @@ mod Gives
 pub mod Most
 pub mod One
 pub mod Bounds
-mod Bytes
 pub mod Accepts
 pub mod AcceptsOnly
+mod Puts
+pub mod Writes

@@ -9,10 +9,12 @@ use lib.Ieee.{Float}
 use lib.ListN.{length, take, drop, length-take}
 use Rattle.words.specs.Words.{wordsIn}
 use Rattle.meshfile.specs.declared.Layout.{Layout}
+use Rattle.meshfile.specs.declared.MeshBits.{MeshBits}
 use Rattle.meshfile.specs.declared.MeshFile.{MeshFile}
 use Rattle.meshfile.specs.declared.Reading.{Reading}
+use Rattle.meshfile.specs.declared.ReadingBits.{ReadingBits}
 use Rattle.meshfile.specs.Format.{mostInFile, Contents, File, fileOf}
-use Rattle.meshfile.specs.Reading.{meshAreasShort, meshFile, readingOf, Reads}
+use Rattle.meshfile.specs.Reading.{meshAreasShort, meshBits, readingOf, asFloats, Reads, ReadsBits}
 use Rattle.meshfile.specs.inner.Steps.{layoutOf, contentsAt, fileAt}
 use Rattle.words.proofs.Parts.{length-words}
 use Rattle.meshfile.proofs.Layouts.{Stands, file-is, stands}
@@ -38,11 +40,11 @@ module _ (bytes : List ℕ) (m : Contents) (h : fileOf bytes ≡ File.Holds m) w
   unfolding meshAreasShort
   never-short = rw (le-ltb 1536 (length (m .vertices)) (holds-most .0), le-ltb 1536 (length (m .ids)) (holds-most .1))
 
-abbrev Small : Reading → Type 0
-Small (Reading.Refused n) = Unit {0}
-Small (Reading.File m) = (m .floats ≤ mostInFile) × (m .ids ≤ mostInFile)
+abbrev Small : ReadingBits → Type 0
+Small (ReadingBits.Refused n) = Unit {0}
+Small (ReadingBits.File m) = (m .floats ≤ mostInFile) × (m .ids ≤ mostInFile)
 
-small-by : (b : Bool) (m : Contents) → Few (File.Holds m) → Small (cond b (Reading.Refused 3) (Reading.File (meshFile m)))
+small-by : (b : Bool) (m : Contents) → Few (File.Holds m) → Small (cond b (ReadingBits.Refused 3) (ReadingBits.File (meshBits m)))
 small-by true m h = tt
 small-by false m h = h
 
@@ -51,9 +53,26 @@ unfolding readingOf
 small (File.Refused n) v w h = tt
 small (File.Holds m) v w h = small-by (meshAreasShort m v w) m h
 
+small-reading : (bytes : List ℕ) (v w : ℕ) → Small (readingOf (fileOf bytes) v w)
+small-reading bytes v w = small (fileOf bytes) v w (rw (file-is bytes) (few bytes (layoutOf bytes) (stands bytes)))
+
+pub reads-most-bits : (bytes ps ids : List ℕ) (r : ReadingBits) (ps′ ids′ : List ℕ) → ReadsBits bytes ps ids r ps′ ids′
+    → (m : MeshBits) → r ≡ ReadingBits.File m → (m .floats ≤ mostInFile) × (m .ids ≤ mostInFile)
+reads-most-bits bytes ps ids r ps′ ids′ made m e =
+    subst Small (sym (made .answers) ∙ e) (small-reading bytes (length ps) (length ids))
+
+-- and of floats
+small-floats : (b : ReadingBits) (m : MeshFile) → Small b → asFloats b ≡ Reading.File m → (m .floats ≤ mostInFile) × (m .ids ≤ mostInFile)
+unfolding asFloats
+small-floats (ReadingBits.Refused n) m h e = let y : _≡_ {A = ℕ} 0 1 = cc in absurd (omega arith)
+small-floats (ReadingBits.File b) m h e =
+    let f : b .floats ≡ m .floats = cc in
+    let i : b .ids ≡ m .ids = cc in
+    rw (f, i) at h
+
 pub reads-most : (bytes : List ℕ) (vs : List Float) (ids : List ℕ) (r : Reading) (vs′ : List Float) (ids′ : List ℕ)
     → Reads bytes vs ids r vs′ ids′
     → (m : MeshFile) → r ≡ Reading.File m → (m .floats ≤ mostInFile) × (m .ids ≤ mostInFile)
 reads-most bytes vs ids r vs′ ids′ made m e =
-    subst Small (sym (made .answers) ∙ e) (small (fileOf bytes) (length vs) (length ids)
-    (rw (file-is bytes) (few bytes (layoutOf bytes) (stands bytes))))
+    small-floats (readingOf (fileOf bytes) (length vs) (length ids)) m (small-reading bytes (length vs) (length ids))
+    (sym (made .answers) ∙ e)

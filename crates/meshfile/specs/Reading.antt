@@ -1,5 +1,5 @@
--- What comes back of `read`, and what it leaves in the lent floats and ids: for every list of bytes one answer, and one later
--- content of each area.
+-- What comes back of `read` and of `read_bits`, and what they leave in the lent vertices and ids: for every list of bytes one answer,
+-- and one later content of each area. `read` is `read_bits` with each pattern taken as a float, the unit's too.
 use mathlib.Core.Path.{_≡_}
 use mathlib.Core.Logic.{_⊎_}
 use Prim.Native.Nat.{ℕ}
@@ -10,18 +10,22 @@ use lib.ListN.{length, drop}
 use lib.Ieee.{Float, binary32, ofBits}
 use Rattle.record.specs.Numbers.{profileAt}
 use Rattle.words.specs.Words.{floatsOf}
+use Rattle.meshfile.specs.declared.MeshBits.{MeshBits}
 use Rattle.meshfile.specs.declared.MeshFile.{MeshFile}
 use Rattle.meshfile.specs.declared.Reading.{Reading}
+use Rattle.meshfile.specs.declared.ReadingBits.{ReadingBits}
 use Rattle.meshfile.specs.Format.{Contents, File, fileOf}
+
+-- ---- on patterns
 
 -- refusal 3: an area of f floats or of i ids is too short for what the file holds
 unfoldable pub meshAreasShort : Contents → ℕ → ℕ → Bool
 meshAreasShort m f i = ltb f (length (m .vertices)) || ltb i (length (m .ids))
 
-abbrev pub meshFile : Contents → MeshFile
-meshFile m =
+abbrev pub meshBits : Contents → MeshBits
+meshBits m =
     record {
-      unit = ofBits binary32 (m .unit);
+      unit = m .unit;
       floats = length (m .vertices);
       ids = length (m .ids);
       clip = eqb (m .clip) 1;
@@ -29,40 +33,72 @@ meshFile m =
     }
 
 -- by the lengths of the two areas
-unfoldable pub readingOf : File → ℕ → ℕ → Reading
-readingOf (File.Refused n) f i = Reading.Refused n
-readingOf (File.Holds m) f i = cond (meshAreasShort m f i) (Reading.Refused 3) (Reading.File (meshFile m))
+unfoldable pub readingOf : File → ℕ → ℕ → ReadingBits
+readingOf (File.Refused n) f i = ReadingBits.Refused n
+readingOf (File.Holds m) f i = cond (meshAreasShort m f i) (ReadingBits.Refused 3) (ReadingBits.File (meshBits m))
 
--- what stands in an area afterwards: the file's floats or ids first, the rest untouched; all of it on a refusal
-unfoldable pub floatsAfter : File → ℕ → List Float → List Float
-floatsAfter (File.Refused n) i area = area
-floatsAfter (File.Holds m) i area =
-    cond (meshAreasShort m (length area) i) area (floatsOf (m .vertices) ++ drop (length (m .vertices)) area)
+-- ---- a pattern taken as a float
+
+abbrev pub meshFile : MeshBits → MeshFile
+meshFile m =
+    record { unit = ofBits binary32 (m .unit); floats = m .floats; ids = m .ids; clip = m .clip; profile = m .profile }
+
+unfoldable pub asFloats : ReadingBits → Reading
+asFloats (ReadingBits.Refused n) = Reading.Refused n
+asFloats (ReadingBits.File m) = Reading.File (meshFile m)
+
+-- ---- the areas
+
+-- what stands in an area afterwards: the file's vertices, as what `taken` makes of its words, or its ids first, the rest untouched; all of
+-- it on a refusal
+unfoldable pub verticesAfter : {A : Type 0} → (List ℕ → List A) → File → ℕ → List A → List A
+verticesAfter taken (File.Refused n) i area = area
+verticesAfter taken (File.Holds m) i area =
+    cond (meshAreasShort m (length area) i) area (taken (m .vertices) ++ drop (length (m .vertices)) area)
 
 unfoldable pub idsAfter : File → ℕ → List ℕ → List ℕ
 idsAfter (File.Refused n) f area = area
 idsAfter (File.Holds m) f area = cond (meshAreasShort m f (length area)) area (m .ids ++ drop (length (m .ids)) area)
 
--- The complete contract: of bytes and lent floats vs and ids come the answer r and the later vs′ and ids′.
-pub record Reads (bytes : List ℕ) (vs : List Float) (ids : List ℕ) (r : Reading) (vs′ : List Float) (ids′ : List ℕ) : Type 0 where
-  pub answers : r ≡ readingOf (fileOf bytes) (length vs) (length ids)
-  pub floats : vs′ ≡ floatsAfter (fileOf bytes) (length ids) vs
+-- The complete contract: of bytes and lent vertices vs and ids come the answer r and the later vs′ and ids′. What the words are taken as,
+-- and with them the answer, is left open.
+pub record ReadsAs {A R : Type 0} (taken : List ℕ → List A) (answer : ReadingBits → R) (bytes : List ℕ) (vs : List A) (ids : List ℕ)
+    (r : R) (vs′ : List A) (ids′ : List ℕ) : Type 0 where
+  pub answers : r ≡ answer (readingOf (fileOf bytes) (length vs) (length ids))
+  pub vertices : vs′ ≡ verticesAfter taken (fileOf bytes) (length ids) vs
   pub ids-after : ids′ ≡ idsAfter (fileOf bytes) (length vs) ids
 
+-- of `read_bits`: the words themselves
+abbrev pub ReadsBits : List ℕ → List ℕ → List ℕ → ReadingBits → List ℕ → List ℕ → Type 0
+ReadsBits = ReadsAs (λ (ws : List ℕ). ws) (λ (r : ReadingBits). r)
+
+-- of `read`: each as a float
+abbrev pub Reads : List ℕ → List Float → List ℕ → Reading → List Float → List ℕ → Type 0
+Reads = ReadsAs floatsOf asFloats
+
+-- ---- what is proved of it
+
 -- Reading refuses by 3, 5 and 6 only, and a refusal leaves both areas as they were.
-unfoldable pub Refuses : Reading → Type 0
-Refuses (Reading.File m) = Unit {0}
-Refuses (Reading.Refused n) = (n ≡ 3) ⊎ (n ≡ 5) ⊎ (n ≡ 6)
+abbrev pub By356 : ℕ → Type 0
+By356 n = (n ≡ 3) ⊎ (n ≡ 5) ⊎ (n ≡ 6)
 
-abbrev pub RefusesBy356 : Type 0
-RefusesBy356 = (bytes : List ℕ) (vs : List Float) (ids : List ℕ) (r : Reading) (vs′ : List Float) (ids′ : List ℕ)
-    → Reads bytes vs ids r vs′ ids′ → Refuses r
+abbrev pub RefusedReading : Type 0
+RefusedReading = (bytes : List ℕ) (vs : List Float) (ids : List ℕ) (n : ℕ) (vs′ : List Float) (ids′ : List ℕ)
+    → Reads bytes vs ids (Reading.Refused n) vs′ ids′ → By356 n × (vs′ ≡ vs) × (ids′ ≡ ids)
 
-abbrev pub RefusalsWriteNothing : Type 0
-RefusalsWriteNothing = (bytes : List ℕ) (vs : List Float) (ids : List ℕ) (n : ℕ) (vs′ : List Float) (ids′ : List ℕ)
-    → Reads bytes vs ids (Reading.Refused n) vs′ ids′ → (vs′ ≡ vs) × (ids′ ≡ ids)
+abbrev pub RefusedReadingBits : Type 0
+RefusedReadingBits = (bytes ps ids : List ℕ) (n : ℕ) (ps′ ids′ : List ℕ)
+    → ReadsBits bytes ps ids (ReadingBits.Refused n) ps′ ids′ → By356 n × (ps′ ≡ ps) × (ids′ ≡ ids)
 
 -- Any two answers that the contract allows are equal, and so is what is left in the areas. (`read-one`)
-abbrev pub ReadOne : Type 0
-ReadOne = (bytes : List ℕ) (vs : List Float) (ids : List ℕ) (r r′ : Reading) (vs₁ vs₂ : List Float) (ids₁ ids₂ : List ℕ)
-    → Reads bytes vs ids r vs₁ ids₁ → Reads bytes vs ids r′ vs₂ ids₂ → (r ≡ r′) × (vs₁ ≡ vs₂) × (ids₁ ≡ ids₂)
+abbrev pub ReadOne : Type 1
+ReadOne = (A R : Type 0) (taken : List ℕ → List A) (answer : ReadingBits → R) (bytes : List ℕ) (vs : List A) (ids : List ℕ)
+    (r r′ : R) (vs₁ vs₂ : List A) (ids₁ ids₂ : List ℕ)
+    → ReadsAs taken answer bytes vs ids r vs₁ ids₁ → ReadsAs taken answer bytes vs ids r′ vs₂ ids₂
+    → (r ≡ r′) × (vs₁ ≡ vs₂) × (ids₁ ≡ ids₂)
+
+-- Lent the floats of what `read_bits` is lent, `read` answers and leaves the floats of what `read_bits` does. (`read-as-floats`)
+abbrev pub ReadAsFloats : Type 0
+ReadAsFloats = (bytes ps ids : List ℕ) (b : ReadingBits) (ps′ ids₁ : List ℕ) (r : Reading) (vs′ : List Float) (ids₂ : List ℕ)
+    → ReadsBits bytes ps ids b ps′ ids₁ → Reads bytes (floatsOf ps) ids r vs′ ids₂
+    → (r ≡ asFloats b) × (vs′ ≡ floatsOf ps′) × (ids₂ ≡ ids₁)

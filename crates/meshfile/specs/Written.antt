@@ -1,36 +1,24 @@
 -- The format from the writer's side: the bytes of a file that holds given contents. Reading accepts these and no others.
 use mathlib.Core.Path.{_≡_}
 use mathlib.Core.Logic.{_⊎_}
-use Prim.Native.Nat.{ℕ, _^_, _/_, _%_, _≤_, _<_}
+use Prim.Native.Nat.{ℕ, _^_, _≤_, _<_}
 use mathlib.Core.List.{List, [], _∷_, _++_}
 use lib.Dec.{T}
 use lib.ListN.{length, take}
 use Rattle.record.specs.Numbers.{flagsFit}
+use Rattle.words.specs.Words.{bytesOf, allBytes, Below}
 use Rattle.meshfile.specs.Format.{mostInFile, Contents, File, fileOf}
-
--- a u32 as four bytes, little-endian
-unfoldable pub bytesOf : ℕ → List ℕ
-bytesOf w = w % 256 ∷ w / 256 % 256 ∷ w / 65536 % 256 ∷ w / 16777216 % 256 ∷ []
-
-unfoldable pub allBytes : List ℕ → List ℕ
-allBytes [] = []
-allBytes (w ∷ ws) = bytesOf w ++ allBytes ws
 
 -- one record
 unfoldable pub chunkOf : ℕ → List ℕ → List ℕ
 chunkOf kind payload = bytesOf (length payload) ++ (kind ∷ 0 ∷ payload)
 
--- a file without kind 4, and with it
+-- a file without kind 4, and the one that is written, which has it always
 unfoldable pub plainFile : Contents → List ℕ
 plainFile m = chunkOf 1 (bytesOf (m .unit)) ++ (chunkOf 2 (allBytes (m .vertices)) ++ chunkOf 3 (allBytes (m .ids)))
 
-unfoldable pub flaggedFile : Contents → List ℕ
-flaggedFile m = plainFile m ++ chunkOf 4 (m .clip ∷ m .defect ∷ [])
-
--- each number below a bound
-unfoldable pub Below : ℕ → List ℕ → Type 0
-Below n [] = Unit {0}
-Below n (x ∷ xs) = (x < n) × Below n xs
+unfoldable pub fileBytes : Contents → List ℕ
+fileBytes m = plainFile m ++ chunkOf 4 (m .clip ∷ m .defect ∷ [])
 
 -- what a file can hold
 pub record Proper (m : Contents) : Type 0 where
@@ -43,7 +31,7 @@ pub record Proper (m : Contents) : Type 0 where
 
 -- a file that holds m: with its flags, or without kind 4 where both are 0
 unfoldable pub IsFileOf : Contents → List ℕ → Type 0
-IsFileOf m bytes = (bytes ≡ flaggedFile m) ⊎ ((bytes ≡ plainFile m) × (m .clip ≡ 0) × (m .defect ≡ 0))
+IsFileOf m bytes = (bytes ≡ fileBytes m) ⊎ ((bytes ≡ plainFile m) × (m .clip ≡ 0) × (m .defect ≡ 0))
 
 -- The theorems: reading holds exactly what was written; a file is at most 12,318 bytes long, and of longer input the first
 -- 12,319 bytes decide, which is why the program needs to keep no more.

@@ -1,14 +1,34 @@
-// The program's input: a mesh file's bytes read into lent floats and ids. The format is document 01's.
+// The program's input, a mesh file: its bytes read into lent vertices and ids, and written. The format is document 01's.
+mod writing; // the way back
+
 ghost use mathlib.Core.Path.{_≡_};
 ghost use Prim.Native.Nat.{_+_, _*_, _≤_, _<_};
-ghost use lib.ListN.{length};
+ghost use mathlib.Core.List.{_++_};
+ghost use lib.ListN.{length, take, drop};
+ghost use Rattle.words.specs.Words.{wordsIn, floatsOf};
 ghost use Rattle.meshfile.specs.declared.Front.{Front};
 ghost use Rattle.meshfile.specs.Format.{lengthFits, frontOf, flagsIn, endingOf};
-ghost use Rattle.meshfile.specs.Reading.{Reads};
-ghost use Rattle.meshfile.specs.inner.Steps.{partsBy, idsFrom, verticesFrom, layoutOf, contentsAt, Fits, AreasFilled};
+ghost use Rattle.meshfile.specs.Reading.{meshBits, meshFile, Reads, ReadsBits};
+ghost use Rattle.meshfile.specs.inner.Steps.{partsBy, idsFrom, verticesFrom, layoutOf, inRoom, contentsAt};
 use record::Profile;
+pub use writing::Writing;
+pub use writing::write;
 
-// What a file holds beside its floats and ids: their numbers, the unit and the flags.
+// What a file holds beside its floats and ids: their numbers, the unit's pattern and the flags.
+pub struct MeshBits {
+    pub unit: u32,
+    pub floats: usize,
+    pub ids: usize,
+    pub clip: bool,
+    pub profile: Profile,
+}
+
+pub enum ReadingBits {
+    File(MeshBits),
+    Refused(u8),
+}
+
+// The same with the unit as a float.
 pub struct MeshFile {
     pub unit: f32,
     pub floats: usize,
@@ -163,42 +183,97 @@ fn layout_of(bytes: &[u8]) -> Layout
     }
 }
 
+// The same where areas of v floats and w ids are long enough.
+fn layout_within(bytes: &[u8], v: usize, w: usize) -> Layout
+    ensures { λ r. ⌜ r ≡ inRoom v w (layoutOf (now (bytes .entry))) ⌝ }
+{
+    let found = layout_of(bytes);
+    match found {
+        Layout::Fault(n) => Layout::Fault(n),
+        Layout::Whole(p) => {
+            if (v < p.floats) | (w < p.ids) {
+                return Layout::Fault(3);
+            }
+            Layout::Whole(p)
+        }
+    }
+}
+
 // ---- what stands there
 
-// The floats and ids go to the front of the two areas, which are long enough.
-fn fill(bytes: &[u8], vertices: &mut [f32], ids: &mut [u32], p: Parts) -> MeshFile
-    requires { ⌜ Fits p (length (now bytes)) (length (now vertices)) (length (now ids)) ⌝ }
-    ensures { λ r. ⌜ AreasFilled (contentsAt (now (bytes .entry)) p) (now (vertices .entry)) (now (ids .entry)) r
-        (now (vertices .exit)) (now (ids .exit)) ⌝ }
+// Beside the floats and ids.
+fn bits_beside(bytes: &[u8], p: Parts) -> MeshBits
+    requires { ⌜ 22 + 4 * p .floats + 4 * p .ids ≤ length (now bytes) ⌝ }
+    ensures { λ r. ⌜ r ≡ meshBits (contentsAt (now (bytes .entry)) p) ⌝ }
 {
-    let f = p.floats;
-    let i = p.ids;
-    let at = 22 + 4 * f;
-    words::put_floats(&bytes[16..16 + 4 * f], &mut vertices[..f]);
-    words::put_words(&bytes[at..at + 4 * i], &mut ids[..i]);
-    MeshFile {
-        unit: floats::f32_of(words::u32_at(bytes, 6)),
-        floats: f,
-        ids: i,
+    MeshBits {
+        unit: words::u32_at(bytes, 6),
+        floats: p.floats,
+        ids: p.ids,
         clip: p.flags.clip == 1,
         profile: record::profile_of(p.flags.defect),
     }
 }
 
-// The file that the bytes hold: its floats and ids go to the front of the two areas. A refusal writes nothing: 5 or 6 for the
-// fault that is met first, and then 3 for an area that is too short.
+fn with_float(m: MeshBits) -> MeshFile
+    ensures { λ r. ⌜ r ≡ meshFile m ⌝ }
+{
+    let profile = m.profile;
+    MeshFile {
+        unit: floats::f32_of(m.unit),
+        floats: m.floats,
+        ids: m.ids,
+        clip: m.clip,
+        profile,
+    }
+}
+
+// The n words from a place on go to the front of the area.
+fn fill_words(bytes: &[u8], at: usize, n: usize, area: &mut [u32])
+    requires { ⌜ (at + 4 * n ≤ length (now bytes)) × (n ≤ length (now area)) ⌝ }
+    ensures { λ _. ⌜ now (area .exit) ≡ wordsIn (take (4 * n) (drop at (now (bytes .entry)))) ++ drop n (now (area .entry)) ⌝ }
+{
+    words::put_words(&bytes[at..at + 4 * n], &mut area[..n]);
+}
+
+// The same as floats.
+fn fill_floats(bytes: &[u8], at: usize, n: usize, area: &mut [f32])
+    requires { ⌜ (at + 4 * n ≤ length (now bytes)) × (n ≤ length (now area)) ⌝ }
+    ensures { λ _. ⌜ now (area .exit)
+        ≡ floatsOf (wordsIn (take (4 * n) (drop at (now (bytes .entry))))) ++ drop n (now (area .entry)) ⌝ }
+{
+    words::put_floats(&bytes[at..at + 4 * n], &mut area[..n]);
+}
+
+// The file that the bytes hold: the patterns of its floats, and its ids, go to the front of the two areas. A refusal writes nothing: 5 or
+// 6 for the fault that is met first, and then 3 for an area that is too short.
+pub fn read_bits(bytes: &[u8], vertices: &mut [u32], ids: &mut [u32]) -> ReadingBits
+    ensures { λ r. ⌜ ReadsBits (now (bytes .entry)) (now (vertices .entry)) (now (ids .entry)) r
+        (now (vertices .exit)) (now (ids .exit)) ⌝ }
+{
+    let found = layout_within(bytes, vertices.len(), ids.len());
+    match found {
+        Layout::Fault(n) => ReadingBits::Refused(n),
+        Layout::Whole(p) => {
+            fill_words(bytes, 16, p.floats, vertices);
+            fill_words(bytes, 22 + 4 * p.floats, p.ids, ids);
+            ReadingBits::File(bits_beside(bytes, p))
+        }
+    }
+}
+
+// The same with each pattern as a float.
 pub fn read(bytes: &[u8], vertices: &mut [f32], ids: &mut [u32]) -> Reading
     ensures { λ r. ⌜ Reads (now (bytes .entry)) (now (vertices .entry)) (now (ids .entry)) r
         (now (vertices .exit)) (now (ids .exit)) ⌝ }
 {
-    let found = layout_of(bytes);
+    let found = layout_within(bytes, vertices.len(), ids.len());
     match found {
         Layout::Fault(n) => Reading::Refused(n),
         Layout::Whole(p) => {
-            if (vertices.len() < p.floats) | (ids.len() < p.ids) {
-                return Reading::Refused(3);
-            }
-            Reading::File(fill(bytes, vertices, ids, p))
+            fill_floats(bytes, 16, p.floats, vertices);
+            fill_words(bytes, 22 + 4 * p.floats, p.ids, ids);
+            Reading::File(with_float(bits_beside(bytes, p)))
         }
     }
 }

@@ -1,8 +1,9 @@
-// Numbers from bytes, little-endian, for the readers of files.
+// Numbers from bytes and bytes from numbers, little-endian, for those who read and write files.
 ghost use mathlib.Core.Path.{_≡_};
 ghost use Prim.Native.Nat.{_+_, _*_, _≤_, _<_};
-ghost use lib.ListN.{length};
-ghost use Rattle.words.specs.Words.{byte as byteOf, u16At, u32At, wordsIn, floatsOf};
+ghost use mathlib.Core.List.{_++_};
+ghost use lib.ListN.{length, take, drop};
+ghost use Rattle.words.specs.Words.{byte as byteOf, u16At, u32At, wordsIn, floatsOf, bytesOf, allBytes};
 
 // ---- one at a place
 
@@ -58,6 +59,31 @@ pub fn put_words(bytes: &[u8], area: &mut [u32])
     let mut i = 0;
     while i < area.len() {
         area[i] = u32_at(bytes, 4 * i);
+        i += 1;
+    }
+}
+
+// ---- and back
+
+// The word as four bytes, from a place on.
+pub fn put_u32(area: &mut [u8], at: usize, w: u32)
+    requires { ⌜ at + 4 ≤ length (now area) ⌝ }
+    ensures { λ _. ⌜ now (area .exit) ≡ take at (now (area .entry)) ++ (bytesOf w ++ drop (at + 4) (now (area .entry))) ⌝ }
+{
+    area[at] = (w % 256) as u8;
+    area[at + 1] = (w / 256 % 256) as u8;
+    area[at + 2] = (w / 65536 % 256) as u8;
+    area[at + 3] = (w / 16777216 % 256) as u8;
+}
+
+// All the words as bytes.
+pub fn put_bytes(words: &[u32], area: &mut [u8])
+    requires { ⌜ length (now area) ≡ 4 * length (now words) ⌝ }
+    ensures { λ _. ⌜ now (area .exit) ≡ allBytes (now (words .entry)) ⌝ }
+{
+    let mut i = 0;
+    while i < words.len() {
+        put_u32(area, 4 * i, words[i]);
         i += 1;
     }
 }

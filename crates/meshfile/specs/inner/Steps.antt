@@ -1,17 +1,15 @@
--- How `read` goes about it: first where everything stands, then what stands there. `fileOf` is the format.
-use mathlib.Core.Path.{_≡_}
-use Prim.Native.Nat.{ℕ, _+_, _*_, _/_, _≤_}
-use mathlib.Core.List.{List, _++_}
-use lib.ListN.{length, take, drop}
-use lib.Ieee.{Float}
+-- How reading goes about it: first where everything stands, and whether the areas take it, then what stands there. `fileOf` is the format.
+use mathlib.Core.Bool.{_||_, cond}
+use Prim.Native.Nat.{ℕ, _+_, _*_, _/_}
+use mathlib.Core.List.{List}
+use lib.Dec.{ltb}
+use lib.ListN.{take, drop}
 use Rattle.meshfile.specs.declared.Front.{Front}
 use Rattle.meshfile.specs.declared.Ending.{Ending}
 use Rattle.meshfile.specs.declared.Layout.{Layout}
 use Rattle.meshfile.specs.declared.Parts.{Parts}
-use Rattle.meshfile.specs.declared.MeshFile.{MeshFile}
-use Rattle.words.specs.Words.{u32At, wordsIn, floatsOf}
+use Rattle.words.specs.Words.{u32At, wordsIn}
 use Rattle.meshfile.specs.Format.{behind, frontOf, endingOf, Contents, File}
-use Rattle.meshfile.specs.Reading.{meshFile}
 
 unfoldable pub partsBy : ℕ → ℕ → Ending → Layout
 partsBy f i (Ending.Fault n) = Layout.Fault n
@@ -32,6 +30,11 @@ unitFrom (Front.Payload n) bytes = verticesFrom (frontOf 2 (behind n bytes)) (be
 unfoldable pub layoutOf : List ℕ → Layout
 layoutOf bytes = unitFrom (frontOf 1 bytes) bytes
 
+-- and refusal 3 for areas of v floats and w ids
+unfoldable pub inRoom : ℕ → ℕ → Layout → Layout
+inRoom v w (Layout.Fault n) = Layout.Fault n
+inRoom v w (Layout.Whole p) = cond (ltb v (p .floats) || ltb w (p .ids)) (Layout.Fault 3) (Layout.Whole p)
+
 -- floats stand from byte 16 on, ids behind them and a header
 unfoldable pub contentsAt : List ℕ → Parts → Contents
 contentsAt bytes p =
@@ -46,15 +49,3 @@ contentsAt bytes p =
 unfoldable pub fileAt : List ℕ → Layout → File
 fileAt bytes (Layout.Fault n) = File.Refused n
 fileAt bytes (Layout.Whole p) = File.Holds (contentsAt bytes p)
-
--- the parts lie within the bytes, and find room in areas of v floats and w ids
-pub record Fits (p : Parts) (n v w : ℕ) : Type 0 where
-  pub inside : 22 + 4 * p .floats + 4 * p .ids ≤ n
-  pub floats-room : p .floats ≤ v
-  pub ids-room : p .ids ≤ w
-
--- what filling the areas with the contents m gives
-pub record AreasFilled (m : Contents) (vs : List Float) (ids : List ℕ) (r : MeshFile) (vs′ : List Float) (ids′ : List ℕ) : Type 0 where
-  pub answers : r ≡ meshFile m
-  pub floats : vs′ ≡ floatsOf (m .vertices) ++ drop (length (m .vertices)) vs
-  pub ids-after : ids′ ≡ m .ids ++ drop (length (m .ids)) ids

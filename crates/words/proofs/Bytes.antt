@@ -4,8 +4,7 @@ use mathlib.Core.List.{List, [], _∷_}
 use Prim.Native.Nat.{ℕ, zero, suc, _+_, _*_, _^_, _/_, _%_, _<_}
 use native.Mathlib.Omega.{arith}
 use lib.ListN.{length, take, drop}
-use Rattle.words.specs.Words.{wordsIn}
-use Rattle.meshfile.specs.Written.{bytesOf, allBytes, Below}
+use Rattle.words.specs.Words.{wordsIn, bytesOf, allBytes, Below}
 
 -- the u32 of four bytes
 abbrev pub four : ℕ → ℕ → ℕ → ℕ → ℕ

@@ -91,15 +91,15 @@ defect-small (Profile.Invalid ProfileDefect.Overlapping) = omega arith
 -- ---- the records in their order
 
 module _ (one two three four : List ℕ) (b e : ℕ) (ha : length one ≡ 10) (hb : 10 + length two ≡ b) (hc : b + length three ≡ e) where
-  records-put : (rest t₂ t₃ : List ℕ) (i j : ℕ) → t₂ ≡ putMid 10 i (one ++ rest) two → t₃ ≡ putMid b j t₂ three
+  records-put : (rest t₂ t₃ : List ℕ) → t₂ ≡ putMid 10 (b - 10) (one ++ rest) two → t₃ ≡ putMid b (e - b) t₂ three
       → putMid e (length t₃ - e) t₃ four ≡ (one ++ (two ++ three)) ++ four
-  records-put rest t₂ t₃ i j h₂ h₃ =
+  records-put rest t₂ t₃ h₂ h₃ =
       let first = one ++ two in
       let front = first ++ three in
       let first-long : length first ≡ b = omega (arith, length-append one two) in
       let front-long : length front ≡ e = omega (arith, length-append first three) in
-      let second : Begins first t₂ = rw h₂ (begins-next one (one ++ rest) two 10 i ha (begins-first one rest)) in
-      let third : Begins front t₃ = rw h₃ (begins-next first t₂ three b j first-long second) in
+      let second : Begins first t₂ = rw h₂ (begins-next one (one ++ rest) two 10 (b - 10) ha (begins-first one rest)) in
+      let third : Begins front t₃ = rw h₃ (begins-next first t₂ three b (e - b) first-long second) in
       begins-last front t₃ four e front-long third ∙ ap (λ (l : List ℕ). l ++ four) (append-assoc one two three)
 
 chunk-long : (kind : ℕ) (body : List ℕ) → length (chunkOf kind body) ≡ 6 + length body
@@ -122,7 +122,7 @@ module _ (m : Contents) where
       let l₂ : length two ≡ 6 + 4 * length (m .vertices) = ap length h₂ ∙ words-long 2 (m .vertices) in
       let l₃ : length three ≡ 6 + 4 * length (m .ids) = ap length h₃ ∙ words-long 3 (m .ids) in
       records-put one two three four (16 + 4 * length (m .vertices)) (16 + 4 * length (m .vertices) + 6 + 4 * length (m .ids)) l₁
-      (omega arith) (omega arith) rest _ _ _ _ refl refl
+      (omega arith) (omega arith) rest _ _ refl refl
       ∙ rw (h₁, h₂, h₃, h₄)
 
   pub plain-long : length (plainFile m) ≡ 22 + 4 * length (m .vertices) + 4 * length (m .ids)

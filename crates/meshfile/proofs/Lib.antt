@@ -10,3 +10,4 @@ pub mod Accepts
 pub mod AcceptsOnly
 mod Puts
 pub mod Writes
+pub mod RoundTrip

@@ -1,0 +1,200 @@
+-- There and back: what was written is read to the bit, and what was read is written to the byte. Both go by what a file holds. Assumes
+-- nothing.
+use mathlib.Core.Path.{_≡_, refl, sym, ap, _∙_, subst}
+use mathlib.Core.Bool.{Bool, true, false, _||_, cond}
+use mathlib.Core.List.{List, [], _∷_, _++_}
+use mathlib.Core.Logic.{inl, inr, ⊎-elim}
+use Prim.Native.Nat.{ℕ, zero, suc, _+_, _*_, _^_, _≤_, _<_}
+use native.Mathlib.Omega.{arith}
+use borrow.Author.Tests.{ltb-false, lt-ltb, le-ltb, leb-true}
+use denote.Floats.{is-true}
+use lib.Dec.{T, eqb, leb, ltb}
+use lib.ListN.{length, take, drop}
+use lib.Seq.{take-at}
+use Rattle.ids.proofs.Groups.{neither}
+use Rattle.ids.proofs.Same.{both}
+use Rattle.record.specs.declared.Profile.{Profile}
+use Rattle.record.specs.declared.ProfileDefect.{ProfileDefect}
+use Rattle.record.specs.Numbers.{defectNumber, profileNumber, profileAt, flagsFit}
+use Rattle.words.specs.Words.{Below}
+use Rattle.meshfile.specs.declared.MeshBits.{MeshBits}
+use Rattle.meshfile.specs.declared.ReadingBits.{ReadingBits}
+use Rattle.meshfile.specs.declared.writing.Writing.{Writing}
+use Rattle.meshfile.specs.Format.{mostInFile, Contents, File, fileOf}
+use Rattle.meshfile.specs.Written.{chunkOf, plainFile, fileBytes, Proper, IsFileOf}
+use Rattle.meshfile.specs.Reading.{meshAreasShort, meshBits, readingOf, verticesAfter, idsAfter, ReadsBits}
+use Rattle.meshfile.specs.Writing.{contentsOf, tooMany, putInto, areaWith, writingOf, bytesAfter, Writes}
+use Rattle.meshfile.specs.RoundTrip.{ReadsBack, withKind4, Rewrites, WritesBack, SameFile}
+use Rattle.meshfile.proofs.Accepts.{accepts}
+use Rattle.meshfile.proofs.AcceptsOnly.{accepts-only}
+use Rattle.meshfile.proofs.Puts.{plain-long, file-long}
+
+-- ---- flags and their numbers
+
+clip-back : (clip : Bool) → eqb (cond clip 1 0) 1 ≡ clip
+clip-back true = refl
+clip-back false = refl
+
+profile-back : (p : Profile) → profileAt (profileNumber p) ≡ p
+unfolding profileAt profileNumber defectNumber
+profile-back Profile.Valid = refl
+profile-back (Profile.Invalid ProfileDefect.SelfIntersecting) = refl
+profile-back (Profile.Invalid ProfileDefect.Degenerate) = refl
+profile-back (Profile.Invalid ProfileDefect.HoleOutside) = refl
+profile-back (Profile.Invalid ProfileDefect.Overlapping) = refl
+
+flags-known : (clip : Bool) (p : Profile) → T (flagsFit (cond clip 1 0) (profileNumber p))
+unfolding flagsFit profileNumber defectNumber
+flags-known true Profile.Valid = tt
+flags-known true (Profile.Invalid ProfileDefect.SelfIntersecting) = tt
+flags-known true (Profile.Invalid ProfileDefect.Degenerate) = tt
+flags-known true (Profile.Invalid ProfileDefect.HoleOutside) = tt
+flags-known true (Profile.Invalid ProfileDefect.Overlapping) = tt
+flags-known false Profile.Valid = tt
+flags-known false (Profile.Invalid ProfileDefect.SelfIntersecting) = tt
+flags-known false (Profile.Invalid ProfileDefect.Degenerate) = tt
+flags-known false (Profile.Invalid ProfileDefect.HoleOutside) = tt
+flags-known false (Profile.Invalid ProfileDefect.Overlapping) = tt
+
+-- known values come back from what they stand for
+clip-number : (c : ℕ) → c ≤ 1 → cond (eqb c 1) 1 0 ≡ c
+clip-number zero h = refl
+clip-number (suc zero) h = refl
+clip-number (suc (suc c)) h = absurd (omega arith)
+
+defect-number : (d : ℕ) → d ≤ 4 → profileNumber (profileAt d) ≡ d
+unfolding profileAt profileNumber defectNumber
+defect-number zero h = refl
+defect-number (suc zero) h = refl
+defect-number (suc (suc zero)) h = refl
+defect-number (suc (suc (suc zero))) h = refl
+defect-number (suc (suc (suc (suc zero)))) h = refl
+defect-number (suc (suc (suc (suc (suc d))))) h = absurd (omega arith)
+
+flags-within : (c d : ℕ) → T (flagsFit c d) → (c ≤ 1) × (d ≤ 4)
+unfolding flagsFit
+flags-within c d h =
+    let x = both (leb c 1) (leb d 4) (is-true _ h) in
+    (leb-true c 1 (x .0), leb-true d 4 (x .1))
+
+-- ---- reading what was written
+
+-- a file was written: it is not too large, and there was room
+put-length : (short : Bool) (n k : ℕ) → Writing.Length n ≡ cond short (Writing.Refused 3) (Writing.Length k) → (short ≡ false) × (n ≡ k)
+put-length true n k h = let z : _≡_ {A = ℕ} 0 1 = cc in absurd (omega arith)
+put-length false n k h = (refl, cc)
+
+wrote : (full short : Bool) (n k : ℕ)
+    → Writing.Length n ≡ cond full (Writing.Refused 6) (cond short (Writing.Refused 3) (Writing.Length k))
+    → (full ≡ false) × (short ≡ false) × (n ≡ k)
+wrote true short n k h = let z : _≡_ {A = ℕ} 0 1 = cc in absurd (omega arith)
+wrote false short n k h = (refl, put-length short n k h .0, put-length short n k h .1)
+
+module _ (m : Contents) (area : List ℕ) (n : ℕ) (area′ : List ℕ) (w : Writes m area (Writing.Length n) area′) where
+  not-many : tooMany m ≡ false
+  unfolding writingOf putInto
+  not-many = wrote (tooMany m) (ltb (length area) (length (fileBytes m))) n (length (fileBytes m)) (w .answers) .0
+
+  file-written : take n area′ ≡ fileBytes m
+  unfolding writingOf bytesAfter putInto areaWith
+  file-written =
+      let x = wrote (tooMany m) (ltb (length area) (length (fileBytes m))) n (length (fileBytes m)) (w .answers) in
+      rw (w .bytes, x .0, x .1, x .2) (take-at (fileBytes m) (drop (length (fileBytes m)) area) (length (fileBytes m)) refl)
+
+few : (m : Contents) → tooMany m ≡ false → (length (m .vertices) ≤ mostInFile) × (length (m .ids) ≤ mostInFile)
+unfolding tooMany
+few m h =
+    let both = neither (ltb mostInFile (length (m .vertices))) (ltb mostInFile (length (m .ids))) h in
+    (ltb-false _ _ (both .0), ltb-false _ _ (both .1))
+
+pub reads-back : ReadsBack
+unfolding readingOf verticesAfter idsAfter meshAreasShort IsFileOf
+reads-back u vs is clip profile hu hv hi area n area′ w ps ids lv li r ps′ ids′ x =
+    let m = contentsOf u vs is clip profile in
+    let least = few m (not-many m area n area′ w) in
+    let proper : Proper m = record {
+      unit = hu;
+      vertices = hv;
+      ids = hi;
+      floats-most = least .0;
+      ids-most = least .1;
+      flags = flags-known clip profile;
+    } in
+    let held : fileOf (take n area′) ≡ File.Holds m = accepts m (take n area′) proper (inl (file-written m area n area′ w)) in
+    let roomy = le-ltb (length ps) (length vs) lv in
+    let wide = le-ltb (length ids) (length is) li in
+    (x .answers ∙ rw (held, roomy, wide, clip-back clip, profile-back profile), x .vertices ∙ rw (held, roomy, wide), x .ids-after ∙ rw (held, roomy, wide))
+
+-- ---- writing what was read
+
+-- what was read: the contents of a file, in areas with room for them
+read-held : (short : Bool) (k : Contents) (m : MeshBits)
+    → ReadingBits.File m ≡ cond short (ReadingBits.Refused 3) (ReadingBits.File (meshBits k)) → (short ≡ false) × (m ≡ meshBits k)
+read-held true k m h = let z : _≡_ {A = ℕ} 0 1 = cc in absurd (omega arith)
+read-held false k m h = (refl, cc)
+
+no-flags : (c d : ℕ) → c ≡ 0 → d ≡ 0 → c ∷ d ∷ [] ≡ 0 ∷ 0 ∷ []
+no-flags c d p q = rw (p, q)
+
+module _ (bytes : List ℕ) (below : Below 256 bytes) (k : Contents) (held : fileOf bytes ≡ File.Holds k) where
+  abbrev again : List ℕ
+  again = withKind4 (length (k .vertices)) (length (k .ids)) bytes
+
+  proper : Proper k
+  proper = accepts-only k bytes below held .0
+
+  few-read : tooMany k ≡ false
+  unfolding tooMany
+  few-read =
+      rw (le-ltb mostInFile (length (k .vertices)) (proper .floats-most), le-ltb mostInFile (length (k .ids)) (proper .ids-most))
+
+  -- the file that is written is the file that was read, with its kind 4
+  bytes-again : fileBytes k ≡ again
+  unfolding IsFileOf withKind4 fileBytes
+  bytes-again =
+      let end : ℕ = 22 + 4 * length (k .vertices) + 4 * length (k .ids) in
+      ⊎-elim (λ e. let longer : end < length bytes = omega (arith, ap length e, file-long k) in
+        rw (lt-ltb end (length bytes) longer) (sym e))
+      (λ e. let none : length bytes ≤ end = omega (arith, ap length (e .0), plain-long k) in
+        rw (le-ltb end (length bytes) none, e .0) (ap (λ (l : List ℕ). plainFile k ++ chunkOf 4 l) (no-flags (k .clip) (k .defect) (e .1) (e .2))))
+      (accepts-only k bytes below held .1)
+
+  -- flags come back from what they stand for
+  contents-again : contentsOf (k .unit) (k .vertices) (k .ids) (eqb (k .clip) 1) (profileAt (k .defect)) ≡ k
+  contents-again =
+      let known = flags-within (k .clip) (k .defect) (proper .flags) in
+      let clip = clip-number (k .clip) (known .0) in
+      let defect = defect-number (k .defect) (known .1) in
+      λ i. record { unit = k .unit; vertices = k .vertices; ids = k .ids; clip = clip i; defect = defect i }
+
+  pub held-again : (area : List ℕ) (w : Writing) (area′ : List ℕ)
+      → Writes (contentsOf (k .unit) (k .vertices) (k .ids) (eqb (k .clip) 1) (profileAt (k .defect))) area w area′
+      → (w ≡ putInto again (length area)) × (area′ ≡ areaWith again area)
+  unfolding writingOf bytesAfter
+  held-again area w area′ x =
+      (x .answers ∙ rw (contents-again, few-read, bytes-again), x .bytes ∙ rw (contents-again, few-read, bytes-again))
+
+pub same-file : SameFile
+unfolding IsFileOf
+same-file bytes below k held =
+    ap fileOf (sym (bytes-again bytes below k held)) ∙ accepts k (fileBytes k) (proper bytes below k held) (inl refl)
+
+module _ (bytes : List ℕ) (below : Below 256 bytes) (ps ids : List ℕ) (m : MeshBits) (ps′ ids′ : List ℕ) where
+  by-file : (f : File) → fileOf bytes ≡ f → ReadingBits.File m ≡ readingOf f (length ps) (length ids)
+      → ps′ ≡ verticesAfter (λ (ws : List ℕ). ws) f (length ids) ps → ids′ ≡ idsAfter f (length ps) ids
+      → (area : List ℕ) (w : Writing) (area′ : List ℕ) → Rewrites m ps′ ids′ area w area′
+      → (w ≡ putInto (withKind4 (m .floats) (m .ids) bytes) (length area)) × (area′ ≡ areaWith (withKind4 (m .floats) (m .ids) bytes) area)
+  unfolding readingOf verticesAfter idsAfter
+  by-file (File.Refused n) e h hv hi area w area′ x = let z : _≡_ {A = ℕ} 0 1 = cc in absurd (omega arith)
+  by-file (File.Holds k) e h hv hi area w area′ x =
+      let short = meshAreasShort k (length ps) (length ids) in
+      let r = read-held short k m h in
+      let vertices : take (length (k .vertices)) ps′ ≡ k .vertices
+          = rw (hv, r .0) (take-at (k .vertices) (drop (length (k .vertices)) ps) (length (k .vertices)) refl) in
+      let named : take (length (k .ids)) ids′ ≡ k .ids
+          = rw (hi, r .0) (take-at (k .ids) (drop (length (k .ids)) ids) (length (k .ids)) refl) in
+      rw (r .1) (held-again bytes below k e area w area′ (rw (r .1, vertices, named) at x))
+
+pub writes-back : WritesBack
+writes-back bytes below ps ids m ps′ ids′ x area w area′ y =
+    by-file bytes below ps ids m ps′ ids′ (fileOf bytes) refl (x .answers) (x .vertices) (x .ids-after) area w area′ y

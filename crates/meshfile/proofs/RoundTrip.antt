@@ -28,84 +28,10 @@ use Rattle.meshfile.specs.RoundTrip.{ReadsBack, withKind4, Rewrites, Wri
 use Rattle.meshfile.proofs.Accepts.{accepts}
 use Rattle.meshfile.proofs.AcceptsOnly.{accepts-only}
 use Rattle.meshfile.proofs.Puts.{plain-long, file-long}
-
--- ---- flags and their numbers
-
-clip-back : (clip : Bool) → eqb (cond clip 1 0) 1 ≡ clip
-clip-back true = refl
-clip-back false = refl
-
-profile-back : (p : Profile) → profileAt (profileNumber p) ≡ p
-unfolding profileAt profileNumber defectNumber
-profile-back Profile.Valid = refl
-profile-back (Profile.Invalid ProfileDefect.SelfIntersecting) = refl
-profile-back (Profile.Invalid ProfileDefect.Degenerate) = refl
-profile-back (Profile.Invalid ProfileDefect.HoleOutside) = refl
-profile-back (Profile.Invalid ProfileDefect.Overlapping) = refl
-
-flags-known : (clip : Bool) (p : Profile) → T (flagsFit (cond clip 1 0) (profileNumber p))
-unfolding flagsFit profileNumber defectNumber
-flags-known true Profile.Valid = tt
-flags-known true (Profile.Invalid ProfileDefect.SelfIntersecting) = tt
-flags-known true (Profile.Invalid ProfileDefect.Degenerate) = tt
-flags-known true (Profile.Invalid ProfileDefect.HoleOutside) = tt
-flags-known true (Profile.Invalid ProfileDefect.Overlapping) = tt
-flags-known false Profile.Valid = tt
-flags-known false (Profile.Invalid ProfileDefect.SelfIntersecting) = tt
-flags-known false (Profile.Invalid ProfileDefect.Degenerate) = tt
-flags-known false (Profile.Invalid ProfileDefect.HoleOutside) = tt
-flags-known false (Profile.Invalid ProfileDefect.Overlapping) = tt
-
--- known values come back from what they stand for
-clip-number : (c : ℕ) → c ≤ 1 → cond (eqb c 1) 1 0 ≡ c
-clip-number zero h = refl
-clip-number (suc zero) h = refl
-clip-number (suc (suc c)) h = absurd (omega arith)
-
-defect-number : (d : ℕ) → d ≤ 4 → profileNumber (profileAt d) ≡ d
-unfolding profileAt profileNumber defectNumber
-defect-number zero h = refl
-defect-number (suc zero) h = refl
-defect-number (suc (suc zero)) h = refl
-defect-number (suc (suc (suc zero))) h = refl
-defect-number (suc (suc (suc (suc zero)))) h = refl
-defect-number (suc (suc (suc (suc (suc d))))) h = absurd (omega arith)
-
-flags-within : (c d : ℕ) → T (flagsFit c d) → (c ≤ 1) × (d ≤ 4)
-unfolding flagsFit
-flags-within c d h =
-    let x = both (leb c 1) (leb d 4) (is-true _ h) in
-    (leb-true c 1 (x .0), leb-true d 4 (x .1))
+use Rattle.meshfile.proofs.Writes.{not-many, file-written, few}
+use Rattle.meshfile.proofs.Flags.{clip-back, profile-back, flags-known, contents-back}
 
 -- ---- reading what was written
-
--- a file was written: it is not too large, and there was room
-put-length : (short : Bool) (n k : ℕ) → Writing.Length n ≡ cond short (Writing.Refused 3) (Writing.Length k) → (short ≡ false) × (n ≡ k)
-put-length true n k h = let z : _≡_ {A = ℕ} 0 1 = cc in absurd (omega arith)
-put-length false n k h = (refl, cc)
-
-wrote : (full short : Bool) (n k : ℕ)
-    → Writing.Length n ≡ cond full (Writing.Refused 6) (cond short (Writing.Refused 3) (Writing.Length k))
-    → (full ≡ false) × (short ≡ false) × (n ≡ k)
-wrote true short n k h = let z : _≡_ {A = ℕ} 0 1 = cc in absurd (omega arith)
-wrote false short n k h = (refl, put-length short n k h .0, put-length short n k h .1)
-
-module _ (m : Contents) (area : List ℕ) (n : ℕ) (area′ : List ℕ) (w : Writes m area (Writing.Length n) area′) where
-  not-many : tooMany m ≡ false
-  unfolding writingOf putInto
-  not-many = wrote (tooMany m) (ltb (length area) (length (fileBytes m))) n (length (fileBytes m)) (w .answers) .0
-
-  file-written : take n area′ ≡ fileBytes m
-  unfolding writingOf bytesAfter putInto areaWith
-  file-written =
-      let x = wrote (tooMany m) (ltb (length area) (length (fileBytes m))) n (length (fileBytes m)) (w .answers) in
-      rw (w .bytes, x .0, x .1, x .2) (take-at (fileBytes m) (drop (length (fileBytes m)) area) (length (fileBytes m)) refl)
-
-few : (m : Contents) → tooMany m ≡ false → (length (m .vertices) ≤ mostInFile) × (length (m .ids) ≤ mostInFile)
-unfolding tooMany
-few m h =
-    let both = neither (ltb mostInFile (length (m .vertices))) (ltb mostInFile (length (m .ids))) h in
-    (ltb-false _ _ (both .0), ltb-false _ _ (both .1))
 
 pub reads-back : ReadsBack
 unfolding readingOf verticesAfter idsAfter meshAreasShort IsFileOf
@@ -159,20 +85,12 @@ module _ (bytes : List ℕ) (below : Below 256 bytes) (k : Contents) (held : fil
         rw (le-ltb end (length bytes) none, e .0) (ap (λ (l : List ℕ). plainFile k ++ chunkOf 4 l) (no-flags (k .clip) (k .defect) (e .1) (e .2))))
       (accepts-only k bytes below held .1)
 
-  -- flags come back from what they stand for
-  contents-again : contentsOf (k .unit) (k .vertices) (k .ids) (eqb (k .clip) 1) (profileAt (k .defect)) ≡ k
-  contents-again =
-      let known = flags-within (k .clip) (k .defect) (proper .flags) in
-      let clip = clip-number (k .clip) (known .0) in
-      let defect = defect-number (k .defect) (known .1) in
-      λ i. record { unit = k .unit; vertices = k .vertices; ids = k .ids; clip = clip i; defect = defect i }
-
   pub held-again : (area : List ℕ) (w : Writing) (area′ : List ℕ)
       → Writes (contentsOf (k .unit) (k .vertices) (k .ids) (eqb (k .clip) 1) (profileAt (k .defect))) area w area′
       → (w ≡ putInto again (length area)) × (area′ ≡ areaWith again area)
   unfolding writingOf bytesAfter
   held-again area w area′ x =
-      (x .answers ∙ rw (contents-again, few-read, bytes-again), x .bytes ∙ rw (contents-again, few-read, bytes-again))
+      (x .answers ∙ rw (contents-back k (proper .flags), few-read, bytes-again), x .bytes ∙ rw (contents-back k (proper .flags), few-read, bytes-again))
 
 pub same-file : SameFile
 unfolding IsFileOf

@@ -6,13 +6,16 @@ use mathlib.Core.List.{List, _++_}
 use mathlib.Core.Logic.{_⊎_, inl, inr}
 use Prim.Native.Nat.{ℕ, _+_, _*_, _≤_, _<_}
 use native.Mathlib.Omega.{arith}
-use borrow.Author.Tests.{lt-ltb, le-ltb}
+use borrow.Author.Tests.{ltb-false, lt-ltb, le-ltb}
 use lib.Dec.{ltb}
-use lib.ListN.{length, drop}
+use lib.ListN.{length, take, drop}
+use lib.Seq.{take-at}
+use Rattle.ids.proofs.Groups.{neither}
 use Rattle.meshfile.specs.declared.writing.Writing.{Writing}
 use Rattle.meshfile.specs.Format.{mostInFile, Contents}
-use Rattle.meshfile.specs.Written.{fileBytes}
-use Rattle.meshfile.specs.Writing.{tooMany, putInto, areaWith, writingOf, bytesAfter, Writes, FileLength, RefusedWriting, WriteOne}
+use Rattle.meshfile.specs.Written.{fileBytes, longest}
+use Rattle.meshfile.specs.Writing.{tooMany, putInto, areaWith, writingOf, bytesAfter, Writes}
+use Rattle.meshfile.specs.Writing.{FileLength, LongestSuffices, RefusedWriting, WriteOne}
 use Rattle.meshfile.proofs.Puts.{file-long}
 
 pub file-length : FileLength
@@ -67,3 +70,44 @@ unfolding writingOf bytesAfter putInto areaWith
 refused-writing m area n area′ x =
     let p = refused-by (tooMany m) (ltb (length area) (length (fileBytes m))) n (length (fileBytes m)) area _ (x .answers) in
     (p .0, x .bytes ∙ p .1)
+
+-- ---- an answer
+
+pub few : (m : Contents) → tooMany m ≡ false → (length (m .vertices) ≤ mostInFile) × (length (m .ids) ≤ mostInFile)
+unfolding tooMany
+few m h =
+    let both = neither (ltb mostInFile (length (m .vertices))) (ltb mostInFile (length (m .ids))) h in
+    (ltb-false _ _ (both .0), ltb-false _ _ (both .1))
+
+pub longest-suffices : LongestSuffices
+longest-suffices m h = omega (arith, few m h, file-long m)
+
+-- a file was written: it is not too large, and there was room
+put-length : (short : Bool) (n k : ℕ) → Writing.Length n ≡ cond short (Writing.Refused 3) (Writing.Length k) → (short ≡ false) × (n ≡ k)
+put-length true n k h = let z : _≡_ {A = ℕ} 0 1 = cc in absurd (omega arith)
+put-length false n k h = (refl, cc)
+
+wrote : (full short : Bool) (n k : ℕ)
+    → Writing.Length n ≡ cond full (Writing.Refused 6) (cond short (Writing.Refused 3) (Writing.Length k))
+    → (full ≡ false) × (short ≡ false) × (n ≡ k)
+wrote true short n k h = let z : _≡_ {A = ℕ} 0 1 = cc in absurd (omega arith)
+wrote false short n k h = (refl, put-length short n k h .0, put-length short n k h .1)
+
+module _ (m : Contents) (area : List ℕ) (n : ℕ) (area′ : List ℕ) (w : Writes m area (Writing.Length n) area′) where
+  pub not-many : tooMany m ≡ false
+  unfolding writingOf putInto
+  not-many = wrote (tooMany m) (ltb (length area) (length (fileBytes m))) n (length (fileBytes m)) (w .answers) .0
+
+  pub file-written : take n area′ ≡ fileBytes m
+  unfolding writingOf bytesAfter putInto areaWith
+  file-written =
+      let x = wrote (tooMany m) (ltb (length area) (length (fileBytes m))) n (length (fileBytes m)) (w .answers) in
+      rw (w .bytes, x .0, x .1, x .2) (take-at (fileBytes m) (drop (length (fileBytes m)) area) (length (fileBytes m)) refl)
+
+-- so its length fits in a word
+pub written-few : (m : Contents) (area : List ℕ) (r : Writing) (area′ : List ℕ) → Writes m area r area′
+    → (n : ℕ) → r ≡ Writing.Length n → n ≤ longest
+unfolding writingOf putInto
+written-few m area r area′ w n e =
+    let x = wrote (tooMany m) (ltb (length area) (length (fileBytes m))) n (length (fileBytes m)) (sym e ∙ w .answers) in
+    rw (x .2) (longest-suffices m (x .0))

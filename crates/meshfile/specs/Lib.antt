@@ -4,4 +4,5 @@ pub mod Written
 pub mod Reading
 pub mod Writing
 pub mod RoundTrip
+pub mod Numbers
 pub mod inner

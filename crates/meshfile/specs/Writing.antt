@@ -1,8 +1,8 @@
 -- What comes back of `write`, and what it leaves in the lent bytes: for every unit, vertices, ids and flags one answer, and one later content.
 use mathlib.Core.Path.{_≡_}
 use mathlib.Core.Logic.{_⊎_}
-use Prim.Native.Nat.{ℕ, _+_, _*_}
-use mathlib.Core.Bool.{Bool, _||_, cond}
+use Prim.Native.Nat.{ℕ, _+_, _*_, _≤_}
+use mathlib.Core.Bool.{Bool, false, _||_, cond}
 use mathlib.Core.List.{List, _++_}
 use lib.Dec.{ltb}
 use lib.ListN.{length, drop}
@@ -10,7 +10,7 @@ use Rattle.record.specs.declared.Profile.{Profile}
 use Rattle.record.specs.Numbers.{profileNumber}
 use Rattle.meshfile.specs.declared.writing.Writing.{Writing}
 use Rattle.meshfile.specs.Format.{mostInFile, Contents}
-use Rattle.meshfile.specs.Written.{fileBytes}
+use Rattle.meshfile.specs.Written.{fileBytes, longest}
 
 -- what is to be written
 abbrev pub contentsOf : ℕ → List ℕ → List ℕ → Bool → Profile → Contents
@@ -46,6 +46,10 @@ pub record Writes (m : Contents) (area : List ℕ) (r : Writing) (area′ : List
 -- record by record: the unit, the floats, the ids, the flags (`file-length`)
 abbrev pub FileLength : Type 0
 FileLength = (m : Contents) → length (fileBytes m) ≡ (6 + 4) + (6 + 4 * length (m .vertices)) + (6 + 4 * length (m .ids)) + (6 + 2)
+
+-- so an area of 12,318 bytes is never too short (`longest-suffices`)
+abbrev pub LongestSuffices : Type 0
+LongestSuffices = (m : Contents) → tooMany m ≡ false → length (fileBytes m) ≤ longest
 
 -- Writing refuses by 3 and 6 only, and a refusal leaves the area as it was. (`refused-writing`)
 abbrev pub RefusedWriting : Type 0

@@ -10,6 +10,6 @@ pub mod Accepts
 pub mod AcceptsOnly
 mod Puts
 pub mod Writes
-mod Flags
+pub mod Flags
 pub mod RoundTrip
 pub mod Numbers

@@ -30,9 +30,9 @@ use Rattle.refusals.specs.declared.Check.{Check}
 use Rattle.refusals.specs.Refusals.{checkOf, unitFits}
 use Rattle.qto.specs.Full.{best, buckets, measures, measuresFrom, recordBy, recordFrom, recordOf, surfaceOf, surfaceRows, totals, verdict}
 use Rattle.qto.specs.Full.{volumeOf}
-use Rattle.words.specs.Words.{u16At, u32At, wordsIn, floatsOf}
+use Rattle.words.specs.Words.{u16At, u32At, wordsIn, floatsOf, bytesOf, allBytes}
 use Rattle.meshfile.specs.Format.{File, ended, endingOf, fileOf, frontOf, idsIn, lengthFits, unitIn, verticesIn}
-use Rattle.meshfile.specs.Written.{allBytes, bytesOf, plainFile, chunkOf}
+use Rattle.meshfile.specs.Written.{plainFile, chunkOf}
 use Rattle.listing.specs.Cube.{cubeRecord, cubeRows, CubeLines}
 use Rattle.listing.proofs.Cube.{cube-lines}
 use Rattle.program.specs.Program.{listed, meshText, textAt, textFor, textOf}

@@ -12,7 +12,7 @@ use Rattle.words.specs.Words.{floatsOf}
 use Rattle.meshfile.specs.declared.MeshFile.{MeshFile}
 use Rattle.meshfile.specs.declared.Reading.{Reading}
 use Rattle.meshfile.specs.Format.{Contents, File, fileOf}
-use Rattle.meshfile.specs.Reading.{meshAreasShort, readingOf, floatsAfter, idsAfter, Reads}
+use Rattle.meshfile.specs.Reading.{meshAreasShort, readingOf, asFloats, verticesAfter, idsAfter, Reads}
 use Rattle.meshfile.proofs.Most.{never-short}
 use Rattle.listing.specs.Listing.{refusedLine}
 use Rattle.program.specs.Program.{meshText, textFor, textOf}
@@ -23,8 +23,9 @@ readText vs ids (Reading.File m) = meshText (take (m .floats) vs) (take (m .ids)
 
 module _ (vs : List Float) (ids : List ℕ) where
   text-by : (f : File) → ((m : Contents) → f ≡ File.Holds m → meshAreasShort m (length vs) (length ids) ≡ false)
-      → readText (floatsAfter f (length ids) vs) (idsAfter f (length vs) ids) (readingOf f (length vs) (length ids)) ≡ textFor f
-  unfolding readText floatsAfter idsAfter readingOf textFor
+      → readText (verticesAfter floatsOf f (length ids) vs) (idsAfter f (length vs) ids) (asFloats (readingOf f (length vs) (length ids)))
+      ≡ textFor f
+  unfolding readText verticesAfter idsAfter readingOf asFloats textFor
   text-by (File.Refused n) h = refl
   text-by (File.Holds m) h =
       rw (
@@ -37,7 +38,7 @@ module _ (vs : List Float) (ids : List ℕ) where
       (made : Reads bytes vs ids r vs′ ids′) where
     text-of : readText vs′ ids′ r ≡ textOf bytes
     unfolding textOf
-    text-of = rw (made .answers, made .floats, made .ids-after) (text-by (fileOf bytes) (λ m h. rw (hv, hi) (never-short bytes m h)))
+    text-of = rw (made .answers, made .vertices, made .ids-after) (text-by (fileOf bytes) (λ m h. rw (hv, hi) (never-short bytes m h)))
 
     pub refusal-text : (n : ℕ) → r ≡ Reading.Refused n → refusedLine n ≡ textOf bytes
     unfolding readText

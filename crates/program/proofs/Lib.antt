@@ -8,5 +8,6 @@ pub mod Suffice
 pub mod NotFinite
 pub mod Place
 pub mod StlPromises
+pub mod Written
 pub mod Glove
 pub mod Cube

@@ -1,9 +1,9 @@
--- What is proved of the programs beside their contracts: which refusals a file can meet, what of an STL does not show, that no NaN gets
--- past, and what becomes of input that is longer than any file.
+-- What is proved of the programs beside their contracts: which refusals a file can meet, what of an STL does not show, what a file prints
+-- that was written, that no NaN gets past, and what becomes of input that is longer than any file.
 use mathlib.Core.Path.{_≡_}
 use mathlib.Core.Logic.{_⊎_}
 use Prim.Native.Nat.{ℕ, _+_, _%_, _^_, _≤_, _<_}
-use mathlib.Core.Bool.{false, not, _||_, cond}
+use mathlib.Core.Bool.{Bool, false, not, _||_, cond}
 use mathlib.Core.List.{List}
 use lib.Dec.{eqb, ltb}
 use lib.ListN.{length, take}
@@ -11,12 +11,18 @@ use lib.Ieee.{Float, binary32, ofBits}
 use Rattle.sums.specs.Fine.{fine, allFine}
 use Rattle.refusals.specs.declared.Check.{Check}
 use Rattle.refusals.specs.Refusals.{unitFits}
+use Rattle.record.specs.declared.Profile.{Profile}
+use Rattle.words.specs.Words.{floatsOf, Below}
+use Rattle.meshfile.specs.Format.{Contents, File, fileOf}
+use Rattle.meshfile.specs.Written.{fileBytes}
+use Rattle.meshfile.specs.Writing.{contentsOf}
+use Rattle.meshfile.specs.RoundTrip.{withKind4}
 use Rattle.stl.specs.declared.Stl.{Stl}
 use Rattle.stl.specs.Stl.{stlOf}
 use Rattle.stl.specs.Reading.{mostTriangles}
 use Rattle.stl.specs.Worth.{SameWhereSeen}
 use Rattle.listing.specs.Listing.{refusedLine}
-use Rattle.program.specs.Program.{checkMesh, Prints}
+use Rattle.program.specs.Program.{checkMesh, meshText, textOf, Prints}
 use Rattle.program.specs.StlText.{stlContents, stlTextOf}
 use Rattle.program.specs.Place.{meshFloats, meshUnit}
 
@@ -42,6 +48,17 @@ StlCheck = (bytes : List ℕ) (n : ℕ) → stlOf mostTriangles bytes ≡ Stl.Tr
 -- Header, normals and attributes of an STL do not show in its text. (`stl-unseen`)
 abbrev pub StlUnseen : Type 0
 StlUnseen = (bytes bytes′ : List ℕ) → SameWhereSeen bytes bytes′ → stlTextOf bytes′ ≡ stlTextOf bytes
+
+-- What is printed for a mesh file that was written is the text of what was written. (`written-text`)
+abbrev pub WrittenText : Type 0
+WrittenText = (u : ℕ) (vs is : List ℕ) (clip : Bool) (profile : Profile) → u < 2 ^ 32 → Below (2 ^ 32) vs → Below (2 ^ 32) is
+    → length vs ≤ 1536 → length is ≤ 1536
+    → textOf (fileBytes (contentsOf u vs is clip profile)) ≡ meshText (floatsOf vs) is (ofBits binary32 u) clip profile
+
+-- A file that was read and written back prints the same. (`rewritten-text`)
+abbrev pub RewrittenText : Type 0
+RewrittenText = (bytes : List ℕ) → Below 256 bytes → (m : Contents) → fileOf bytes ≡ File.Holds m
+    → textOf (withKind4 (length (m .vertices)) (length (m .ids)) bytes) ≡ textOf bytes
 
 -- no pattern of an infinity or a NaN, whatever its digits, gets past refusal 4
 abbrev pub NotFiniteRefused : Type 0

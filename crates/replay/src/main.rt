@@ -1,17 +1,21 @@
 // Runs the meshes of data/meshes, each a u32 length and so many bytes of the program's format, and prints for each what
 // `takeoff` prints, and a line with what the routines on ids say of its ids, what `compute` says to a work area that is one word
-// short, and the pairs of its footprints. Then the files of data/mounts, in the same framing, each a binary STL: what
-// `takeoff_stl` prints. The gate holds this to `stdout`: the unchanged Rust's answers, and a plain reference's where the Rust has
-// none (docs/DIFFERENCES.md says how).
+// short, and the pairs of its footprints; and a line with what `write` makes of what was read. Then what `write` says to too much, and
+// the files of data/mounts, in the same framing, each a binary STL: what `takeoff_stl` prints. The gate holds this to `stdout`: the
+// unchanged Rust's answers, and a plain reference's where the Rust has none (docs/DIFFERENCES.md says how).
 ghost use Prim.Native.Nat.{_≤_};
 ghost use lib.ListN.{length};
 use chain::EdgeChain;
 use chain::FaceNet;
 use chain::Verdict;
 use libc::STDOUT_FILENO;
+use meshfile::MeshBits;
 use meshfile::Reading;
+use meshfile::ReadingBits;
+use meshfile::Writing;
 use qto::Answer;
 use raster::Pair;
+use record::Profile;
 
 // ---- what the routines on ids say
 
@@ -144,6 +148,79 @@ fn print_line_of(bytes: &[u8]) {
     }
 }
 
+// ---- the file written back
+
+// The Adler-32 of bytes.
+fn adler(bytes: &[u8]) -> u32 {
+    let mut a = 1u32;
+    let mut b = 0u32;
+    let mut i = 0;
+    while i < bytes.len() {
+        a = (a + words::byte(bytes, i)) % 65521;
+        b = (b + a) % 65521;
+        i += 1;
+    }
+    65536 * b + a
+}
+
+// A refusal, or 0 for a file.
+fn print_refusal(label: &[u8], answer: Writing) {
+    match answer {
+        Writing::Length(_) => print_count(label, 0),
+        Writing::Refused(n) => print_count(label, n as u64),
+    }
+}
+
+fn print_file(file: &[u8]) {
+    print_count(b"written ", file.len() as u64);
+    print_count(b" ", adler(file) as u64);
+}
+
+// Into an area that is one byte short: 3.
+fn print_cut(m: MeshBits, vertices: &[u32], ids: &[u32], area: &mut [u8]) {
+    let n = one_less(area.len());
+    let profile = m.profile;
+    let answer = meshfile::write(m.unit, vertices, ids, m.clip, profile, &mut area[..n]);
+    print_refusal(b" short ", answer);
+}
+
+fn print_written(m: MeshBits, vertices: &[u32], ids: &[u32]) {
+    let mut area = [0u8; 12318];
+    let profile = m.profile;
+    let answer = meshfile::write(m.unit, vertices, ids, m.clip, profile, &mut area);
+    match answer {
+        Writing::Length(n) => {
+            print_file(&area[..n]);
+            print_cut(m, vertices, ids, &mut area[..n]);
+        }
+        Writing::Refused(n) => print_count(b"written refused ", n as u64),
+    }
+    io::write_all(STDOUT_FILENO, b"\n");
+}
+
+// The line for a file that can be read.
+fn print_back(bytes: &[u8]) {
+    let mut vertices = [0u32; 1536];
+    let mut ids = [0u32; 1536];
+    let found = meshfile::read_bits(bytes, &mut vertices, &mut ids);
+    match found {
+        ReadingBits::File(m) => print_written(m, &vertices[..m.floats], &ids[..m.ids]),
+        ReadingBits::Refused(_) => {}
+    }
+}
+
+// One float too many, and one id: 6, though there is no room either.
+fn print_many() {
+    let words = [0u32; 1537];
+    let few = [0u32; 1];
+    let mut area = [0u8; 1];
+    let floats = meshfile::write(0, &words, &few, false, Profile::Valid, &mut area);
+    print_refusal(b"many ", floats);
+    let ids = meshfile::write(0, &few, &words, false, Profile::Valid, &mut area);
+    print_refusal(b" ", ids);
+    io::write_all(STDOUT_FILENO, b"\n");
+}
+
 // ---- one file after the other
 
 fn print_listing(bytes: &[u8]) {
@@ -167,6 +244,7 @@ fn replay_file(fd: i32, stl: bool, part: &mut [u8]) {
     }
     print_listing(&part[..got]);
     print_line_of(&part[..got]);
+    print_back(&part[..got]);
 }
 
 // Answers whether there was one. No file of the lists is longer than the buffer.
@@ -204,5 +282,6 @@ fn replay(name: &[u8], stl: bool) {
 
 fn main() {
     replay(b"meshes", false);
+    print_many();
     replay(b"mounts", true);
 }

@@ -174,6 +174,25 @@ class Corrected(Case):
         self.assertEqual(wrong, CUBE_BYTES[:126] + b"\x08" + CUBE_BYTES[127:])
         self.assertEqual(self.corrected(wrong, b"\nf 1 3 9 #", b"\nf 1 3 4 #"), CUBE_BYTES)
 
+    def test_the_readmes_correction(self) -> None:
+        readme = (EXAMPLES / "README.md").read_text()
+        there = "mesh_to_obj.py --out ../target/wrong.obj cube-wrong-id.mesh"
+        again = "obj_to_mesh.py --unit 1 --out ../target/right.mesh ../target/wrong.obj"
+        says = "triangle 0: id 8 names no vertex, there are 8; obj_to_mesh.py refuses line 14 of the OBJ until it is "
+        for part in (f"../tools/{there}\n", f"../tools/{again}\n", "'14s/.*/f 1 3 4/'", says):
+            self.assertIn(part, readme)
+        here, target = self.folder / "examples", self.folder / "target"
+        here.mkdir()
+        target.mkdir()
+        (here / WRONG.name).write_bytes(WRONG.read_bytes())
+        self.check(run(*there.split(), folder=here), 0, says)
+        lines = (target / "wrong.obj").read_text().splitlines()
+        self.assertIn("```\n" + "\n".join(lines[12:15]) + "\n```\n", readme)
+        lines[13] = "f 1 3 4"
+        (target / "wrong.obj").write_text("\n".join(lines) + "\n")
+        self.check(run(*again.split(), folder=here), 0, "")
+        self.assertEqual((target / "right.mesh").read_bytes(), CUBE_BYTES)
+
     def test_a_triangle_that_is_turned(self) -> None:
         turned = CUBE_BYTES[:122] + CUBE_BYTES[126:130] + CUBE_BYTES[122:126] + CUBE_BYTES[130:]
         self.assertEqual(self.corrected(turned, b"\nf 1 4 3\n", b"\nf 1 3 4\n"), CUBE_BYTES)

@@ -1,4 +1,4 @@
-"""The comment of an OBJ that was made from a mesh file which says how that file is made again, and where to find it."""
+"""The comment at the top of an OBJ from mesh_to_obj.py that has the command for the way back: its text, where it is."""
 
 # An OBJ has no place for the unit and the flags. A unit of 0.001 that is forgotten becomes 1, and the volume a billion
 # times itself. So the OBJ tells the whole command, and obj_to_mesh.py warns where it is given other options.

@@ -1,8 +1,8 @@
 /* Mowfrost from C: every function that the static library exports, and what it promises.
  *
  * The library is proved and made by `rt staticlib capi`: target/staticlib/libcapi.a, for x86-64 Linux. It needs nothing
- * but memset. examples/takeoff.c and mount.c are programs over it. The contracts that are proved stand in crates/capi/src, and
- * docs/ARCHITECTURE.md leads from there to the definitions.
+ * but memset. examples/takeoff.c, mount.c and correct.c are programs over it. The contracts that are proved stand in
+ * crates/capi/src, and docs/ARCHITECTURE.md leads from there to the definitions.
  *
  * What comes back. Every function answers every input, or gives the one refusal that applies, and ends. It allocates
  * nothing and keeps nothing between two calls, so that calls which are lent different memory may run at the same time.
@@ -10,8 +10,9 @@
  * Slices. An array is passed as a pointer and a length in elements. The pointer is aligned for its type and not NULL,
  * also where the length is 0: then nothing is read or written through it, and the address of any object of the type
  * will do. A slice behind a pointer to const is only read. One that may be written (work, raster, surfaces, record;
- * where an STL is read vertices and ids) overlaps nothing else that is passed; those that are only read may overlap
- * each other. All this, and that so many elements are there, is the caller's word: the library cannot see it.
+ * where a file is read vertices, ids and counts, where one is written bytes) overlaps nothing else that is passed; those
+ * that are only read may overlap each other. All this, and that so many elements are there, is the caller's word: the
+ * library cannot see it.
  *
  * Lent areas. What they hold before a call changes no answer. A refusal leaves them all as they were. An area may be
  * longer than is asked for, and what lies behind is left as it was. Of a float that has to stay it is proved that it
@@ -34,8 +35,8 @@ extern "C" {
  *   2  the unit is not a number from 2^-20 to 16
  *   3  an area is too short
  *   4  a vertex float is not finite, or above 8,589,934,592 (2^33) in magnitude
- *   5  a flag has a value that it cannot have, or the bytes are no binary STL
- *   6  an STL has more triangles than are taken */
+ *   5  a flag has a value that it cannot have, or the bytes are no binary STL, or no mesh file
+ *   6  an STL has more triangles than are taken, or a mesh file more floats or ids */
 #define MF_REFUSED 0x80000000u
 #define MF_MOST 98304u
 
@@ -145,6 +146,27 @@ uint32_t mf_read_stl(const uint8_t *bytes, size_t bytes_len, float *vertices, si
 /* The same with MF_STL_LARGE_MOST in the place of MF_STL_MOST: as many triangles as mf_compute takes so. */
 uint32_t mf_read_stl_large(const uint8_t *bytes, size_t bytes_len, float *vertices, size_t vertices_len, uint32_t *ids,
                            size_t ids_len);
+
+/* Mesh files, as takeoff reads them (docs/FORMAT.md): the unit, the vertex floats, the ids and the flags, a record each.
+ * Unit and vertex floats come and go as their bit patterns, so that each keeps its bits, a NaN too: nothing is looked
+ * at but lengths and flags. Any unit, float and id may occur, also what mf_compute refuses by 2 or 4, and one or two
+ * floats or ids may be left over from threes. To pass them to mf_compute, copy the patterns into floats (memcpy). */
+#define MF_MESH_MOST 1536u
+#define MF_MESH_BYTES(vertices_len, ids_len) (30 + 4 * (vertices_len) + 4 * (ids_len))
+
+/* Writes the file to the front of bytes, and answers its length, MF_MESH_BYTES(vertices_len, ids_len). The record of
+ * flags is always there. clip is 0 or 1, defect 0 to 4, as for mf_compute. What lies behind the file is left as it was.
+ * Refusals, tried in this order: 5 for another flag value; 6 for more than MF_MESH_MOST floats or ids; 3 where bytes is
+ * too short. */
+uint32_t mf_write_mesh(uint32_t unit, const uint32_t *vertices, size_t vertices_len, const uint32_t *ids, size_t ids_len,
+                       uint32_t clip, uint32_t defect, uint8_t *bytes, size_t bytes_len);
+
+/* Reads a file, with the record of flags or without, and answers 0. vertices and ids then begin with what the file has,
+ * and what lies behind is left as it was. counts has five words: the number of floats, the number of ids, the unit, clip
+ * and defect; without the record both flags are 0. Refusals, tried in this order: 5 or 6 as takeoff has them, for the
+ * fault that is met first; 3 where vertices or ids is too short. */
+uint32_t mf_read_mesh(const uint8_t *bytes, size_t bytes_len, uint32_t *vertices, size_t vertices_len, uint32_t *ids,
+                      size_t ids_len, uint32_t counts[5]);
 
 /* ---- float helpers
  *

@@ -4,17 +4,13 @@
 from __future__ import annotations
 
 import argparse
-import os
 import re
 import sys
 
-from mowfrost import console, f32, faces, meshfile, obj, place
+from mowfrost import back, console, f32, faces, meshfile, obj, place
 from mowfrost.text import quoted
 
 TOOL = "obj_to_mesh"
-
-LEAST_UNIT = f32.from_text("9.5367431640625e-7")  # 2^-20
-GREATEST_UNIT = f32.from_text("16")
 
 ORIGIN = re.compile(",".join([r"([+-]?[0-9]{1,40})"] * 3))
 
@@ -33,6 +29,10 @@ corners are cut off one after the other so that the triangles fill just what the
 joined to the rim by a side that is walked both ways. A polygon that crosses itself is refused, with its line. So is one
 with a dent that is not flat: whose triangles have over a hundredth more area than it has as a whole, the length of
 its area vector. A fan that is not flat is used, with a warning: cut otherwise, the polygon would give other numbers.
+
+An OBJ that mesh_to_obj.py made goes back to the same bytes by the command at its top, which has the unit and the flags.
+Where other options are given, a warning says so. --flag-record is for a file with a record of flags in which none is
+set, as the library writes it; for takeoff it says the same with the record and without.
 
 Warnings come on standard error, and the file is written all the same. A warning names each coordinate that rounding
 moves by more than 0.0001 m, and each that the program refuses (above 8589934592), by its line. --origin takes whole
@@ -58,8 +58,7 @@ def unit(text: str) -> int:
         bits = f32.from_text(text)
     except ValueError as reason:
         raise argparse.ArgumentTypeError(str(reason)) from None
-    # Bits of f32 numbers above zero are in the order of the numbers; those below zero come behind all of them.
-    if not LEAST_UNIT <= bits <= GREATEST_UNIT:
+    if not meshfile.unit_fits(bits):
         raise argparse.ArgumentTypeError(f"{quoted(text)} is not between 2^-20 (0.00000095367431640625) and 16")
     return bits
 
@@ -73,8 +72,8 @@ def origin(text: str) -> obj.Origin:
     return x, y, z
 
 
-def arguments() -> argparse.Namespace:
-    """The command line; wrong usage ends with status 2."""
+def arguments(words: list[str] | None = None) -> argparse.Namespace:
+    """These words, or those of the command line; wrong usage ends with status 2."""
     parser = argparse.ArgumentParser(
         description=DESCRIPTION,
         epilog=EPILOG,
@@ -89,8 +88,9 @@ def arguments() -> argparse.Namespace:
     add("--origin", metavar="X,Y,Z", type=origin, default="0,0,0", help=least)
     add("--clip", action="store_true", help="flag: a clip was not applied to this mesh")
     add("--defect", metavar="NAME", choices=meshfile.DEFECTS, help=f"flag: a defect of the profile; one of {defects}")
+    add("--flag-record", action="store_true", help="write the record of flags (kind 4) also where no flag is set")
     add("--out", metavar="FILE", help="where to write; standard output without it, or for -")
-    return parser.parse_args()
+    return parser.parse_args(words)
 
 
 def converted(data: bytes, args: argparse.Namespace) -> bytes:
@@ -105,9 +105,9 @@ def converted(data: bytes, args: argparse.Namespace) -> bytes:
         raise console.Stop(1, f"{name} has {over}")
     cut = faces.triangles(mesh)
     stop_at(cut.faults, name)
-    warn(mesh, cut.notes, args, name)
+    warn(mesh, [*otherwise(data, args), *cut.notes], args, name)
     bits = [bits for vertex in mesh.vertices for bits in vertex.bits]
-    return meshfile.mesh_file(args.unit, bits, cut.ids, args.clip, args.defect)
+    return meshfile.mesh_file(args.unit, bits, cut.ids, args.clip, args.defect, args.flag_record)
 
 
 def stop_at(faults: list[obj.Fault], name: str) -> None:
@@ -116,10 +116,20 @@ def stop_at(faults: list[obj.Fault], name: str) -> None:
         raise console.Stop(1, *console.capped(by_line(faults, name)))
 
 
-def warn(mesh: obj.Mesh, bent: list[obj.Fault], args: argparse.Namespace, name: str) -> None:
-    """Tells what the file has all the same: polygons that are not flat, coordinates that are moved or refused."""
+def otherwise(data: bytes, args: argparse.Namespace) -> list[obj.Fault]:
+    """Where the OBJ was made from a mesh file, and says so: whether other options are given than make it again."""
+    found = back.asked_for(data)
+    given = back.options(args.unit, args.clip, args.defect, args.flag_record)
+    if found is None or found[1] == given:
+        return []
+    number, asked = found
+    return [obj.Fault(number, f"the mesh file that this OBJ is from is made by {asked}, but here by {given}")]
+
+
+def warn(mesh: obj.Mesh, notes: list[obj.Fault], args: argparse.Namespace, name: str) -> None:
+    """Tells what the file has all the same: other options, polygons not flat, coordinates that are moved or refused."""
     lines, all_told = place.notes(mesh.vertices, args.origin, args.unit)
-    told = console.capped(by_line(bent, name)) + console.capped(by_line(lines, name)) + all_told
+    told = console.capped(by_line(notes, name)) + console.capped(by_line(lines, name)) + all_told
     console.tell(TOOL, *(f"warning: {message}" for message in told))
 
 
@@ -130,25 +140,9 @@ def by_line(faults: list[obj.Fault], name: str) -> list[str]:
 
 def check_target(args: argparse.Namespace) -> None:
     """Stops where the bytes must not go: to a terminal, which they would upset, or over the OBJ itself."""
-    if args.out is None:
-        if sys.stdout is None:
-            raise console.Stop(2, "standard output is closed")
-        if sys.stdout.isatty():
-            raise console.Stop(2, "a mesh file is bytes, which a terminal cannot show; use --out FILE or a pipe")
-    elif os.path.exists(args.file) and os.path.exists(args.out) and os.path.samefile(args.out, args.file):
-        raise console.Stop(2, "--out names the OBJ itself, which would be lost")
-
-
-def write(data: bytes, out: str | None) -> None:
-    """To the file, or to standard output."""
-    if out is None:
-        sys.stdout.buffer.write(data)
-        return
-    try:
-        with open(out, "wb") as file:
-            file.write(data)
-    except OSError as fault:
-        raise console.Stop(2, f"cannot write {out}: {fault.strerror or fault}") from None
+    console.check_target(args.file, args.out, "the OBJ")
+    if args.out is None and sys.stdout.isatty():
+        raise console.Stop(2, "a mesh file is bytes, which a terminal cannot show; use --out FILE or a pipe")
 
 
 def main() -> None:
@@ -156,7 +150,7 @@ def main() -> None:
     args = arguments()
     args.out = None if args.out == "-" else args.out
     check_target(args)
-    write(converted(console.read_input(args.file), args), args.out)
+    console.write_output(converted(console.read_input(args.file), args), args.out)
 
 
 if __name__ == "__main__":

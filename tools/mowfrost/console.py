@@ -1,4 +1,4 @@
-"""How the tools read, complain and end: plain messages, no traceback for what is no fault of the program."""
+"""How the tools read, write, complain and end: plain messages, no traceback for what is no fault of the program."""
 
 from __future__ import annotations
 
@@ -60,6 +60,27 @@ def read_input(name: str) -> bytes:
         return sys.stdin.buffer.read()
     except OSError as fault:
         raise Stop(2, f"cannot read {shown(name)}: {fault.strerror or fault}") from None
+
+
+def check_target(name: str, out: str | None, what: str) -> None:
+    """Stops where the output cannot go: nowhere, or over the input itself, which would be lost."""
+    if out is None:
+        if sys.stdout is None:
+            raise Stop(2, "standard output is closed")
+    elif os.path.exists(name) and os.path.exists(out) and os.path.samefile(out, name):
+        raise Stop(2, f"--out names {what} itself, which would be lost")
+
+
+def write_output(data: bytes, out: str | None) -> None:
+    """To the file, or to standard output."""
+    if out is None:
+        sys.stdout.buffer.write(data)
+        return
+    try:
+        with open(out, "wb") as file:
+            file.write(data)
+    except OSError as fault:
+        raise Stop(2, f"cannot write {out}: {fault.strerror or fault}") from None
 
 
 def shown(name: str) -> str:

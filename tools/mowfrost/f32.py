@@ -5,6 +5,7 @@
 
 from __future__ import annotations
 
+import itertools
 import re
 import struct
 from decimal import ROUND_DOWN, ROUND_UP, Context, Decimal
@@ -19,6 +20,8 @@ NUMBER = re.compile(r"([+-]?)(?=\.?[0-9])([0-9]*)(?:\.([0-9]*))?(?:[eE]([+-]?[0-
 
 # Outside these powers of ten every f32 is 0, or there is none: so an exponent of many digits costs nothing.
 LEAST_POWER, GREATEST_POWER = -45, 39
+
+ANYWHERE = Fraction(2**128)  # no f32 lies so far from another of its sign
 
 
 def is_number(text: str) -> bool:
@@ -88,19 +91,30 @@ def is_finite(bits: int) -> bool:
 
 def shortest(bits: int) -> str:
     """The shortest decimal whose nearest f32 has these bits, of these the nearest, ties to even; -0 is written 0."""
+    text = to_text(bits)
+    return "0" if text == "-0" else text
+
+
+def to_text(bits: int, farthest: Fraction = ANYWHERE) -> str:
+    """The way back from from_text: the shortest decimal of a finite f32, of these the nearest, ties to even; -0 is -0.
+    Where it may not lie farther off than so much, it has as many more digits as that takes."""
     size = bits & ~SIGN
-    if size == 0:
-        return "0"
+    if not is_finite(size):
+        raise ValueError(f"{bits:08x} is no number but an infinity or a NaN")
+    return ("-" if bits & SIGN else "") + (written(shortest_decimal(size, farthest)) if size else "0")
+
+
+def shortest_decimal(size: int, farthest: Fraction) -> Decimal:
+    """The decimal of to_text, for bits of a number above zero."""
     exact = Decimal(value(size))
     # Of the decimals of one length the two beside the number are tried: at a power of two the nearer one may fall
-    # short and the other not. Nine digits tell all f32 apart.
-    for length in range(1, 10):
+    # short and the other not. Nine digits tell all f32 apart, and with all its digits a decimal is the number itself.
+    for length in itertools.count(1):
         beside = (Context(prec=length, rounding=way).create_decimal(exact) for way in (ROUND_DOWN, ROUND_UP))
-        same = [decimal for decimal in beside if from_decimal(decimal) == size]
-        if same:
-            break
-    best = min(same, key=lambda decimal: (abs(Fraction(decimal) - Fraction(exact)), decimal.as_tuple().digits[-1] % 2))
-    return ("-" if bits & SIGN else "") + written(best)
+        same = (decimal for decimal in beside if from_decimal(decimal) == size)
+        found = [(abs(Fraction(one) - Fraction(exact)), one.as_tuple().digits[-1] % 2, one) for one in same]
+        if found and min(found)[0] <= farthest:
+            return min(found)[2]
 
 
 def from_decimal(number: Decimal) -> int:

@@ -1,5 +1,5 @@
 """The examples in C compile without a warning. takeoff.c prints document 01's cube, what is left out, cells, and refusals;
-mount.c the takeoff of STL files, of the largest too."""
+mount.c the takeoff of STL files, of the largest too; correct.c changes one id of a mesh file and nothing else."""
 
 from __future__ import annotations
 
@@ -7,7 +7,8 @@ import os
 import subprocess
 import unittest
 
-from tests.common import EXAMPLES, ROOT, Case
+from mowfrost.meshfile import MOST, mesh_file
+from tests.common import CUBE_BYTES, EXAMPLES, ROOT, Case
 from tests.library import HEADER, to_link, tool
 from tests.stl import MOUNT, MOUNT_FILE, head, written
 
@@ -36,6 +37,8 @@ a coordinate that is no number: refused 4, the record is as it was
 a clip of 2: refused 5, the record is as it was
 """
 
+NAMES = ("takeoff", "mount", "correct")
+
 LARGEST = 10922  # triangles that mf_read_stl_large takes
 
 
@@ -48,7 +51,7 @@ def said(*words: str) -> tuple[int, str, str]:
 @unittest.skipUnless(COMPILER, "the example in C: there is no C compiler")
 class Compiled(Case):
     def test_header_and_examples_compile_without_a_warning(self) -> None:
-        for source in (HEADER, EXAMPLES / "takeoff.c", EXAMPLES / "mount.c"):
+        for source in (HEADER, *(EXAMPLES / f"{name}.c" for name in NAMES)):
             self.assertEqual(said(str(COMPILER), *STRICT, "-fsyntax-only", "-x", "c", str(source)), (0, "", ""))
 
     def compiled(self, name: str) -> str:
@@ -57,6 +60,8 @@ class Compiled(Case):
         if reason:
             self.skipTest(f"the examples in C are compiled and not run: {reason}")
         program = self.folder / f"{name}_c"
+        if program.exists():
+            return str(program)
         words = [*STRICT, str(EXAMPLES / f"{name}.c"), str(folder / "libcapi.a"), "-o", str(program)]
         self.assertEqual(said(str(COMPILER), *words), (0, "", ""))
         return str(program)
@@ -86,12 +91,68 @@ class Compiled(Case):
                 self.assertTrue(out.startswith(f"{path}: {says}"), out)
         self.assertEqual(said(program, "no such file")[0], 1)
 
+    def correct(self, data: bytes, position: object, id_: object) -> tuple[int, str, bytes | None]:
+        """Status of correct.c, what it prints without the names of the files, and the file that it writes, if any."""
+        given, out = self.folder / "given.mesh", self.folder / "out.mesh"
+        given.write_bytes(data)
+        out.unlink(missing_ok=True)
+        status, printed, errors = said(self.compiled("correct"), str(given), str(position), str(id_), str(out))
+        self.assertEqual(errors, "")
+        printed = printed.replace(str(given), "GIVEN").replace(str(out), "OUT")
+        return status, printed, out.read_bytes() if out.exists() else None
+
+    def test_a_corrected_id(self) -> None:
+        wrong = (EXAMPLES / "cube-wrong-id.mesh").read_bytes()
+        right = CUBE_BYTES + bytes.fromhex("02000000 0400 0000")
+        printed = "GIVEN: id 2 was 8, and is 3 in OUT, 270 bytes\n"
+        self.assertEqual(self.correct(wrong, 2, 3), (0, printed, right))
+        named = printed.strip().replace("GIVEN", "cube-wrong-id.mesh").replace("OUT", "../target/right.mesh")
+        self.assertIn(named, (EXAMPLES / "README.md").read_text())
+        self.assertEqual(self.correct(right, 2, 3), (0, printed.replace("8", "3"), right))
+        printed = "GIVEN: id 35 was 5, and is 4294967295 in OUT, 270 bytes\n"
+        printed += "OUT: 4294967295 names no vertex, there are 8\n"
+        last = right[:-12] + b"\xff\xff\xff\xff" + right[-8:]
+        self.assertEqual(self.correct(CUBE_BYTES, 35, 2**32 - 1), (0, printed, last))
+
+    def test_all_else_stays(self) -> None:
+        """Every bit of unit and floats, NaNs among them, the flags, and what is left over from threes."""
+        floats = [0x7F800001, 0xFFFFFFFF, 0x7FC00000, 0x80000000, 1, 0x7F800000, 0x3F800000]
+        full = [9] * (MOST - len(floats)) + floats
+        for unit, vertices, ids in ((0xFFC00001, floats, [7, 8, 9, 10]), (0x3F800000, full, [9] * MOST)):
+            data = mesh_file(unit, vertices, ids, True, "overlapping")
+            changed = mesh_file(unit, vertices, [*ids[:-1], 5], True, "overlapping")
+            self.assertEqual(self.correct(data, len(ids) - 1, 5)[::2], (0, changed))
+
+    def test_what_is_not_corrected(self) -> None:
+        for data, position, printed in (
+            (CUBE_BYTES[:-1], 0, "GIVEN: refused 5\n"),
+            (CUBE_BYTES + b"x", 0, "GIVEN: refused 5\n"),
+            (mesh_file(0, [0] * MOST, [0] * MOST, True) + b"x", 0, "GIVEN: refused 5\n"),
+            (mesh_file(0, [], [0] * (MOST + 1)), 0, "GIVEN: refused 6\n"),
+            (CUBE_BYTES, 36, "GIVEN: there is no id 36: there are 36, from 0 on\n"),
+            (mesh_file(0, [], []), 0, "GIVEN: there is no id 0: there are 0, from 0 on\n"),
+        ):
+            self.assertEqual(self.correct(data, position, 0), (1, printed, None))
+
+    def test_wrong_usage(self) -> None:
+        program = self.compiled("correct")
+        usage = (2, "", "usage: correct_c FILE POSITION ID OUT\n")
+        cube = str(EXAMPLES / "cube.mesh")
+        self.assertEqual(said(program), usage)
+        for word in ("", "-1", "+1", "1x", " 1", "0x1", "4294967296", "99999999999999999999"):
+            self.assertEqual(said(program, cube, word, "1", "none"), usage)
+            self.assertEqual(said(program, cube, "1", word, "none"), usage)
+        self.assertEqual(said(program, "no such file", "1", "1", "none")[0], 1)
+        status, out, errors = said(program, cube, "1", "1", str(self.folder / "absent" / "out.mesh"))
+        self.assertEqual((status, out), (1, ""))
+        self.assertIn("No such file", errors)
+
 
 class Readme(unittest.TestCase):
     def test_it_has_the_command(self) -> None:
         readme = (EXAMPLES / "README.md").read_text()
         flags = " ".join(STRICT[:-1])
-        for name in ("takeoff", "mount"):
+        for name in NAMES:
             command = f"cc {flags} -I../include {name}.c ../target/staticlib/libcapi.a -o ../target/{name}_c"
             self.assertIn(command, readme)
 

@@ -6,6 +6,7 @@ import random
 import struct
 import unittest
 from decimal import Context, Decimal
+from fractions import Fraction
 
 from mowfrost import f32
 
@@ -96,6 +97,11 @@ def spread(count: int) -> list[int]:
     return [chance.randrange(1, 0x7F7FFFFF) for _ in range(count)] + [power << 23 for power in range(1, 255)]
 
 
+def digits(text: str) -> int:
+    """How many digits a decimal has, without zeros at its ends."""
+    return len(Context(prec=200).normalize(Decimal(text)).as_tuple().digits)
+
+
 class FromText(unittest.TestCase):
     def test_hard_cases(self) -> None:
         for text, bits in HARD.items():
@@ -142,10 +148,69 @@ class Shortest(unittest.TestCase):
         for bits in spread(500):
             text = f32.shortest(bits)
             self.assertEqual(f32.from_text(text), bits)
-            length = len(Decimal(text).normalize().as_tuple().digits)
+            length = digits(text)
             for way in ("ROUND_DOWN", "ROUND_UP") if length > 1 else ():
                 shorter = Context(prec=length - 1, rounding=way).create_decimal(Decimal(f32.value(bits)))
                 self.assertNotEqual(f32.from_decimal(shorter), bits)
+
+
+class ToText(unittest.TestCase):
+    """The way back from from_text."""
+
+    def check(self, bits: int, farthest: Fraction = f32.ANYWHERE) -> str:
+        """The text has just these bits, and lies no farther off."""
+        text = f32.to_text(bits, farthest)
+        self.assertEqual(f"{f32.from_text(text):08x}", f"{bits:08x}", text)
+        self.assertLessEqual(abs(f32.exact(text) - Fraction(f32.value(bits))), farthest, text)
+        return text
+
+    def test_zeros_keep_their_sign(self) -> None:
+        self.assertEqual((self.check(0), self.check(0x80000000)), ("0", "-0"))
+
+    def test_known(self) -> None:
+        for bits, text in SHORTEST.items():
+            self.assertEqual(self.check(bits), "-0" if bits == 0x80000000 else text)
+            self.assertEqual(self.check(bits ^ 0x80000000).lstrip("-"), text.lstrip("-"))
+
+    def test_bits_of_all_sorts(self) -> None:
+        """By chance, about every power of two, the first and the last subnormal ones, the largest; both signs."""
+        about = [near for power in range(255) for near in range((power << 23) - 2, (power << 23) + 3) if near >= 0]
+        ends = [*range(200), *range(0x7FFF80, 0x800080), *range(0x7F7FFF80, 0x7F800000)]
+        chance = random.Random(2)
+        small = [chance.randrange(0x800000) for _ in range(300)]
+        for bits in {*spread(1500), *about, *ends, *small}:
+            self.check(bits)
+            self.check(bits | 0x80000000)
+
+    def test_no_farther_off(self) -> None:
+        for bits, farthest, text in (
+            (0x4911C085, Fraction(1, 10000), "597000.3125"),
+            (0x4911C085, Fraction(1, 80), "597000.3"),
+            (0x50000000, Fraction(1), "8589934592"),
+            (0x50000000, Fraction(2), "8589934590"),
+            (0x3DCCCCCD, Fraction(1, 10**8), "0.1"),
+            (0x3DCCCCCD, Fraction(1, 10**10), "0.1000000015"),
+            (0x3DCCCCCD, Fraction(0), "0.100000001490116119384765625"),
+            (0x7F7FFFFF, Fraction(1, 2), "3.4028234663852885981170418348451692544e+38"),
+        ):
+            self.assertEqual(self.check(bits, farthest), text)
+        for farthest in (Fraction(0), Fraction(1, 10**6), Fraction(1, 3), Fraction(10**6)):
+            for bits in spread(200):
+                length = digits(self.check(bits, farthest))
+                for way in ("ROUND_DOWN", "ROUND_UP") if length > 1 else ():
+                    shorter = Context(prec=length - 1, rounding=way).create_decimal(Decimal(f32.value(bits)))
+                    off = abs(Fraction(shorter) - Fraction(f32.value(bits)))
+                    self.assertTrue(off > farthest or f32.from_decimal(shorter) != bits, shorter)
+
+    def test_with_more_room_it_is_never_longer(self) -> None:
+        for bits in spread(200):
+            lengths = [digits(f32.to_text(bits, Fraction(1, 10**n))) for n in range(9)]
+            self.assertEqual(lengths, sorted(lengths))
+
+    def test_what_is_no_number(self) -> None:
+        for bits in (0x7F800000, 0xFF800000, 0x7FC00000, 0xFFFFFFFF, 0x7F800001):
+            with self.assertRaisesRegex(ValueError, f"{bits:08x} is no number but an infinity or a NaN"):
+                f32.to_text(bits)
 
 
 if __name__ == "__main__":

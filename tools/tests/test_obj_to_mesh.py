@@ -42,6 +42,8 @@ class Files(Case):
             (["--clip"], "0100"),
             (["--defect", "self_intersecting"], "0001"),
             (["--defect", "overlapping", "--clip"], "0104"),
+            (["--flag-record"], "0000"),
+            (["--flag-record", "--clip"], "0100"),
         ):
             self.check(run(TOOL, *args, CUBE), 0, "", CUBE_BYTES + bytes.fromhex("02000000 0400" + flags))
 
@@ -52,7 +54,7 @@ class Files(Case):
     def test_help(self) -> None:
         done = run(TOOL, "--help")
         self.assertEqual(done.returncode, 0)
-        options = ["--unit", "--origin", "--clip", "--defect", "--out"]
+        options = ["--unit", "--origin", "--clip", "--defect", "--flag-record", "--out", "mesh_to_obj.py"]
         for word in [*options, "self_intersecting", "exit status", "fan", "dent", "crosses itself", "0.0001 m"]:
             self.assertIn(word, done.stdout.decode())
 

@@ -56,7 +56,14 @@ pub extern "C" fn mf_write_mesh(
     if !record::flags_fit(clip, defect) {
         return REFUSED + 5;
     }
-    let answer = meshfile::write(unit, vertices, ids, clip == 1, record::profile_of(defect), bytes);
+    let answer = meshfile::write(
+        unit,
+        vertices,
+        ids,
+        clip == 1,
+        record::profile_of(defect),
+        bytes,
+    );
     match answer {
         Writing::Length(n) => n as u32,
         Writing::Refused(n) => REFUSED + n as u32,
@@ -65,7 +72,12 @@ pub extern "C" fn mf_write_mesh(
 
 // A file's vertices and ids, and in counts their numbers, the unit and the flags; or a refusal, which leaves all as it was.
 #[no_mangle]
-pub extern "C" fn mf_read_mesh(bytes: &[u8], vertices: &mut [u32], ids: &mut [u32], counts: &mut [u32; 5]) -> u32
+pub extern "C" fn mf_read_mesh(
+    bytes: &[u8],
+    vertices: &mut [u32],
+    ids: &mut [u32],
+    counts: &mut [u32; 5],
+) -> u32
     ensures { λ r. ⌜ ReadsNumbered (now (bytes .entry)) (now (vertices .entry)) (now (ids .entry)) (now (counts .entry)) r
         (now (vertices .exit)) (now (ids .exit)) (now (counts .exit)) ⌝ }
 {

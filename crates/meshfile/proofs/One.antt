@@ -177,7 +177,8 @@ after-floats (File.Holds m) i ps = rw (length-floats ps) (short-floats (meshArea
 
 pub read-as-floats : ReadAsFloats
 read-as-floats bytes ps ids b ps′ ids₁ r vs′ ids₂ x y =
-    let long = length-floats ps in
-    (y .answers ∙ rw (long, x .answers),
-     y .vertices ∙ after-floats (fileOf bytes) (length ids) ps ∙ ap floatsOf (sym (x .vertices)),
-     y .ids-after ∙ rw (long, x .ids-after))
+    let long = length-floats ps in (
+      y .answers ∙ rw (long, x .answers),
+      y .vertices ∙ after-floats (fileOf bytes) (length ids) ps ∙ ap floatsOf (sym (x .vertices)),
+      y .ids-after ∙ rw (long, x .ids-after),
+    )

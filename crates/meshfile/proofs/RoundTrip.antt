@@ -80,9 +80,9 @@ module _ (bytes : List ℕ) (below : Below 256 bytes) (k : Contents) (held : fil
   bytes-again =
       let end : ℕ = 22 + 4 * length (k .vertices) + 4 * length (k .ids) in
       ⊎-elim (λ e. let longer : end < length bytes = omega (arith, ap length e, file-long k) in
-        rw (lt-ltb end (length bytes) longer) (sym e))
+      rw (lt-ltb end (length bytes) longer) (sym e))
       (λ e. let none : length bytes ≤ end = omega (arith, ap length (e .0), plain-long k) in
-        rw (le-ltb end (length bytes) none, e .0) (ap (λ (l : List ℕ). plainFile k ++ chunkOf 4 l) (no-flags (k .clip) (k .defect) (e .1) (e .2))))
+      rw (le-ltb end (length bytes) none, e .0) (ap (λ (l : List ℕ). plainFile k ++ chunkOf 4 l) (no-flags (k .clip) (k .defect) (e .1) (e .2))))
       (accepts-only k bytes below held .1)
 
   pub held-again : (area : List ℕ) (w : Writing) (area′ : List ℕ)
@@ -108,9 +108,9 @@ module _ (bytes : List ℕ) (below : Below 256 bytes) (ps ids : List ℕ) (m : M
       let short = meshAreasShort k (length ps) (length ids) in
       let r = read-held short k m h in
       let vertices : take (length (k .vertices)) ps′ ≡ k .vertices
-          = rw (hv, r .0) (take-at (k .vertices) (drop (length (k .vertices)) ps) (length (k .vertices)) refl) in
+      = rw (hv, r .0) (take-at (k .vertices) (drop (length (k .vertices)) ps) (length (k .vertices)) refl) in
       let named : take (length (k .ids)) ids′ ≡ k .ids
-          = rw (hi, r .0) (take-at (k .ids) (drop (length (k .ids)) ids) (length (k .ids)) refl) in
+      = rw (hi, r .0) (take-at (k .ids) (drop (length (k .ids)) ids) (length (k .ids)) refl) in
       rw (r .1) (held-again bytes below k e area w area′ (rw (r .1, vertices, named) at x))
 
 pub writes-back : WritesBack

@@ -65,7 +65,14 @@ fn put_file(unit: u32, vertices: &[u32], ids: &[u32], clip: bool, profile: Profi
 
 // The file, kind 4 among its records, goes to the front of the bytes. A refusal writes nothing: 6 for more than 1,536 floats or ids, then
 // 3 for too few bytes.
-pub fn write(unit: u32, vertices: &[u32], ids: &[u32], clip: bool, profile: Profile, bytes: &mut [u8]) -> Writing
+pub fn write(
+    unit: u32,
+    vertices: &[u32],
+    ids: &[u32],
+    clip: bool,
+    profile: Profile,
+    bytes: &mut [u8],
+) -> Writing
     ensures { λ r. ⌜ Writes (contentsOf unit (now (vertices .entry)) (now (ids .entry)) clip profile) (now (bytes .entry)) r
         (now (bytes .exit)) ⌝ }
 {

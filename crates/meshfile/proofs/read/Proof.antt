@@ -65,7 +65,6 @@ returns-2 c =
     rw (c .with-float .ensures) (given floatsOf asFloats _ _ _ _ (whole (vertices .before .before .before)) _ _ _
     (beside .bits-beside .ensures) (vertices .fill-floats .ensures) (ids .fill-words .ensures))
 
-
 pub read-spec : {M : Type 1} → statement M
 read-spec =
     tie.close

@@ -62,7 +62,6 @@ returns-2 c =
     given (λ (ws : List ℕ). ws) (λ (r : ReadingBits). r) _ _ _ _ (whole (vertices .before .before .before)) _ _ _ (beside .bits-beside .ensures)
     (vertices .fill-words .ensures) (ids .fill-words2 .ensures)
 
-
 pub read-bits-spec : {M : Type 1} → statement M
 read-bits-spec =
     tie.close

@@ -7,17 +7,17 @@ use crate::random::Random;
 
 pub type Damage = (&'static str, fn(&mut Random, &mut Vec<Record>));
 
-/// What is done to the records of a file. Behind all of it the bytes may still be cut or go on.
+/// What is done to the records of a file: of the first nothing. Behind all of it the bytes may still be cut or go on.
 pub const DAMAGES: [Damage; 9] = [
-    ("nothing", |_, _| {}),
-    ("a kind", |random, records| kind(random, records)),
-    ("a length", |random, records| told_length(random, records)),
-    ("a payload", |random, records| payload(random, records)),
+    ("cut or going on", |_, _| {}),
+    ("another kind", |random, records| kind(random, records)),
+    ("another length", |random, records| told_length(random, records)),
+    ("another payload", |random, records| payload(random, records)),
     ("flag values", flag_values),
     ("a long length", promised),
     ("too many", |random, records| too_many(random, records)),
-    ("records", order),
-    ("a bit", |random, records| a_bit(random, records)),
+    ("other records", order),
+    ("a bit changed", |random, records| a_bit(random, records)),
 ];
 
 /// What is done to the bytes.

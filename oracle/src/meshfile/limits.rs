@@ -74,15 +74,14 @@ pub fn reads(mut take: impl FnMut(&str, &[u8], Lent)) {
     for [clip, defect] in (0..=u16::MAX).map(u16::to_le_bytes) {
         with("flag bytes", 3, (4, 2, vec![clip, defect]), 4);
     }
-    for at in 0..4 {
-        let (kind, length, payload) = right[at].clone();
-        (0..=u16::MAX).for_each(|kind| with("kinds", at, (kind, length, payload.clone()), 4));
+    for (at, (kind, length, payload)) in right.iter().enumerate() {
+        (0..=u16::MAX).for_each(|kind| with("kinds", at, (kind, *length, payload.clone()), 4));
         // as they are told, with what was there before, and with nothing
         let most = 4 * MOST as u32 + 9;
         let powers = (3..32).flat_map(|k| [-5i64, -4, -1, 0, 1, 4].map(|off| ((1i64 << k) + off) as u32));
         for length in (0..most).chain(powers).chain([u32::MAX - 3, u32::MAX - 1, u32::MAX]) {
-            with("lengths as told", at, (kind, length, payload.clone()), 4);
-            with("lengths as told, nothing there", at, (kind, length, vec![]), at + 1);
+            with("lengths as told", at, (*kind, length, payload.clone()), 4);
+            with("lengths as told, nothing there", at, (*kind, length, vec![]), at + 1);
         }
     }
     for at in [1, 2] {

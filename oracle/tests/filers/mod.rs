@@ -189,7 +189,7 @@ pub fn wrong_writers() -> Vec<(&'static str, Writer)> {
         ("a unit that is a NaN made quiet", Writer { unit: quieted, ..WRITES }),
         ("one NaN for all units", Writer { unit: one_nan, ..WRITES }),
         ("lengths in words", Writer { lengths: |n| n as u32, ..WRITES }),
-        ("lengths in a byte", Writer { lengths: |n| 4 * n as u32 & 0xff, ..WRITES }),
+        ("lengths in a byte", Writer { lengths: |n| (4 * n as u32) & 0xff, ..WRITES }),
         ("kinds 2 and 3 swapped", Writer { kinds: [1, 3, 2, 4], ..WRITES }),
         ("no kind 4", Writer { flags: |_, _| vec![], ..WRITES }),
         (

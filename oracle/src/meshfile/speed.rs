@@ -4,8 +4,9 @@
 use super::areas::{Reading, Writing};
 use super::capi;
 use super::meshes::words;
-use super::promise::Call;
+use super::promise::{counts, Call};
 use crate::file::{length, parts, words as words_of, write_patterns, Flags, Parts, Patterns, MOST};
+use crate::linked::bits;
 use crate::random::Random;
 use crate::solids::Shape;
 use std::hint::black_box;
@@ -13,7 +14,7 @@ use std::time::Instant;
 
 /// Seconds that a race takes at least, and how many turns.
 const ENOUGH: f64 = 0.4;
-const TURNS: usize = 15;
+const TURNS: usize = PAGE / STEP;
 /// Seconds that a turn takes at least: a call on a small file is too short to be measured.
 const TURN: f64 = 0.0005;
 
@@ -73,6 +74,54 @@ pub fn read(bytes: &[u8], vertices: &mut [u32], ids: &mut [u32], counts: &mut [u
     Ok(())
 }
 
+/// What both sides of a race are passed and lent: the same slices. The file begins at another place in every turn: how far its bytes are from
+/// the words that they are copied from or to, modulo a page, tells much.
+struct Slices {
+    mesh: Patterns,
+    counts: [u32; 5],
+    bytes: Vec<u8>,
+    from: usize,
+}
+
+/// The places where a file may begin, and how far one is from the next.
+const PAGE: usize = 4096;
+const STEP: usize = 16;
+
+type Side = fn(&mut Slices) -> u32;
+
+impl Slices {
+    fn new(mesh: &Patterns) -> Slices {
+        let long = length(mesh.vertices.len(), mesh.ids.len());
+        Slices { mesh: mesh.clone(), counts: counts(mesh), bytes: vec![1; PAGE + long], from: 0 }
+    }
+
+    /// All of them, the file's bytes last.
+    fn parts(&mut self) -> (&mut Patterns, &mut [u32; 5], &mut [u8]) {
+        let long = length(self.mesh.vertices.len(), self.mesh.ids.len());
+        (&mut self.mesh, &mut self.counts, &mut self.bytes[self.from..self.from + long])
+    }
+}
+
+fn port_writes(slices: &mut Slices) -> u32 {
+    let (Patterns { unit, vertices, ids, flags: Flags { clip, defect } }, _, bytes) = slices.parts();
+    capi::write(Writing { unit: *unit, vertices, ids, clip: *clip as u32, defect: *defect as u32, bytes })
+}
+
+fn rust_writes(slices: &mut Slices) -> u32 {
+    let (mesh, _, bytes) = slices.parts();
+    write(&Call::of(mesh), bytes).unwrap_or_else(|number| number)
+}
+
+fn port_reads(slices: &mut Slices) -> u32 {
+    let (Patterns { vertices, ids, .. }, counts, bytes) = slices.parts();
+    capi::read(Reading { bytes, vertices, ids, counts })
+}
+
+fn rust_reads(slices: &mut Slices) -> u32 {
+    let (Patterns { vertices, ids, .. }, counts, bytes) = slices.parts();
+    read(bytes, vertices, ids, counts).map_or_else(|number| number, |()| 0)
+}
+
 /// A cube, a quarter of a full file and a full one; each written and read.
 pub fn rows() -> impl Iterator<Item = Row> {
     let random = &mut Random::new(7);
@@ -83,73 +132,56 @@ pub fn rows() -> impl Iterator<Item = Row> {
         flags: Flags { clip: true, defect: 3 },
     });
     let Shape { vertices, ids } = Shape::cube(2.0);
-    let cube = Patterns { vertices: crate::linked::bits(&vertices), ids, ..full[0].clone() };
-    let meshes = [cube].into_iter().chain(full);
-    meshes.collect::<Vec<_>>().into_iter().flat_map(|mesh| [race_write(&mesh), race_read(&mesh)])
-}
-
-fn race_write(mesh: &Patterns) -> Row {
-    let call = Call::of(mesh);
-    let (mut vertices, mut ids) = (mesh.vertices.clone(), mesh.ids.clone());
-    let (mut here, mut there) = (vec![1; call.asks()], vec![1; call.asks()]);
-    let mut port = || {
-        let (vertices, ids, bytes) = black_box((&mut vertices[..], &mut ids[..], &mut here[..]));
-        let answer =
-            capi::write(Writing { unit: call.unit, vertices, ids, clip: call.clip, defect: call.defect, bytes });
-        black_box(&here);
-        answer
-    };
-    let mut rust = || {
-        let (call, bytes) = black_box((&call, &mut there[..]));
-        let answer = write(call, bytes);
-        black_box(&there);
-        answer
-    };
-    let [port, rust] = race(&mut port, &mut rust);
-    assert_eq!(here, there, "both write the file");
-    Row { routine: "write_mesh", floats: mesh.vertices.len(), ids: mesh.ids.len(), port, rust }
-}
-
-fn race_read(mesh: &Patterns) -> Row {
-    let file = write_patterns(mesh, true);
-    let mut bytes = file.clone();
-    let areas = || (vec![1; mesh.vertices.len()], vec![1; mesh.ids.len()], [1; 5]);
-    let (mut here, mut there) = (areas(), areas());
-    let mut port = || {
-        let (vertices, ids, counts) = &mut here;
-        let (bytes, vertices, ids, counts) = black_box((&mut bytes[..], &mut vertices[..], &mut ids[..], counts));
-        let answer = capi::read(Reading { bytes, vertices, ids, counts });
-        black_box(&here);
-        answer
-    };
-    let mut rust = || {
-        let (vertices, ids, counts) = &mut there;
-        let (bytes, vertices, ids, counts) = black_box((&file[..], &mut vertices[..], &mut ids[..], counts));
-        let answer = read(bytes, vertices, ids, counts);
-        black_box(&there);
-        answer
-    };
-    let [port, rust] = race(&mut port, &mut rust);
-    assert!(here == there && here.0 == mesh.vertices, "both read the file");
-    Row { routine: "read_mesh", floats: mesh.vertices.len(), ids: mesh.ids.len(), port, rust }
+    let cube = Patterns { vertices: bits(&vertices), ids, ..full[0].clone() };
+    let meshes = [cube].into_iter().chain(full).collect::<Vec<_>>();
+    meshes.into_iter().flat_map(|mesh| {
+        [("write_mesh", [port_writes as Side, rust_writes]), ("read_mesh", [port_reads, rust_reads])]
+            .map(|(routine, sides)| race(routine, &mesh, sides))
+    })
 }
 
 /// The best of several turns, one after the other.
-fn race<T, U>(mut port: impl FnMut() -> T, mut rust: impl FnMut() -> U) -> [f64; 2] {
-    let once = time(1, &mut port).min(time(1, &mut rust));
+fn race(routine: &'static str, mesh: &Patterns, [port, rust]: [Side; 2]) -> Row {
+    let (mut slices, file) = (Slices::new(mesh), write_patterns(mesh, true));
+    let place = |slices: &mut Slices, from: usize| {
+        slices.from = from;
+        slices.parts().2.copy_from_slice(&file);
+    };
+    for side in [port, rust] {
+        place(&mut slices, STEP);
+        spoil(routine, &mut slices);
+        side(&mut slices);
+        let (now, numbers, bytes) = slices.parts();
+        assert!(now == mesh && *numbers == counts(mesh) && *bytes == file, "each side does the work");
+    }
+    let once = time(1, port, &mut slices).min(time(1, rust, &mut slices));
     let calls = (TURN / once).ceil() as usize;
-    let (mut best, begun, mut turns) = ([f64::INFINITY; 2], Instant::now(), 0);
+    let mut row =
+        Row { routine, floats: mesh.vertices.len(), ids: mesh.ids.len(), port: f64::INFINITY, rust: f64::INFINITY };
+    let (begun, mut turns) = (Instant::now(), 0);
     while turns < TURNS || begun.elapsed().as_secs_f64() < ENOUGH {
-        best = [best[0].min(time(calls, &mut port)), best[1].min(time(calls, &mut rust))];
+        place(&mut slices, STEP * turns % PAGE);
+        row.port = row.port.min(time(calls, port, &mut slices));
+        row.rust = row.rust.min(time(calls, rust, &mut slices));
         turns += 1;
     }
-    best
+    row
 }
 
-fn time<T>(calls: usize, mut f: impl FnMut() -> T) -> f64 {
+/// Whatever the routine has to write is otherwise before it.
+fn spoil(routine: &str, slices: &mut Slices) {
+    let (Patterns { vertices, ids, .. }, counts, bytes) = slices.parts();
+    if routine == "write_mesh" {
+        bytes.iter_mut().for_each(|byte| *byte ^= 1);
+    } else {
+        vertices.iter_mut().chain(ids).chain(counts).for_each(|word| *word ^= 1);
+    }
+}
+
+fn time(calls: usize, side: Side, slices: &mut Slices) -> f64 {
     let start = Instant::now();
     for _ in 0..calls {
-        black_box(f());
+        black_box(black_box(side)(black_box(&mut *slices)));
     }
     start.elapsed().as_secs_f64() / calls as f64
 }

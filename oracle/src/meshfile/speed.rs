@@ -74,8 +74,8 @@ pub fn read(bytes: &[u8], vertices: &mut [u32], ids: &mut [u32], counts: &mut [u
     Ok(())
 }
 
-/// What both sides of a race are passed and lent: the same slices. The file begins at another place in every turn: how far its bytes are from
-/// the words that they are copied from or to, modulo a page, tells much.
+/// What both sides of a race are passed and lent: the same slices. The file begins at another place in every turn: how far its bytes
+/// are from the words that they are copied from or to, modulo a page, tells much.
 struct Slices {
     mesh: Patterns,
     counts: [u32; 5],

@@ -1,9 +1,18 @@
-//! The program's input (01, 'The program `takeoff`'): bytes to a mesh with its flags, and back.
+//! The program's input (01, 'The program `takeoff`'): bytes to a mesh with its flags, and back, its floats as numbers or in bits.
 
+use crate::linked::bits;
 use crate::mesh::profile_check::ProfileDefect;
 
 /// At most so many floats, and so many ids, in a file.
 pub const MOST: usize = 1536;
+
+/// The bytes of a file of so many floats and ids, with its kind 4.
+pub const fn length(floats: usize, ids: usize) -> usize {
+    6 + 4 + 6 + 4 * floats + 6 + 4 * ids + FLAGS
+}
+
+/// The bytes of kind 4.
+pub const FLAGS: usize = 6 + 2;
 
 #[derive(Clone, Debug, Default)]
 pub struct MeshFile {
@@ -11,6 +20,27 @@ pub struct MeshFile {
     pub vertices: Vec<f32>,
     pub ids: Vec<u32>,
     pub flags: Flags,
+}
+
+/// The same with its floats in bits, as they stand in the file: there a NaN is a word like any other.
+#[derive(Clone, Debug, Default, PartialEq)]
+pub struct Patterns {
+    pub unit: u32,
+    pub vertices: Vec<u32>,
+    pub ids: Vec<u32>,
+    pub flags: Flags,
+}
+
+impl Patterns {
+    pub fn of(mesh: &MeshFile) -> Patterns {
+        let MeshFile { unit, vertices, ids, flags } = mesh;
+        Patterns { unit: unit.to_bits(), vertices: bits(vertices), ids: ids.clone(), flags: *flags }
+    }
+
+    pub fn mesh(self) -> MeshFile {
+        let vertices = self.vertices.into_iter().map(f32::from_bits).collect();
+        MeshFile { unit: f32::from_bits(self.unit), vertices, ids: self.ids, flags: self.flags }
+    }
 }
 
 /// Kind 4, in its own numbers: defect 0 is none, 1 to 4 are as `ProfileDefect` lists them.
@@ -58,16 +88,25 @@ impl<'a> Rest<'a> {
     }
 }
 
-fn words(payload: &[u8]) -> impl Iterator<Item = u32> + '_ {
+/// Four bytes a word.
+pub fn words(payload: &[u8]) -> impl Iterator<Item = u32> + '_ {
     payload.chunks_exact(4).map(|w| u32::from_le_bytes([w[0], w[1], w[2], w[3]]))
 }
 
-/// The mesh that the bytes hold, or the refusal, 5 or 6, of the fault met first.
-pub fn read(bytes: &[u8]) -> Result<MeshFile, u32> {
+/// What stands in a whole file: the payloads of the first three kinds, and the flags.
+pub struct Parts<'a> {
+    pub unit: &'a [u8],
+    pub floats: &'a [u8],
+    pub ids: &'a [u8],
+    pub flags: Flags,
+}
+
+/// The parts of a file, or the refusal, 5 or 6, of the fault met first.
+pub fn parts(bytes: &[u8]) -> Result<Parts<'_>, u32> {
     let mut rest = Rest(bytes);
-    let unit = words(rest.record(1, |n| n == 4)?).map(f32::from_bits).next().ok_or(5u32)?;
-    let vertices = words(rest.record(2, |n| n % 4 == 0)?).map(f32::from_bits).collect();
-    let ids = words(rest.record(3, |n| n % 4 == 0)?).collect();
+    let unit = rest.record(1, |n| n == 4)?;
+    let floats = rest.record(2, |n| n % 4 == 0)?;
+    let ids = rest.record(3, |n| n % 4 == 0)?;
     let mut flags = Flags::default();
     if !rest.0.is_empty() {
         flags = match rest.record(4, |n| n == 2)? {
@@ -78,24 +117,55 @@ pub fn read(bytes: &[u8]) -> Result<MeshFile, u32> {
     if !rest.0.is_empty() {
         return Err(5);
     }
-    Ok(MeshFile { unit, vertices, ids, flags })
+    Ok(Parts { unit, floats, ids, flags })
+}
+
+/// The mesh that the bytes hold, bit for bit, or the refusal.
+pub fn patterns(bytes: &[u8]) -> Result<Patterns, u32> {
+    let Parts { unit, floats, ids, flags } = parts(bytes)?;
+    let unit = words(unit).next().ok_or(5u32)?;
+    Ok(Patterns { unit, vertices: words(floats).collect(), ids: words(ids).collect(), flags })
+}
+
+/// The same with numbers for floats.
+pub fn read(bytes: &[u8]) -> Result<MeshFile, u32> {
+    patterns(bytes).map(Patterns::mesh)
+}
+
+/// A record as it may stand in a file, right or wrong: a kind, the length that is told, and what is there of it.
+pub type Record = (u16, u32, Vec<u8>);
+
+/// Records one behind the other.
+pub fn joined(records: &[Record]) -> Vec<u8> {
+    let mut bytes = Vec::with_capacity(records.iter().map(|(_, _, payload)| 6 + payload.len()).sum());
+    for (kind, length, payload) in records {
+        bytes.extend(length.to_le_bytes());
+        bytes.extend(kind.to_le_bytes());
+        bytes.extend(payload);
+    }
+    bytes
 }
 
 /// One record of the format, whatever it says.
 pub fn push_record(to: &mut Vec<u8>, kind: u16, payload: &[u8]) {
-    to.extend((payload.len() as u32).to_le_bytes());
-    to.extend(kind.to_le_bytes());
-    to.extend(payload);
+    to.extend(joined(&[(kind, payload.len() as u32, payload.to_vec())]));
 }
 
-/// The mesh in the program's format. Kind 4 is written where `with_flags` says so, and wherever a flag is set.
+/// The records of a mesh, all four of them.
+pub fn records(mesh: &Patterns) -> [Record; 4] {
+    let bytes = |words: &[u32]| words.iter().flat_map(|word| word.to_le_bytes()).collect::<Vec<u8>>();
+    let record = |kind: u16, payload: Vec<u8>| (kind, payload.len() as u32, payload);
+    let flags = vec![mesh.flags.clip as u8, mesh.flags.defect];
+    [record(1, bytes(&[mesh.unit])), record(2, bytes(&mesh.vertices)), record(3, bytes(&mesh.ids)), record(4, flags)]
+}
+
+/// The mesh in the program's format, bit for bit. Kind 4 is written where `with_flags` says so, and wherever a flag is set.
+pub fn write_patterns(mesh: &Patterns, with_flags: bool) -> Vec<u8> {
+    let with_flags = with_flags || mesh.flags != Flags::default();
+    joined(&records(mesh)[..3 + with_flags as usize])
+}
+
+/// The same from numbers.
 pub fn write(mesh: &MeshFile, with_flags: bool) -> Vec<u8> {
-    let mut bytes = Vec::new();
-    push_record(&mut bytes, 1, &mesh.unit.to_bits().to_le_bytes());
-    push_record(&mut bytes, 2, &mesh.vertices.iter().flat_map(|v| v.to_bits().to_le_bytes()).collect::<Vec<u8>>());
-    push_record(&mut bytes, 3, &mesh.ids.iter().flat_map(|i| i.to_le_bytes()).collect::<Vec<u8>>());
-    if with_flags || mesh.flags != Flags::default() {
-        push_record(&mut bytes, 4, &[mesh.flags.clip as u8, mesh.flags.defect]);
-    }
-    bytes
+    write_patterns(&Patterns::of(mesh), with_flags)
 }

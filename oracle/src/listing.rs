@@ -2,6 +2,7 @@
 
 use crate::file::{self, MeshFile};
 use crate::mesh::qto::probe;
+use crate::meshfile;
 use crate::pieces::pieces;
 use crate::record::{compute, Answer, Exception, Lent, Record};
 use std::fmt::Write;
@@ -25,11 +26,12 @@ pub fn listed(read: Result<MeshFile, u32>) -> (String, Exception) {
 
 /// The text that `replay` has to print for a file: its listing, and where the file could be read, also with a refusal of
 /// the mesh, a line with what the routines on ids answer, the refusal of the same mesh with one work word less, and where there is a
-/// record the cells beside it.
+/// record the cells beside it; then a line with how the file is written back.
 pub fn replayed(bytes: &[u8]) -> (String, Exception) {
     let (mut text, exception) = listing(bytes);
     if let Ok(mesh) = file::read(bytes) {
         text += &format!("{} short {}{}\n", routines(&mesh.ids), one_word_short(&mesh), footprints(&mesh));
+        text += &meshfile::replayed::line(bytes);
     }
     (text, exception)
 }

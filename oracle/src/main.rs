@@ -6,7 +6,7 @@ use mowfrost_oracle::reach::Reach;
 use mowfrost_oracle::record::Exception;
 use mowfrost_oracle::stl::{self, MOUNTS};
 use mowfrost_oracle::stored::{self, Stored};
-use mowfrost_oracle::{frames, kinds, sent};
+use mowfrost_oracle::{frames, kinds, meshfile, sent};
 use std::io::{self, BufWriter, ErrorKind, Read, Write};
 use std::process::ExitCode;
 
@@ -35,7 +35,10 @@ oracle: the unchanged Rust original, asked in document 01's words
                                each listing and, where the file could be read, 'chain B O net L Z manifold M winding W short R':
                                boundary-free, over-incident, largest face sum, all sums 0, the two answers, and the refusal
                                of the mesh with one work word less (0 for a record); where the mesh has a record, behind it
-                               'pairs C R C R C R': covered and rim cells of the z, y and x footprints
+                               'pairs C R C R C R': covered and rim cells of the z, y and x footprints; then a line
+                               'written N A short R': length and Adler-32 of the file written back, kind 4 always there, and the
+                               refusal of an area one byte short. Behind all meshes 'many 6 6': the refusals of 1,537 floats and
+                               of 1,537 ids over an area of no bytes
   oracle replayed stl          standard input: STL files in that framing; prints what 'replay' has to print for them, behind
                                all else: each listing or 'refused N'
   oracle answer-stl            standard input: one STL file, without a length before it; prints its listing or 'refused N', as
@@ -105,6 +108,15 @@ MOWFROST_PORT names a folder with a libcapi.a and a libprobe.a of its kind when 
                                digits. Then the record of the mesh that was read, without flags and at unit 0.001, as for
                                'compute', beside the original's of the mesh that a plain reader has; what the files had and
                                reached is counted; last line 'A agree, D differ'
+  oracle mesh-file SEED COUNT  the writer and the reader of mesh files in bits, at every limit by name; then COUNT round trips each
+                               way by chance: a mesh of any bits and lengths, with each pair of flags, to a file and back, and a
+                               file with or without kind 4 to a mesh and back; over areas that are exact, longer, one place short,
+                               far too short and of nothing. Then COUNT calls of the writer with every set of faults and COUNT
+                               damaged files: answers, refusals, every byte of the file beside a plain writer, every place of the
+                               areas, and that what was passed is as it was, all bit for bit, NaNs and units too; what was
+                               reached is counted; last line 'A agree, D differ'
+  oracle speed mesh-file       microseconds a file of the cube, a quarter full and full, written and read, beside plain forms in
+                               Rust that try the same and fill the same slices
   oracle speed stl             microseconds a file of up to 170 and of up to 10,922 triangles, beside a plain form in Rust that
                                tries the same and fills the same two slices
   oracle speed compute         milliseconds a record, at an eighth of the most triangles up to all; nanoseconds for small;
@@ -120,9 +132,9 @@ fn main() -> ExitCode {
     let args: Vec<String> = std::env::args().skip(1).collect();
     let words: Vec<&str> = args.iter().map(String::as_str).collect();
     let done = match words.as_slice() {
-        ["listing"] => print_texts(listing),
-        ["replayed"] => print_texts(replayed),
-        ["replayed", "stl"] => print_texts(stl::listing),
+        ["listing"] => print_texts(listing, ""),
+        ["replayed"] => print_texts(replayed, &meshfile::replayed::many()),
+        ["replayed", "stl"] => print_texts(stl::listing, ""),
         ["answer"] => print_answer(listing),
         ["answer-stl"] => print_answer(stl::listing),
         ["stored"] => write_stored(stored::all()),
@@ -142,6 +154,10 @@ fn main() -> ExitCode {
         [command @ ("meshes" | "reach"), seed, count] => match (seed.parse(), count.parse()) {
             (Ok(seed), Ok(count)) if *command == "meshes" => write_meshes(seed, count),
             (Ok(seed), Ok(count)) => print_reach(seed, count),
+            _ => return usage("SEED and COUNT are whole numbers from 0 up"),
+        },
+        ["mesh-file", seed, count] => match (seed.parse(), count.parse()) {
+            (Ok(seed), Ok(count)) => port::run(Run::MeshFile(seed, count)),
             _ => return usage("SEED and COUNT are whole numbers from 0 up"),
         },
         ["floats", "all"] => port::run(Run::FloatsAll),
@@ -168,6 +184,7 @@ fn main() -> ExitCode {
         ["speed", "weld"] => port::run(Run::SpeedWeld),
         ["speed", "raster"] => port::run(Run::SpeedRaster),
         ["speed", "stl"] => port::run(Run::SpeedStl),
+        ["speed", "mesh-file"] => port::run(Run::SpeedMeshFile),
         ["speed", "compute"] => port::run(Run::SpeedCompute),
         ["help" | "--help" | "-h"] => {
             print!("{USAGE}");
@@ -191,8 +208,8 @@ fn usage(why: &str) -> ExitCode {
     ExitCode::from(2)
 }
 
-/// A text for each frame of the input; how each stands to the one exception goes to standard error.
-fn print_texts(text_of: fn(&[u8]) -> (String, Exception)) -> io::Result<ExitCode> {
+/// A text for each frame of the input, and one behind all; how each stands to the one exception goes to standard error.
+fn print_texts(text_of: fn(&[u8]) -> (String, Exception), behind_all: &str) -> io::Result<ExitCode> {
     let input = all_input()?;
     let mut out = BufWriter::new(io::stdout().lock());
     let (mut rest, mut meshes, mut near, mut outside) = (input.as_slice(), 0u64, 0u64, 0u64);
@@ -218,6 +235,7 @@ fn print_texts(text_of: fn(&[u8]) -> (String, Exception)) -> io::Result<ExitCode
         }
         (rest, meshes) = (behind, meshes + 1);
     }
+    out.write_all(behind_all.as_bytes())?;
     out.flush()?;
     eprintln!("oracle: {meshes} meshes, {near} near the one exception, {outside} against document 01");
     Ok(if outside == 0 { ExitCode::SUCCESS } else { ExitCode::FAILURE })

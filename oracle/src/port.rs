@@ -14,6 +14,7 @@ pub enum Run {
     Moves(u64),
     Glove(u64),
     Stl(u64),
+    MeshFile(u64, u64),
     Repeat(String, String, usize, usize),
     Speed,
     SpeedFloats,
@@ -22,6 +23,7 @@ pub enum Run {
     SpeedRaster,
     SpeedCompute,
     SpeedStl,
+    SpeedMeshFile,
 }
 
 pub fn run(run: Run) -> io::Result<ExitCode> {
@@ -39,6 +41,7 @@ pub fn run(run: Run) -> io::Result<ExitCode> {
         Run::Moves(n) => linked::moves(n),
         Run::Glove(n) => linked::glove(n),
         Run::Stl(n) => linked::stl(n),
+        Run::MeshFile(seed, n) => linked::mesh_file(seed, n),
         Run::Repeat(routine, on, triangles, times) => linked::repeat(&routine, &on, triangles, times),
         Run::Speed => linked::speed(),
         Run::SpeedFloats => linked::speed_floats(),
@@ -47,6 +50,7 @@ pub fn run(run: Run) -> io::Result<ExitCode> {
         Run::SpeedRaster => linked::speed_raster(),
         Run::SpeedCompute => linked::speed_compute(),
         Run::SpeedStl => linked::speed_stl(),
+        Run::SpeedMeshFile => linked::speed_mesh_file(),
     }
 }
 
@@ -54,7 +58,7 @@ mod linked {
     use mowfrost_oracle::compute::speed::Row;
     use mowfrost_oracle::floats::compare::{on_all_32, on_chance, on_edges, Count};
     use mowfrost_oracle::floats::helpers::{Width, HELPERS};
-    use mowfrost_oracle::{compute, floats, glove, ids, moves, pairs, raster, speed, stl, weld};
+    use mowfrost_oracle::{compute, floats, glove, ids, meshfile, moves, pairs, raster, speed, stl, weld};
     use std::io::{self, StdoutLock, Write};
     use std::process::ExitCode;
 
@@ -197,6 +201,20 @@ mod linked {
         end(&mut out, agree, differ)
     }
 
+    /// A line a part and one for all, what was reached, then the sums.
+    pub fn mesh_file(seed: u64, n: u64) -> io::Result<ExitCode> {
+        use meshfile::compare::{all, PORT};
+        use meshfile::count::Count;
+        let line = |on: &str, count: &Count| reached(on, count.agree, count.differ, &count.reached());
+        let (mut out, mut sums) = (io::stdout().lock(), Count::default());
+        for (on, count) in all(PORT, seed, n) {
+            show(&mut out, &line(on, &count), &count.shown)?;
+            sums.join(&count);
+        }
+        show(&mut out, &line("all parts", &sums), &sums.told())?;
+        end(&mut out, sums.agree, sums.differ)
+    }
+
     fn reached(on: &str, agree: u64, differ: u64, reached: &str) -> String {
         format!("{on:<18} {agree:>8} agree, {differ} differ ({reached})")
     }
@@ -303,6 +321,16 @@ mod linked {
         for stl::speed::Row { routine, triangles, port, rust } in stl::speed::rows() {
             let ratio = port / rust;
             writeln!(out, "| `{routine}` | {triangles} | {:.3} | {:.3} | {ratio:.2} |", 1e6 * port, 1e6 * rust)?;
+        }
+        Ok(ExitCode::SUCCESS)
+    }
+
+    pub fn speed_mesh_file() -> io::Result<ExitCode> {
+        let mut out = io::stdout().lock();
+        writeln!(out, "| routine | floats | ids | port, µs | Rust, µs | ratio |\n|---|---|---|---|---|---|")?;
+        for meshfile::speed::Row { routine, floats, ids, port, rust } in meshfile::speed::rows() {
+            let ratio = port / rust;
+            writeln!(out, "| `{routine}` | {floats} | {ids} | {:.3} | {:.3} | {ratio:.2} |", 1e6 * port, 1e6 * rust)?;
         }
         Ok(ExitCode::SUCCESS)
     }

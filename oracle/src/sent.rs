@@ -1,7 +1,7 @@
 //! What the program is sent: meshes of every kind in turn, those by hand that `replay` holds, and files that matter to a
 //! program alone, since it reads them off a pipe: longer than any valid one, exactly full, empty, in parts.
 
-use crate::file::{push_record, write, Flags, MeshFile, MOST};
+use crate::file::{length, push_record, write, Flags, MeshFile, MOST};
 use crate::kinds::{self, KINDS};
 use crate::random::Random;
 use crate::solids::Shape;
@@ -12,7 +12,7 @@ use std::sync::LazyLock;
 pub const SEED: u64 = 3;
 
 /// The bytes of a file that is full: as many floats and ids as may be, and kind 4.
-pub const FULL: usize = 6 + 4 + 2 * (6 + 4 * MOST) + 6 + 2;
+pub const FULL: usize = length(MOST, MOST);
 
 /// About so many bytes stand behind a whole file at most: more than a pipe holds.
 pub const TAIL: usize = 70_000;

@@ -4,6 +4,7 @@ use mowfrost_oracle::counts::Counts;
 use mowfrost_oracle::file::{read, MeshFile, MOST};
 use mowfrost_oracle::frames;
 use mowfrost_oracle::listing::{listing, replayed};
+use mowfrost_oracle::meshfile::replayed::many;
 use mowfrost_oracle::pieces::pieces;
 use mowfrost_oracle::raster::cells::{grids, place, values, Cells, Place, Point};
 use mowfrost_oracle::reach::{Reach, WANTED};
@@ -26,7 +27,7 @@ fn framed() -> Vec<u8> {
 }
 
 fn answers() -> String {
-    STORED.iter().map(|stored| replayed(&stored.bytes).0).collect()
+    STORED.iter().map(|stored| replayed(&stored.bytes).0).chain([many()]).collect()
 }
 
 /// Refusals 1 and 3 are not on the list of what is wanted: a program's file is too short for the one, and the program lends
@@ -280,15 +281,17 @@ fn lengths_go_to_the_limit() {
     assert!(rows(64) > 4 && rows(200) > 1, "{} and {}", rows(64), rows(200));
 }
 
+/// What `replay` has to print behind the listing of a file.
+fn behind(name: &str) -> Vec<String> {
+    let stored = STORED.iter().find(|stored| stored.name.starts_with(name)).expect("there is one");
+    let (listing, text) = (listing(&stored.bytes).0, replayed(&stored.bytes).0);
+    text.strip_prefix(&listing).expect("the listing is first").lines().map(String::from).collect()
+}
+
 /// What the routines on ids say of document 01's examples, and what a work area one word short is told.
 #[test]
-fn the_last_line_has_the_answers() {
-    let line = |name: &str| {
-        let stored = STORED.iter().find(|stored| stored.name.starts_with(name)).expect("there is one");
-        let text = replayed(&stored.bytes).0;
-        assert!(text.starts_with(&listing(&stored.bytes).0));
-        text.lines().last().unwrap_or("").to_string()
-    };
+fn a_line_has_the_answers() {
+    let line = |name: &str| behind(name)[0].clone();
     let front = |name: &str| line(name).split(" pairs ").next().unwrap_or("").to_string();
     assert_eq!(line("the cube"), "chain 1 0 net 1 0 manifold 1 winding 1 short 3 pairs 0 0 0 0 0 0");
     assert_eq!(front("faces that cancel: 012 210 333"), "chain 1 0 net 0 1 manifold 1 winding 1 short 3");
@@ -303,7 +306,7 @@ fn the_last_line_has_the_answers() {
     assert_eq!(line("a closed shell, unit and float bad"), "chain 1 0 net 1 0 manifold 1 winding 1 short 2");
     assert_eq!(line("a closed shell, float bad"), "chain 1 0 net 1 0 manifold 1 winding 1 short 3");
     // a file that could not be read has no ids
-    assert_eq!((line("1,537 ids").as_str(), line("cut to 0 bytes").as_str()), ("refused 6", "refused 5"));
+    assert!(behind("1,537 ids").is_empty() && behind("cut to 0 bytes").is_empty());
 }
 
 fn oracle(words: &[&str], input: &[u8]) -> (Option<i32>, Vec<u8>, String) {
@@ -339,7 +342,7 @@ fn the_crate_holds_these() {
     let replay = Path::new(env!("CARGO_MANIFEST_DIR")).join("../crates/replay");
     let read = |name: &str| std::fs::read(replay.join(name)).unwrap_or_else(|e| panic!("{name}: {e}"));
     let (meshes, mounts, stdout) = (read("data/meshes"), read("data/mounts"), read("stdout"));
-    let texts = frames::all(&meshes).map(|bytes| replayed(bytes).0);
+    let texts = frames::all(&meshes).map(|bytes| replayed(bytes).0).chain([many()]);
     let text: String = texts.chain(frames::all(&mounts).map(|bytes| stl::listing(bytes).0)).collect();
     assert!(text.as_bytes() == stdout, "crates/replay/stdout is not what the Rust answers");
     assert!(meshes == framed(), "crates/replay/data/meshes is not what `oracle stored` writes here");

@@ -2,40 +2,24 @@
 
 use super::examples::tilted;
 use super::List;
-use crate::file::{push_record, write, Flags, MeshFile};
-
-/// A kind, the length that is told, and what is there of it.
-type Record = (u16, u32, Vec<u8>);
+use crate::file::{self, joined, push_record, write, Flags, MeshFile, Patterns, Record};
 
 /// The records of one triangle with flags: 78 bytes, of which kind 4 has the last eight.
 fn records() -> [Record; 4] {
-    let MeshFile { unit, vertices, ids, .. } = tilted();
-    let floats: Vec<u8> = vertices.iter().flat_map(|x| x.to_le_bytes()).collect();
-    let ids: Vec<u8> = ids.iter().flat_map(|id| id.to_le_bytes()).collect();
-    [(1, 4, unit.to_le_bytes().to_vec()), (2, 36, floats), (3, 12, ids), (4, 2, vec![0, 0])]
-}
-
-fn bytes(records: &[Record]) -> Vec<u8> {
-    let mut bytes = Vec::new();
-    for (kind, length, payload) in records {
-        bytes.extend(length.to_le_bytes());
-        bytes.extend(kind.to_le_bytes());
-        bytes.extend(payload);
-    }
-    bytes
+    file::records(&Patterns::of(&tilted()))
 }
 
 /// The file with one record changed, and with as many behind it as are wanted.
 fn with(at: usize, record: Record, keep: usize) -> Vec<u8> {
     let mut records = records();
     records[at] = record;
-    bytes(&records[..keep.max(at + 1)])
+    joined(&records[..keep.max(at + 1)])
 }
 
 const NAMES: [&str; 4] = ["unit", "floats", "ids", "flags"];
 
 pub fn faults(list: &mut List) {
-    let whole = bytes(&records());
+    let whole = joined(&records());
     assert_eq!(whole, write(&MeshFile { flags: Flags::default(), ..tilted() }, true));
     // in every header, in the unit and in the flags; of floats and ids at the ends and within a word. At 70 it is whole
     let cuts = (0..=17).chain([20]).chain(52..=59).chain([69]).chain(71..=77);
@@ -78,7 +62,7 @@ pub fn faults(list: &mut List) {
         list.file("refused 5", format!("flags {flags:?}"), with(3, (4, 2, flags.to_vec()), 4));
     }
 
-    let order = |order: &[usize]| bytes(&order.iter().map(|&at| records()[at].clone()).collect::<Vec<_>>());
+    let order = |order: &[usize]| joined(&order.iter().map(|&at| records()[at].clone()).collect::<Vec<_>>());
     for wrong in [&[1, 0, 2][..], &[0, 2, 1], &[0, 2], &[0, 1, 3], &[3], &[0, 1, 2, 2], &[0, 1, 2, 3, 3]] {
         let names: Vec<_> = wrong.iter().map(|&at| NAMES[at]).collect();
         list.file("refused 5", format!("in this order: {}", names.join(", ")), order(wrong));
@@ -91,5 +75,5 @@ pub fn faults(list: &mut List) {
     push_record(&mut more, 5, &[0, 0]);
     list.file("refused 5", "a kind 5 after the ids", more);
     let none = [(1, 4, vec![0; 4]), (2, 0, vec![]), (3, 0, vec![])];
-    list.file("degenerate 0 prism_fallback", "floats and ids of no length", bytes(&none));
+    list.file("degenerate 0 prism_fallback", "floats and ids of no length", joined(&none));
 }

@@ -1,12 +1,13 @@
 //! The meshes that the crate `replay` holds, so that the gate has some of the Rust's answers without the Rust: those made
-//! by hand for document 01's examples, limits and orders, for what A1 and A3 count and A2 joins and for A9's pairs, then of each kind
-//! the smallest and the one that reaches most.
+//! by hand for document 01's examples, limits and orders, for what A1 and A3 count, A2 joins and A5 writes back and for A9's pairs, then
+//! of each kind the smallest and the one that reaches most.
 
 pub mod examples;
 mod faults;
 mod gloves;
 mod left_out;
 mod limits;
+mod patterns;
 mod places;
 pub mod readings;
 mod rims;
@@ -62,6 +63,7 @@ pub fn by_hand() -> Vec<Stored> {
     gloves::gloves(&mut list);
     touching::touches(&mut list);
     rims::rims(&mut list);
+    patterns::patterns(&mut list);
     list.0
 }
 

@@ -38,7 +38,7 @@ oracle: the unchanged Rust original, asked in document 01's words
                                'pairs C R C R C R': covered and rim cells of the z, y and x footprints; then a line
                                'written N A short R': length and Adler-32 of the file written back, kind 4 always there, and the
                                refusal of an area one byte short. Behind all meshes 'many 6 6': the refusals of 1,537 floats and
-                               of 1,537 ids over an area of no bytes
+                               of 1,537 ids over an area of one byte
   oracle replayed stl          standard input: STL files in that framing; prints what 'replay' has to print for them, behind
                                all else: each listing or 'refused N'
   oracle answer-stl            standard input: one STL file, without a length before it; prints its listing or 'refused N', as
@@ -116,7 +116,7 @@ MOWFROST_PORT names a folder with a libcapi.a and a libprobe.a of its kind when 
                                areas, and that what was passed is as it was, all bit for bit, NaNs and units too; what was
                                reached is counted; last line 'A agree, D differ'
   oracle speed mesh-file       microseconds a file of the cube, a quarter full and full, written and read, beside plain forms in
-                               Rust that try the same and fill the same slices
+                               Rust that try the same: one that makes new vectors, and one that fills the same slices
   oracle speed stl             microseconds a file of up to 170 and of up to 10,922 triangles, beside a plain form in Rust that
                                tries the same and fills the same two slices
   oracle speed compute         milliseconds a record, at an eighth of the most triangles up to all; nanoseconds for small;

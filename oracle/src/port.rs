@@ -327,10 +327,13 @@ mod linked {
 
     pub fn speed_mesh_file() -> io::Result<ExitCode> {
         let mut out = io::stdout().lock();
-        writeln!(out, "| routine | floats | ids | port, µs | Rust, µs | ratio |\n|---|---|---|---|---|---|")?;
-        for meshfile::speed::Row { routine, floats, ids, port, rust } in meshfile::speed::rows() {
-            let ratio = port / rust;
-            writeln!(out, "| `{routine}` | {floats} | {ids} | {:.3} | {:.3} | {ratio:.2} |", 1e6 * port, 1e6 * rust)?;
+        writeln!(out, "| routine | floats | ids | port, µs | new vectors, µs | ratio | same slices, µs | ratio |")?;
+        writeln!(out, "|---|---|---|---|---|---|---|---|")?;
+        for meshfile::speed::Row { routine, floats, ids, port, vectors, slices } in meshfile::speed::rows() {
+            let [port, vectors, slices] = [port, vectors, slices].map(|seconds| 1e6 * seconds);
+            let (made, filled) = (port / vectors, port / slices);
+            write!(out, "| `{routine}` | {floats} | {ids} | {port:.3} | {vectors:.3} | {made:.2} ")?;
+            writeln!(out, "| {slices:.3} | {filled:.2} |")?;
         }
         Ok(ExitCode::SUCCESS)
     }

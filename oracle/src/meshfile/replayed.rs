@@ -12,11 +12,11 @@ pub fn line(bytes: &[u8]) -> String {
     format!("written {} {} short {}\n", file.len(), adler32(&file), refusal(&call, call.asks() - 1))
 }
 
-/// `many 6 6`: the refusals of one float and of one id too many, over an area of nothing.
+/// `many 6 6`: the refusals of one float and of one id too many, over an area of one byte.
 pub fn many() -> String {
-    let (none, many) = (&[][..], &[0; MOST + 1][..]);
-    let of = |vertices, ids| refusal(&Call { unit: 0, vertices, ids, clip: 0, defect: 0 }, 0);
-    format!("many {} {}\n", of(many, none), of(none, many))
+    let (one, many) = (&[0][..], &[0; MOST + 1][..]);
+    let of = |vertices, ids| refusal(&Call { unit: 0, vertices, ids, clip: 0, defect: 0 }, 1);
+    format!("many {} {}\n", of(many, one), of(one, many))
 }
 
 /// 0 where it would be written.

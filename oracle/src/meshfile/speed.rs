@@ -1,11 +1,11 @@
-//! `oracle speed mesh-file`: how long writing and reading a file take, and how long plain forms in Rust that try the same and fill the same
-//! slices, in one process.
+//! `oracle speed mesh-file`: how long writing and reading a file take, and how long plain forms in Rust that try the same, in one process:
+//! those that make new vectors, and those that fill the same slices.
 
 use super::areas::{Reading, Writing};
 use super::capi;
 use super::meshes::words;
 use super::promise::{counts, Call};
-use crate::file::{length, parts, words as words_of, write_patterns, Flags, Parts, Patterns, MOST};
+use crate::file::{length, parts, patterns, words as words_of, write_patterns, Flags, Parts, Patterns, MOST};
 use crate::linked::bits;
 use crate::random::Random;
 use crate::solids::Shape;
@@ -24,7 +24,29 @@ pub struct Row {
     pub ids: usize,
     /// Seconds a call.
     pub port: f64,
-    pub rust: f64,
+    /// Of the form that makes new vectors.
+    pub vectors: f64,
+    /// Of the form that fills the same slices.
+    pub slices: f64,
+}
+
+/// A new file, or the refusal.
+pub fn made(call: &Call) -> Result<Vec<u8>, u32> {
+    let Call { unit, vertices, ids, clip, defect } = *call;
+    if clip > 1 || defect > 4 {
+        return Err(5);
+    }
+    if vertices.len() > MOST || ids.len() > MOST {
+        return Err(6);
+    }
+    let mut bytes = Vec::with_capacity(length(vertices.len(), ids.len()));
+    for (kind, words) in [(1u16, &[unit][..]), (2, vertices), (3, ids)] {
+        bytes.extend((4 * words.len() as u32).to_le_bytes());
+        bytes.extend(kind.to_le_bytes());
+        words.iter().for_each(|word| bytes.extend(word.to_le_bytes()));
+    }
+    bytes.extend([2, 0, 0, 0, 4, 0, clip as u8, defect as u8]);
+    Ok(bytes)
 }
 
 /// The file's length, or the refusal.
@@ -122,6 +144,14 @@ fn rust_reads(slices: &mut Slices) -> u32 {
     read(bytes, vertices, ids, counts).map_or_else(|number| number, |()| 0)
 }
 
+fn vectors_written(slices: &mut Slices) -> u32 {
+    black_box(made(&Call::of(slices.parts().0))).map_or_else(|number| number, |file| file.len() as u32)
+}
+
+fn vectors_read(slices: &mut Slices) -> u32 {
+    black_box(patterns(slices.parts().2)).map_or_else(|number| number, |_| 0)
+}
+
 /// A cube, a quarter of a full file and a full one; each written and read.
 pub fn rows() -> impl Iterator<Item = Row> {
     let random = &mut Random::new(7);
@@ -135,37 +165,41 @@ pub fn rows() -> impl Iterator<Item = Row> {
     let cube = Patterns { vertices: bits(&vertices), ids, ..full[0].clone() };
     let meshes = [cube].into_iter().chain(full).collect::<Vec<_>>();
     meshes.into_iter().flat_map(|mesh| {
-        [("write_mesh", [port_writes as Side, rust_writes]), ("read_mesh", [port_reads, rust_reads])]
+        let written = [port_writes as Side, vectors_written, rust_writes];
+        [("write_mesh", written), ("read_mesh", [port_reads, vectors_read, rust_reads])]
             .map(|(routine, sides)| race(routine, &mesh, sides))
     })
 }
 
 /// The best of several turns, one after the other.
-fn race(routine: &'static str, mesh: &Patterns, [port, rust]: [Side; 2]) -> Row {
+fn race(routine: &'static str, mesh: &Patterns, sides: [Side; 3]) -> Row {
     let (mut slices, file) = (Slices::new(mesh), write_patterns(mesh, true));
     let place = |slices: &mut Slices, from: usize| {
         slices.from = from;
         slices.parts().2.copy_from_slice(&file);
     };
-    for side in [port, rust] {
+    let call = Call::of(mesh);
+    assert!(made(&call).as_ref() == Ok(&file) && patterns(&file).as_ref() == Ok(mesh), "so do the vectors");
+    for side in [sides[0], sides[2]] {
         place(&mut slices, STEP);
         spoil(routine, &mut slices);
         side(&mut slices);
         let (now, numbers, bytes) = slices.parts();
         assert!(now == mesh && *numbers == counts(mesh) && *bytes == file, "each side does the work");
     }
-    let once = time(1, port, &mut slices).min(time(1, rust, &mut slices));
+    let once = sides.map(|side| time(1, side, &mut slices)).into_iter().fold(f64::INFINITY, f64::min);
     let calls = (TURN / once).ceil() as usize;
-    let mut row =
-        Row { routine, floats: mesh.vertices.len(), ids: mesh.ids.len(), port: f64::INFINITY, rust: f64::INFINITY };
+    let mut best = [f64::INFINITY; 3];
     let (begun, mut turns) = (Instant::now(), 0);
     while turns < TURNS || begun.elapsed().as_secs_f64() < ENOUGH {
         place(&mut slices, STEP * turns % PAGE);
-        row.port = row.port.min(time(calls, port, &mut slices));
-        row.rust = row.rust.min(time(calls, rust, &mut slices));
+        for (side, best) in sides.into_iter().zip(&mut best) {
+            *best = best.min(time(calls, side, &mut slices));
+        }
         turns += 1;
     }
-    row
+    let [port, vectors, slices] = best;
+    Row { routine, floats: mesh.vertices.len(), ids: mesh.ids.len(), port, vectors, slices }
 }
 
 /// Whatever the routine has to write is otherwise before it.

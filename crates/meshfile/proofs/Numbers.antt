@@ -2,8 +2,7 @@
 use mathlib.Core.Path.{_≡_, refl, sym, ap, _∙_}
 use mathlib.Core.Bool.{Bool, true, false, not, cond}
 use mathlib.Core.List.{List, [], _∷_}
-use Prim.Native.Nat.{ℕ, _+_, _≤_}
-use native.Mathlib.Omega.{arith}
+use Prim.Native.Nat.{ℕ, _+_}
 use mir.Val.{boolByte}
 use borrow.Author.Tests.{not-false}
 use denote.Floats.{passes}
@@ -15,8 +14,8 @@ use Rattle.meshfile.specs.declared.MeshBits.{MeshBits}
 use Rattle.meshfile.specs.declared.ReadingBits.{ReadingBits}
 use Rattle.meshfile.specs.declared.writing.Writing.{Writing}
 use Rattle.meshfile.specs.Format.{Contents, fileOf}
-use Rattle.meshfile.specs.Reading.{readingOf, verticesAfter, idsAfter, ReadsBits}
-use Rattle.meshfile.specs.Writing.{contentsOf, writingOf, bytesAfter, Writes}
+use Rattle.meshfile.specs.Reading.{readingOf, ReadsBits}
+use Rattle.meshfile.specs.Writing.{contentsOf, Writes}
 use Rattle.meshfile.specs.Numbers.{flagsThen, writingNumber, WritesNumbered, WriteNumberedOne}
 use Rattle.meshfile.specs.Numbers.{readingNumber, countsAfter, ReadsNumbered, ReadNumberedOne}
 use Rattle.meshfile.proofs.Flags.{contents-back}

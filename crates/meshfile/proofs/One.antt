@@ -125,7 +125,7 @@ short-kept : {A B : Type 0} (b : Bool) (n : ℕ) (m : MeshBits) (x x′ : A) (y 
 short-kept true n m x x′ y y′ h = (refl, refl)
 short-kept false n m x x′ y y′ h = let z : _≡_ {A = ℕ} 0 1 = cc in absurd (omega arith)
 
-kept : {A : Type 0} (taken : List ℕ → List A) (x : File) (vs : List A) (ids : List ℕ) (n : ℕ)
+pub kept : {A : Type 0} (taken : List ℕ → List A) (x : File) (vs : List A) (ids : List ℕ) (n : ℕ)
     → ReadingBits.Refused n ≡ readingOf x (length vs) (length ids)
     → (verticesAfter taken x (length ids) vs ≡ vs) × (idsAfter x (length vs) ids ≡ ids)
 unfolding readingOf verticesAfter idsAfter

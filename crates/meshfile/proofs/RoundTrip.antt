@@ -1,33 +1,28 @@
 -- There and back: what was written is read to the bit, and what was read is written to the byte. Both go by what a file holds. Assumes
 -- nothing.
-use mathlib.Core.Path.{_≡_, refl, sym, ap, _∙_, subst}
-use mathlib.Core.Bool.{Bool, true, false, _||_, cond}
+use mathlib.Core.Path.{_≡_, refl, sym, ap, _∙_}
+use mathlib.Core.Bool.{false}
 use mathlib.Core.List.{List, [], _∷_, _++_}
-use mathlib.Core.Logic.{inl, inr, ⊎-elim}
-use Prim.Native.Nat.{ℕ, zero, suc, _+_, _*_, _^_, _≤_, _<_}
+use mathlib.Core.Logic.{inl, ⊎-elim}
+use Prim.Native.Nat.{ℕ, _+_, _*_, _≤_, _<_}
 use native.Mathlib.Omega.{arith}
-use borrow.Author.Tests.{ltb-false, lt-ltb, le-ltb, leb-true}
-use denote.Floats.{is-true}
-use lib.Dec.{T, eqb, leb, ltb}
-use lib.ListN.{length, take, drop}
-use lib.Seq.{take-at}
-use Rattle.ids.proofs.Groups.{neither}
-use Rattle.ids.proofs.Same.{both}
-use Rattle.record.specs.declared.Profile.{Profile}
-use Rattle.record.specs.declared.ProfileDefect.{ProfileDefect}
-use Rattle.record.specs.Numbers.{defectNumber, profileNumber, profileAt, flagsFit}
+use borrow.Author.Tests.{lt-ltb, le-ltb}
+use lib.Dec.{eqb}
+use lib.ListN.{length, take}
+use lib.Seq.{take-append-seam}
+use Rattle.record.specs.Numbers.{profileAt}
 use Rattle.words.specs.Words.{Below}
 use Rattle.meshfile.specs.declared.MeshBits.{MeshBits}
-use Rattle.meshfile.specs.declared.ReadingBits.{ReadingBits}
 use Rattle.meshfile.specs.declared.writing.Writing.{Writing}
 use Rattle.meshfile.specs.Format.{mostInFile, Contents, File, fileOf}
 use Rattle.meshfile.specs.Written.{chunkOf, plainFile, fileBytes, Proper, IsFileOf}
-use Rattle.meshfile.specs.Reading.{meshAreasShort, meshBits, readingOf, verticesAfter, idsAfter, ReadsBits}
+use Rattle.meshfile.specs.Reading.{meshAreasShort, meshBits, readingOf, verticesAfter, idsAfter}
 use Rattle.meshfile.specs.Writing.{contentsOf, tooMany, putInto, areaWith, writingOf, bytesAfter, Writes}
 use Rattle.meshfile.specs.RoundTrip.{ReadsBack, withKind4, Rewrites, WritesBack, SameFile}
 use Rattle.meshfile.proofs.Accepts.{accepts}
 use Rattle.meshfile.proofs.AcceptsOnly.{accepts-only}
 use Rattle.meshfile.proofs.Puts.{plain-long, file-long}
+use Rattle.meshfile.proofs.Gives.{reading-held}
 use Rattle.meshfile.proofs.Writes.{not-many, file-written, few}
 use Rattle.meshfile.proofs.Flags.{clip-back, profile-back, flags-known, contents-back}
 
@@ -52,12 +47,6 @@ reads-back u vs is clip profile hu hv hi area n area′ w ps ids lv li r ps′ i
     (x .answers ∙ rw (held, roomy, wide, clip-back clip, profile-back profile), x .vertices ∙ rw (held, roomy, wide), x .ids-after ∙ rw (held, roomy, wide))
 
 -- ---- writing what was read
-
--- what was read: the contents of a file, in areas with room for them
-read-held : (short : Bool) (k : Contents) (m : MeshBits)
-    → ReadingBits.File m ≡ cond short (ReadingBits.Refused 3) (ReadingBits.File (meshBits k)) → (short ≡ false) × (m ≡ meshBits k)
-read-held true k m h = let z : _≡_ {A = ℕ} 0 1 = cc in absurd (omega arith)
-read-held false k m h = (refl, cc)
 
 no-flags : (c d : ℕ) → c ≡ 0 → d ≡ 0 → c ∷ d ∷ [] ≡ 0 ∷ 0 ∷ []
 no-flags c d p q = rw (p, q)
@@ -97,22 +86,22 @@ unfolding IsFileOf
 same-file bytes below k held =
     ap fileOf (sym (bytes-again bytes below k held)) ∙ accepts k (fileBytes k) (proper bytes below k held) (inl refl)
 
-module _ (bytes : List ℕ) (below : Below 256 bytes) (ps ids : List ℕ) (m : MeshBits) (ps′ ids′ : List ℕ) where
-  by-file : (f : File) → fileOf bytes ≡ f → ReadingBits.File m ≡ readingOf f (length ps) (length ids)
-      → ps′ ≡ verticesAfter (λ (ws : List ℕ). ws) f (length ids) ps → ids′ ≡ idsAfter f (length ps) ids
+-- the words that were read stand first in their areas
+names-first : (f : File) (k : Contents) (ps ids : List ℕ) → f ≡ File.Holds k → meshAreasShort k (length ps) (length ids) ≡ false
+    → (take (length (k .vertices)) (verticesAfter (λ (ws : List ℕ). ws) f (length ids) ps) ≡ k .vertices)
+    × (take (length (k .ids)) (idsAfter f (length ps) ids) ≡ k .ids)
+unfolding verticesAfter idsAfter
+names-first f k ps ids at roomy = rw (at, roomy) (take-append-seam (k .vertices) _, take-append-seam (k .ids) _)
+
+module _ (bytes : List ℕ) (below : Below 256 bytes) (ps ids ps′ ids′ : List ℕ) (k : Contents) (held : fileOf bytes ≡ File.Holds k) where
+  by-contents : (m : MeshBits) → m ≡ meshBits k → take (length (k .vertices)) ps′ ≡ k .vertices → take (length (k .ids)) ids′ ≡ k .ids
       → (area : List ℕ) (w : Writing) (area′ : List ℕ) → Rewrites m ps′ ids′ area w area′
       → (w ≡ putInto (withKind4 (m .floats) (m .ids) bytes) (length area)) × (area′ ≡ areaWith (withKind4 (m .floats) (m .ids) bytes) area)
-  unfolding readingOf verticesAfter idsAfter
-  by-file (File.Refused n) e h hv hi area w area′ x = let z : _≡_ {A = ℕ} 0 1 = cc in absurd (omega arith)
-  by-file (File.Holds k) e h hv hi area w area′ x =
-      let short = meshAreasShort k (length ps) (length ids) in
-      let r = read-held short k m h in
-      let vertices : take (length (k .vertices)) ps′ ≡ k .vertices
-      = rw (hv, r .0) (take-at (k .vertices) (drop (length (k .vertices)) ps) (length (k .vertices)) refl) in
-      let named : take (length (k .ids)) ids′ ≡ k .ids
-      = rw (hi, r .0) (take-at (k .ids) (drop (length (k .ids)) ids) (length (k .ids)) refl) in
-      rw (r .1) (held-again bytes below k e area w area′ (rw (r .1, vertices, named) at x))
+  by-contents m same hv hi area w area′ y = rw same (held-again bytes below k held area w area′ (rw (same, hv, hi) at y))
 
 pub writes-back : WritesBack
-writes-back bytes below ps ids m ps′ ids′ x area w area′ y =
-    by-file bytes below ps ids m ps′ ids′ (fileOf bytes) refl (x .answers) (x .vertices) (x .ids-after) area w area′ y
+writes-back bytes below ps ids m ps′ ids′ x =
+    let r = reading-held (fileOf bytes) (length ps) (length ids) m (x .answers) in
+    let first = names-first (fileOf bytes) (r .0) ps ids (r .1) (r .2) in
+    by-contents bytes below ps ids ps′ ids′ (r .0) (r .1) m (r .3)
+    (ap (take (length (r .0 .vertices))) (x .vertices) ∙ first .0) (ap (take (length (r .0 .ids))) (x .ids-after) ∙ first .1)

@@ -9,7 +9,7 @@ ghost use Rattle.words.specs.Words.{wordsIn, floatsOf};
 ghost use Rattle.meshfile.specs.declared.Front.{Front};
 ghost use Rattle.meshfile.specs.Format.{lengthFits, frontOf, flagsIn, endingOf};
 ghost use Rattle.meshfile.specs.Reading.{meshBits, meshFile, Reads, ReadsBits};
-ghost use Rattle.meshfile.specs.inner.Steps.{partsBy, idsFrom, verticesFrom, layoutOf, inRoom, contentsAt};
+ghost use Rattle.meshfile.specs.inner.Steps.{partsBy, idsFrom, verticesFrom, layoutOf, inRoom, contentsAt, IdsRead};
 use record::Profile;
 pub use writing::Writing;
 pub use writing::write;
@@ -245,19 +245,32 @@ fn fill_floats(bytes: &[u8], at: usize, n: usize, area: &mut [f32])
     words::put_floats(&bytes[at..at + 4 * n], &mut area[..n]);
 }
 
+// The file that the bytes hold, but for its vertices, for which there is room for v: the ids go to the front of their area.
+fn read_ids(bytes: &[u8], v: usize, ids: &mut [u32]) -> ReadingBits
+    ensures { λ r. ⌜ IdsRead (now (bytes .entry)) v (now (ids .entry)) r (now (ids .exit)) ⌝ }
+{
+    let found = layout_within(bytes, v, ids.len());
+    match found {
+        Layout::Fault(n) => ReadingBits::Refused(n),
+        Layout::Whole(p) => {
+            fill_words(bytes, 22 + 4 * p.floats, p.ids, ids);
+            ReadingBits::File(bits_beside(bytes, p))
+        }
+    }
+}
+
 // The file that the bytes hold: the patterns of its floats, and its ids, go to the front of the two areas. A refusal writes nothing: 5 or
 // 6 for the fault that is met first, and then 3 for an area that is too short.
 pub fn read_bits(bytes: &[u8], vertices: &mut [u32], ids: &mut [u32]) -> ReadingBits
     ensures { λ r. ⌜ ReadsBits (now (bytes .entry)) (now (vertices .entry)) (now (ids .entry)) r
         (now (vertices .exit)) (now (ids .exit)) ⌝ }
 {
-    let found = layout_within(bytes, vertices.len(), ids.len());
+    let found = read_ids(bytes, vertices.len(), ids);
     match found {
-        Layout::Fault(n) => ReadingBits::Refused(n),
-        Layout::Whole(p) => {
-            fill_words(bytes, 16, p.floats, vertices);
-            fill_words(bytes, 22 + 4 * p.floats, p.ids, ids);
-            ReadingBits::File(bits_beside(bytes, p))
+        ReadingBits::Refused(n) => ReadingBits::Refused(n),
+        ReadingBits::File(m) => {
+            fill_words(bytes, 16, m.floats, vertices);
+            ReadingBits::File(m)
         }
     }
 }
@@ -267,13 +280,12 @@ pub fn read(bytes: &[u8], vertices: &mut [f32], ids: &mut [u32]) -> Reading
     ensures { λ r. ⌜ Reads (now (bytes .entry)) (now (vertices .entry)) (now (ids .entry)) r
         (now (vertices .exit)) (now (ids .exit)) ⌝ }
 {
-    let found = layout_within(bytes, vertices.len(), ids.len());
+    let found = read_ids(bytes, vertices.len(), ids);
     match found {
-        Layout::Fault(n) => Reading::Refused(n),
-        Layout::Whole(p) => {
-            fill_floats(bytes, 16, p.floats, vertices);
-            fill_words(bytes, 22 + 4 * p.floats, p.ids, ids);
-            Reading::File(with_float(bits_beside(bytes, p)))
+        ReadingBits::Refused(n) => Reading::Refused(n),
+        ReadingBits::File(m) => {
+            fill_floats(bytes, 16, m.floats, vertices);
+            Reading::File(with_float(m))
         }
     }
 }

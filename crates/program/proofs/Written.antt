@@ -1,7 +1,7 @@
 -- A mesh file that was written prints the text of what was written, and one that was written back prints as before. Assumes nothing.
 use mathlib.Core.Path.{_≡_, refl, sym, ap, _∙_}
 use mathlib.Core.Logic.{inl}
-use Rattle.meshfile.specs.Format.{Contents, File, fileOf}
+use Rattle.meshfile.specs.Format.{File, fileOf}
 use Rattle.meshfile.specs.Written.{fileBytes, Proper, IsFileOf}
 use Rattle.meshfile.specs.Writing.{contentsOf}
 use Rattle.meshfile.proofs.Accepts.{accepts}

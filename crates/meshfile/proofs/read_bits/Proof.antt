@@ -1,69 +1,41 @@
--- `meshfile::read_bits` meets its contract: by the layout that was found, in the areas' room. Assumes nothing.
-use mathlib.Core.Path.{_≡_, sym, _∙_}
+-- `meshfile::read_bits` meets its contract: what `read_ids` found, and the words of the vertices. Assumes nothing.
 use mathlib.Core.List.{List}
 use Prim.Native.Nat.{ℕ}
-use native.Mathlib.Omega.{arith}
 use borrow.Author.Needs.{needs}
-use lib.ListN.{length}
-use Rattle.meshfile.specs.declared.Layout.{Layout}
 use Rattle.meshfile.specs.declared.ReadingBits.{ReadingBits}
-use Rattle.meshfile.specs.inner.Steps.{layoutOf, inRoom, contentsAt}
-use Rattle.meshfile.proofs.Gives.{Fits, refused, fits, given}
+use Rattle.meshfile.proofs.Gives.{unread, room, filled}
 use Rattle.meshfile.proofs.read_bits.Statement.{statement}
 use Rattle.meshfile.proofs.read_bits.Tie as tie
 
-module _ (c : tie.After-found2) where
-  abbrev start : tie.Start
-  start = c .before .before .before .before .before .before
+-- words and answer are taken as they are
+abbrev taken : List ℕ → List ℕ
+taken ws = ws
 
-  -- the layout, where it is whole
-  whole : Layout.Whole (c .found2 .given .0 .0)
-      ≡ inRoom (length (start .args .vertices .now)) (length (start .args .ids .now)) (layoutOf (start .args .bytes .now))
-  whole = sym (c .found2 .given .1) ∙ c .before .before .layout-within .ensures
+abbrev answer : ReadingBits → ReadingBits
+answer r = r
 
-  room : Fits (c .found2 .given .0 .0) (length (start .args .bytes .now)) (length (start .args .vertices .now))
-      (length (start .args .ids .now))
-  room = fits (λ (ws : List ℕ). ws) (λ (r : ReadingBits). r) (start .args .bytes .now) (start .args .vertices .now) (start .args .ids .now) _ whole
+-- where the ids were read
+abbrev ids-read : tie.After-found2 → tie.After-read-ids
+ids-read c = c .before .before .before .before
 
 fill-words-requires : tie.Need-fill-words-requires
 fill-words-requires c κs =
-    let r = room (c .before .before) in
-    (omega (arith, r .inside), r .floats-room)
-
--- what was found, before the ids are filled in
-abbrev found : tie.After-struct-known → tie.After-found2
-found c = c .before .before .before .before .before .before
-
-add-fill-words : tie.Need-add-fill-words
-add-fill-words c = omega (arith, room (found c) .inside)
-
-mul-fill-words : tie.Need-mul-fill-words
-mul-fill-words c = omega (arith, room (found c) .inside)
-
-fill-words-requires-2 : tie.Need-fill-words-requires-2
-fill-words-requires-2 c κs =
-    let r = room (found (c .before)) in
-    (r .inside, r .ids-room)
-
-bits-beside-requires : tie.Need-bits-beside-requires
-bits-beside-requires c κs = room (found (c .before .before .before .before)) .inside
+    let file = c .before .before in
+    room (ids-read file .read-ids .ensures) (file .found2 .given .1)
 
 returns : tie.Need-returns
 returns c =
     let fault = c .before in
-    refused (λ (ws : List ℕ). ws) (λ (r : ReadingBits). r) _ _ _ _ (sym (fault .found .given .1) ∙ fault .before .before .layout-within .ensures)
+    unread taken answer (fault .before .before .before .before .read-ids .ensures) (fault .found .given .1)
 
 returns-2 : tie.Need-returns-2
-unfolding contentsAt
 returns-2 c =
-    let beside = c in
-    let ids = beside .before .before .before in
-    let vertices = ids .before .before .before .before .before in
-    given (λ (ws : List ℕ). ws) (λ (r : ReadingBits). r) _ _ _ _ (whole (vertices .before .before .before)) _ _ _ (beside .bits-beside .ensures)
-    (vertices .fill-words .ensures) (ids .fill-words2 .ensures)
+    let fill = c .before .before in
+    let file = fill .before .before .before in
+    filled taken answer (ids-read file .read-ids .ensures) (file .found2 .given .1) (fill .fill-words .ensures)
 
 pub read-bits-spec : {M : Type 1} → statement M
 read-bits-spec =
     tie.close
-    (tie.spec (λ c κs. search needs) (λ c. search needs) (λ c. search needs) fill-words-requires mul-fill-words add-fill-words
-    fill-words-requires-2 bits-beside-requires returns (λ c. search needs) (λ c. search needs) returns-2)
+    (tie.spec (λ c κs. search needs) (λ c. search needs) (λ c. search needs) fill-words-requires (λ c. search needs) returns
+    (λ c. search needs) (λ c. search needs) returns-2)

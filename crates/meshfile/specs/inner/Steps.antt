@@ -1,15 +1,18 @@
 -- How reading goes about it: first where everything stands, and whether the areas take it, then what stands there. `fileOf` is the format.
+use mathlib.Core.Path.{_≡_}
 use mathlib.Core.Bool.{_||_, cond}
 use Prim.Native.Nat.{ℕ, _+_, _*_, _/_}
 use mathlib.Core.List.{List}
 use lib.Dec.{ltb}
-use lib.ListN.{take, drop}
+use lib.ListN.{length, take, drop}
 use Rattle.meshfile.specs.declared.Front.{Front}
 use Rattle.meshfile.specs.declared.Ending.{Ending}
 use Rattle.meshfile.specs.declared.Layout.{Layout}
 use Rattle.meshfile.specs.declared.Parts.{Parts}
+use Rattle.meshfile.specs.declared.ReadingBits.{ReadingBits}
 use Rattle.words.specs.Words.{u32At, wordsIn}
-use Rattle.meshfile.specs.Format.{behind, frontOf, endingOf, Contents, File}
+use Rattle.meshfile.specs.Format.{behind, frontOf, endingOf, Contents, File, fileOf}
+use Rattle.meshfile.specs.Reading.{readingOf, idsAfter}
 
 unfoldable pub partsBy : ℕ → ℕ → Ending → Layout
 partsBy f i (Ending.Fault n) = Layout.Fault n
@@ -49,3 +52,8 @@ contentsAt bytes p =
 unfoldable pub fileAt : List ℕ → Layout → File
 fileAt bytes (Layout.Fault n) = File.Refused n
 fileAt bytes (Layout.Whole p) = File.Holds (contentsAt bytes p)
+
+-- what reading all but the vertices gives, for which there is room for v
+pub record IdsRead (bytes : List ℕ) (v : ℕ) (ids : List ℕ) (r : ReadingBits) (ids′ : List ℕ) : Type 0 where
+  pub answers : r ≡ readingOf (fileOf bytes) v (length ids)
+  pub ids-after : ids′ ≡ idsAfter (fileOf bytes) v ids

@@ -1,5 +1,4 @@
 -- `meshfile::writing::put_header` meets its contract: length, kind and a zero. Assumes nothing.
-use native.Mathlib.Omega.{arith}
 use borrow.Author.Needs.{needs}
 use Rattle.meshfile.proofs.Puts.{header-put}
 use Rattle.meshfile.proofs.writing.put_header.Statement.{statement}

@@ -37,8 +37,8 @@ NAMED = {
         "Answer::Record(full(vertices, indices, unit_scale, work, raster, surfaces))",
     ],
     ("meshfile", "read", "vertices"): [
-        "if (vertices.len() < p.floats) | (ids.len() < p.ids) {",
-        "Reading::File(fill(bytes, vertices, ids, p))",
+        "let found = read_ids(bytes, vertices.len(), ids);",
+        "fill_floats(bytes, 16, m.floats, vertices);",
     ],
     ("stl", "read_most", "vertices"): [
         "if (vertices.len() < 9 * n) | (ids.len() < 3 * n) {",

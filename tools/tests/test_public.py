@@ -69,7 +69,8 @@ class Public(unittest.TestCase):
         for crate in LISTED:
             for of, name in PASSED_ON.findall(text(crate)):
                 if name.islower():  # a type begins with a capital
-                    self.assertIn(name, declared(of), f"{crate} passes on {of}::{name}")
+                    own = (CRATES / crate / "src" / f"{of}.rt").exists()  # a module of the crate itself
+                    self.assertIn(name, declared(crate if own else of), f"{crate} passes on {of}::{name}")
 
     def test_every_contract_is_read(self) -> None:
         """As many as are marked, so that no form of writing one is passed over."""

@@ -1,4 +1,5 @@
--- What reading gives: a fault, too short an area, or both areas filled; the same whatever the vertices' words are taken as. Assumes nothing.
+-- What reading gives: a fault, too short an area, or both areas filled; the same whatever the vertices' words are taken as. Assumes
+-- nothing.
 use mathlib.Core.Path.{_≡_, refl, sym, ap, _∙_, subst}
 use mathlib.Core.Bool.{Bool, true, false, _||_, cond}
 use mathlib.Core.List.{List, _++_}

@@ -77,8 +77,8 @@ pub flags-put : (t u : List ℕ) (clip : Bool) (d : ℕ) (p : Profile) → lengt
     → d ≡ profileNumber p → set (set u 6 (boolByte clip)) 7 d ≡ chunkOf 4 (cond clip 1 0 ∷ profileNumber p ∷ [])
 unfolding chunkOf bytesOf
 flags-put t u clip d p h e q =
-    let two : set (set (drop 6 t) 0 (boolByte clip)) 1 d ≡ cond clip 1 0 ∷ profileNumber p ∷ [] = pair-put (drop 6 t) clip d p (omega (arith, length-drop 6 t)) q in
-    rw e (ap (λ (l : List ℕ). bytesOf 2 ++ (4 ∷ 0 ∷ l)) two)
+    let long : length (drop 6 t) ≡ 2 = omega (arith, length-drop 6 t) in
+    rw e (ap (λ (l : List ℕ). bytesOf 2 ++ (4 ∷ 0 ∷ l)) (pair-put (drop 6 t) clip d p long q))
 
 pub defect-small : (p : Profile) → profileNumber p ≤ 4
 unfolding profileNumber defectNumber

@@ -17,7 +17,7 @@ use Rattle.meshfile.specs.declared.writing.Writing.{Writing}
 use Rattle.meshfile.specs.Format.{mostInFile, Contents, File, fileOf}
 use Rattle.meshfile.specs.Written.{chunkOf, plainFile, fileBytes, Proper, IsFileOf}
 use Rattle.meshfile.specs.Reading.{meshAreasShort, meshBits, readingOf, verticesAfter, idsAfter}
-use Rattle.meshfile.specs.Writing.{contentsOf, tooMany, putInto, areaWith, writingOf, bytesAfter, Writes}
+use Rattle.meshfile.specs.Writing.{contentsOf, tooMany, putInto, fileInFront, writingOf, bytesAfter, Writes}
 use Rattle.meshfile.specs.RoundTrip.{ReadsBack, withKind4, Rewrites, WritesBack, SameFile}
 use Rattle.meshfile.proofs.Accepts.{accepts}
 use Rattle.meshfile.proofs.AcceptsOnly.{accepts-only}
@@ -43,8 +43,11 @@ reads-back u vs is clip profile hu hv hi area n area′ w ps ids lv li r ps′ i
     } in
     let held : fileOf (take n area′) ≡ File.Holds m = accepts m (take n area′) proper (inl (file-written m area n area′ w)) in
     let roomy = le-ltb (length ps) (length vs) lv in
-    let wide = le-ltb (length ids) (length is) li in
-    (x .answers ∙ rw (held, roomy, wide, clip-back clip, profile-back profile), x .vertices ∙ rw (held, roomy, wide), x .ids-after ∙ rw (held, roomy, wide))
+    let wide = le-ltb (length ids) (length is) li in (
+      x .answers ∙ rw (held, roomy, wide, clip-back clip, profile-back profile),
+      x .vertices ∙ rw (held, roomy, wide),
+      x .ids-after ∙ rw (held, roomy, wide),
+    )
 
 -- ---- writing what was read
 
@@ -71,15 +74,17 @@ module _ (bytes : List ℕ) (below : Below 256 bytes) (k : Contents) (held : fil
       ⊎-elim (λ e. let longer : end < length bytes = omega (arith, ap length e, file-long k) in
       rw (lt-ltb end (length bytes) longer) (sym e))
       (λ e. let none : length bytes ≤ end = omega (arith, ap length (e .0), plain-long k) in
-      rw (le-ltb end (length bytes) none, e .0) (ap (λ (l : List ℕ). plainFile k ++ chunkOf 4 l) (no-flags (k .clip) (k .defect) (e .1) (e .2))))
+      let flags = no-flags (k .clip) (k .defect) (e .1) (e .2) in
+      rw (le-ltb end (length bytes) none, e .0) (ap (λ (l : List ℕ). plainFile k ++ chunkOf 4 l) flags))
       (accepts-only k bytes below held .1)
 
   pub held-again : (area : List ℕ) (w : Writing) (area′ : List ℕ)
       → Writes (contentsOf (k .unit) (k .vertices) (k .ids) (eqb (k .clip) 1) (profileAt (k .defect))) area w area′
-      → (w ≡ putInto again (length area)) × (area′ ≡ areaWith again area)
+      → (w ≡ putInto again (length area)) × (area′ ≡ fileInFront again area)
   unfolding writingOf bytesAfter
   held-again area w area′ x =
-      (x .answers ∙ rw (contents-back k (proper .flags), few-read, bytes-again), x .bytes ∙ rw (contents-back k (proper .flags), few-read, bytes-again))
+      let back = contents-back k (proper .flags) in
+      (x .answers ∙ rw (back, few-read, bytes-again), x .bytes ∙ rw (back, few-read, bytes-again))
 
 pub same-file : SameFile
 unfolding IsFileOf
@@ -96,7 +101,7 @@ names-first f k ps ids at roomy = rw (at, roomy) (take-append-seam (k .vertices)
 module _ (bytes : List ℕ) (below : Below 256 bytes) (ps ids ps′ ids′ : List ℕ) (k : Contents) (held : fileOf bytes ≡ File.Holds k) where
   by-contents : (m : MeshBits) → m ≡ meshBits k → take (length (k .vertices)) ps′ ≡ k .vertices → take (length (k .ids)) ids′ ≡ k .ids
       → (area : List ℕ) (w : Writing) (area′ : List ℕ) → Rewrites m ps′ ids′ area w area′
-      → (w ≡ putInto (withKind4 (m .floats) (m .ids) bytes) (length area)) × (area′ ≡ areaWith (withKind4 (m .floats) (m .ids) bytes) area)
+      → (w ≡ putInto (withKind4 (m .floats) (m .ids) bytes) (length area)) × (area′ ≡ fileInFront (withKind4 (m .floats) (m .ids) bytes) area)
   by-contents m same hv hi area w area′ y = rw same (held-again bytes below k held area w area′ (rw (same, hv, hi) at y))
 
 pub writes-back : WritesBack

@@ -14,7 +14,7 @@ use Rattle.ids.proofs.Groups.{neither}
 use Rattle.meshfile.specs.declared.writing.Writing.{Writing}
 use Rattle.meshfile.specs.Format.{mostInFile, Contents}
 use Rattle.meshfile.specs.Written.{fileBytes, longest}
-use Rattle.meshfile.specs.Writing.{tooMany, putInto, areaWith, writingOf, bytesAfter, Writes}
+use Rattle.meshfile.specs.Writing.{tooMany, putInto, fileInFront, writingOf, bytesAfter, Writes}
 use Rattle.meshfile.specs.Writing.{FileLength, LongestSuffices, RefusedWriting, WriteOne}
 use Rattle.meshfile.proofs.Puts.{file-long}
 
@@ -39,13 +39,13 @@ module _ (m : Contents) (area : List ℕ) where
 
   module _ (few : many ≡ false) where
     pub too-short : length area < size → Writes m area (Writing.Refused 3) area
-    unfolding writingOf bytesAfter tooMany putInto areaWith
+    unfolding writingOf bytesAfter tooMany putInto fileInFront
     too-short h =
         let short = lt-ltb (length area) size h in
         record { answers = rw (few, file-long m, short); bytes = rw (few, file-long m, short) }
 
     pub written : size ≤ length area → (new : List ℕ) → new ≡ fileBytes m → Writes m area (Writing.Length size) (new ++ drop size area)
-    unfolding writingOf bytesAfter tooMany putInto areaWith
+    unfolding writingOf bytesAfter tooMany putInto fileInFront
     written h new e =
         let long = le-ltb (length area) size h in
         record { answers = rw (few, file-long m, long); bytes = rw (few, file-long m, long, e) }
@@ -66,7 +66,7 @@ refused-by false short n k x y h =
     (inl (p .0), p .1)
 
 pub refused-writing : RefusedWriting
-unfolding writingOf bytesAfter putInto areaWith
+unfolding writingOf bytesAfter putInto fileInFront
 refused-writing m area n area′ x =
     let p = refused-by (tooMany m) (ltb (length area) (length (fileBytes m))) n (length (fileBytes m)) area _ (x .answers) in
     (p .0, x .bytes ∙ p .1)
@@ -99,7 +99,7 @@ module _ (m : Contents) (area : List ℕ) (n : ℕ) (area′ : List ℕ) (w : Wr
   not-many = wrote (tooMany m) (ltb (length area) (length (fileBytes m))) n (length (fileBytes m)) (w .answers) .0
 
   pub file-written : take n area′ ≡ fileBytes m
-  unfolding writingOf bytesAfter putInto areaWith
+  unfolding writingOf bytesAfter putInto fileInFront
   file-written =
       let x = wrote (tooMany m) (ltb (length area) (length (fileBytes m))) n (length (fileBytes m)) (w .answers) in
       rw (w .bytes, x .0, x .1, x .2) (take-at (fileBytes m) (drop (length (fileBytes m)) area) (length (fileBytes m)) refl)

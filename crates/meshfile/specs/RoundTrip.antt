@@ -13,7 +13,7 @@ use Rattle.meshfile.specs.declared.writing.Writing.{Writing}
 use Rattle.meshfile.specs.Format.{Contents, File, fileOf}
 use Rattle.meshfile.specs.Written.{chunkOf}
 use Rattle.meshfile.specs.Reading.{ReadsBits}
-use Rattle.meshfile.specs.Writing.{contentsOf, putInto, areaWith, Writes}
+use Rattle.meshfile.specs.Writing.{contentsOf, putInto, fileInFront, Writes}
 
 -- Reading what was written gives the same unit, floats, ids and flags, to the bit: of every pattern, a NaN's too. (`reads-back`)
 abbrev pub ReadsBack : Type 0
@@ -37,7 +37,7 @@ abbrev pub WritesBack : Type 0
 WritesBack = (bytes : List ℕ) → Below 256 bytes
     → (ps ids : List ℕ) (m : MeshBits) (ps′ ids′ : List ℕ) → ReadsBits bytes ps ids (ReadingBits.File m) ps′ ids′
     → (area : List ℕ) (w : Writing) (area′ : List ℕ) → Rewrites m ps′ ids′ area w area′
-    → (w ≡ putInto (withKind4 (m .floats) (m .ids) bytes) (length area)) × (area′ ≡ areaWith (withKind4 (m .floats) (m .ids) bytes) area)
+    → (w ≡ putInto (withKind4 (m .floats) (m .ids) bytes) (length area)) × (area′ ≡ fileInFront (withKind4 (m .floats) (m .ids) bytes) area)
 
 -- and these bytes are read as the file was (`same-file`)
 abbrev pub SameFile : Type 0

@@ -1,4 +1,5 @@
--- What comes back of `write`, and what it leaves in the lent bytes: for every unit, vertices, ids and flags one answer, and one later content.
+-- What comes back of `write`, and what it leaves in the lent bytes: for every unit, vertices, ids and flags one answer, and one later
+-- content.
 use mathlib.Core.Path.{_≡_}
 use mathlib.Core.Logic.{_⊎_}
 use Prim.Native.Nat.{ℕ, _+_, _*_, _≤_}
@@ -26,15 +27,15 @@ tooMany m = ltb mostInFile (length (m .vertices)) || ltb mostInFile (length (m .
 unfoldable pub putInto : List ℕ → ℕ → Writing
 putInto file n = cond (ltb n (length file)) (Writing.Refused 3) (Writing.Length (length file))
 
-unfoldable pub areaWith : List ℕ → List ℕ → List ℕ
-areaWith file area = cond (ltb (length area) (length file)) area (file ++ drop (length file) area)
+unfoldable pub fileInFront : List ℕ → List ℕ → List ℕ
+fileInFront file area = cond (ltb (length area) (length file)) area (file ++ drop (length file) area)
 
 -- 6 is tried first
 unfoldable pub writingOf : Contents → ℕ → Writing
 writingOf m n = cond (tooMany m) (Writing.Refused 6) (putInto (fileBytes m) n)
 
 unfoldable pub bytesAfter : Contents → List ℕ → List ℕ
-bytesAfter m area = cond (tooMany m) area (areaWith (fileBytes m) area)
+bytesAfter m area = cond (tooMany m) area (fileInFront (fileBytes m) area)
 
 -- The complete contract: of contents m and a lent area come the answer r and the later area.
 pub record Writes (m : Contents) (area : List ℕ) (r : Writing) (area′ : List ℕ) : Type 0 where

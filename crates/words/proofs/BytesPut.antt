@@ -42,7 +42,8 @@ module _ (ws : List ℕ) where
       → take (n + 4) (take n t ++ (bytesOf w ++ drop (n + 4) t)) ≡ take n t ++ bytesOf w
   unfolding bytesOf
   with-word n t w h =
-      let long : length (take n t ++ bytesOf w) ≡ n + 4 = omega (arith, length-append (take n t) (bytesOf w), length-take-le n t (omega arith)) in
+      let front : length (take n t) ≡ n = length-take-le n t (omega arith) in
+      let long : length (take n t ++ bytesOf w) ≡ n + 4 = omega (arith, length-append (take n t) (bytesOf w)) in
       rw (← append-assoc (take n t) (bytesOf w) (drop (n + 4) t)) (take-at (take n t ++ bytesOf w) (drop (n + 4) t) (n + 4) long)
 
   pub bytes-next : (i : ℕ) (t : List ℕ) → i < length ws → 4 * i + 4 ≤ length t → PutAsBytes i t

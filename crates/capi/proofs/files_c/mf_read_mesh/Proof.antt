@@ -28,7 +28,8 @@ returns c =
 
 returns-2 : tie.Need-returns-2
 returns-2 c =
-    refused-read _ _ _ _ _ _ (c .before .before .before .before .before .before .before .read-bits .ensures) _ _ (c .before .answer2 .given .1)
+    let fault = c .before in
+    refused-read _ _ _ _ _ _ (fault .before .before .before .before .before .before .read-bits .ensures) _ _ (fault .answer2 .given .1)
 
 pub mf-read-mesh-spec : {M : Type 1} → statement M
 mf-read-mesh-spec =

@@ -148,23 +148,23 @@ uint32_t mf_read_stl_large(const uint8_t *bytes, size_t bytes_len, float *vertic
                            size_t ids_len);
 
 /* Mesh files, as takeoff reads them (docs/FORMAT.md): the unit, the vertex floats, the ids and the flags, a record each.
- * Unit and vertex floats come and go as their bit patterns, so that each keeps its bits, a NaN too: nothing is looked
- * at but lengths and flags. Any unit, float and id may occur, also what mf_compute refuses by 2 or 4, and one or two
+ * Unit and vertex floats come and go as their bit patterns, so that each keeps its bits, a NaN too: nothing is asked
+ * of them. Any unit, float and id may occur, also what mf_compute refuses by 2 or 4, and one or two
  * floats or ids may be left over from threes. To pass them to mf_compute, copy the patterns into floats (memcpy). */
 #define MF_MESH_MOST 1536u
 #define MF_MESH_BYTES(vertices_len, ids_len) (30 + 4 * (vertices_len) + 4 * (ids_len))
 
-/* Writes the file to the front of bytes, and answers its length, MF_MESH_BYTES(vertices_len, ids_len). The record of
- * flags is always there. clip is 0 or 1, defect 0 to 4, as for mf_compute. What lies behind the file is left as it was.
+/* Writes the file to the front of bytes, and answers its length, MF_MESH_BYTES(vertices_len, ids_len). Kind 4, the
+ * flags, is always there. clip is 0 or 1, defect 0 to 4, as for mf_compute. What lies behind the file is left as it was.
  * Refusals, tried in this order: 5 for another flag value; 6 for more than MF_MESH_MOST floats or ids; 3 where bytes is
  * too short. */
 uint32_t mf_write_mesh(uint32_t unit, const uint32_t *vertices, size_t vertices_len, const uint32_t *ids, size_t ids_len,
                        uint32_t clip, uint32_t defect, uint8_t *bytes, size_t bytes_len);
 
-/* Reads a file, with the record of flags or without, and answers 0. vertices and ids then begin with what the file has,
+/* Reads a file, with kind 4 or without, and answers 0. vertices and ids then begin with what the file has,
  * and what lies behind is left as it was. counts has five words: the number of floats, the number of ids, the unit, clip
- * and defect; without the record both flags are 0. Refusals, tried in this order: 5 or 6 as takeoff has them, for the
- * fault that is met first; 3 where vertices or ids is too short. */
+ * and defect; without kind 4 both flags are 0. Refusals, tried in this order: 5 or 6 as takeoff has them, for the
+ * fault that is met first; 3 where vertices or ids is too short. A refusal leaves counts too as it was. */
 uint32_t mf_read_mesh(const uint8_t *bytes, size_t bytes_len, uint32_t *vertices, size_t vertices_len, uint32_t *ids,
                       size_t ids_len, uint32_t counts[5]);
 

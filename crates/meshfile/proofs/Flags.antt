@@ -60,10 +60,15 @@ flags-within c d h =
     let x = both (leb c 1) (leb d 4) (is-true _ h) in
     (leb-true c 1 (x .0), leb-true d 4 (x .1))
 
+-- of contents with known flags
+pub number-back : (m : Contents) → T (flagsFit (m .clip) (m .defect))
+    → (cond (eqb (m .clip) 1) 1 0 ≡ m .clip) × (profileNumber (profileAt (m .defect)) ≡ m .defect)
+number-back m h =
+    let known = flags-within (m .clip) (m .defect) h in
+    (clip-number (m .clip) (known .0), defect-number (m .defect) (known .1))
+
 pub contents-back : (m : Contents) → T (flagsFit (m .clip) (m .defect))
     → contentsOf (m .unit) (m .vertices) (m .ids) (eqb (m .clip) 1) (profileAt (m .defect)) ≡ m
 contents-back m h =
-    let known = flags-within (m .clip) (m .defect) h in
-    let clip = clip-number (m .clip) (known .0) in
-    let defect = defect-number (m .defect) (known .1) in
-    λ i. record { unit = m .unit; vertices = m .vertices; ids = m .ids; clip = clip i; defect = defect i }
+    let back = number-back m h in
+    λ i. record { unit = m .unit; vertices = m .vertices; ids = m .ids; clip = back .0 i; defect = back .1 i }

@@ -1,4 +1,5 @@
--- Fronts of records, where everything stands, what reading gives, and the format from the writer's side.
+-- Fronts of records, where everything stands, what reading gives; the format from the writer's side, what writing gives; there and back;
+-- the C forms.
 mod Fronts
 mod Endings
 mod Layouts

@@ -14,7 +14,7 @@ use Rattle.ids.proofs.Groups.{neither}
 use Rattle.meshfile.specs.declared.writing.Writing.{Writing}
 use Rattle.meshfile.specs.Format.{mostInFile, Contents}
 use Rattle.meshfile.specs.Written.{fileBytes, longest}
-use Rattle.meshfile.specs.Writing.{tooMany, putInto, fileInFront, writingOf, bytesAfter, Writes}
+use Rattle.meshfile.specs.Writing.{tooMany, putInto, writingOf, bytesAfter, Writes}
 use Rattle.meshfile.specs.Writing.{FileLength, LongestSuffices, RefusedWriting, WriteOne}
 use Rattle.meshfile.proofs.Puts.{file-long}
 
@@ -27,48 +27,40 @@ write-one m area r r′ area₁ area₂ x y = (x .answers ∙ sym (y .answers), 
 -- ---- the tests in their order
 
 module _ (m : Contents) (area : List ℕ) where
-  abbrev many : Bool
-  many = ltb mostInFile (length (m .vertices)) || ltb mostInFile (length (m .ids))
-
   abbrev size : ℕ
   size = 30 + 4 * length (m .vertices) + 4 * length (m .ids)
 
-  pub too-many : many ≡ true → Writes m area (Writing.Refused 6) area
-  unfolding writingOf bytesAfter tooMany
+  pub too-many : tooMany m ≡ true → Writes m area (Writing.Refused 6) area
+  unfolding writingOf bytesAfter
   too-many h = record { answers = rw h; bytes = rw h }
 
-  module _ (few : many ≡ false) where
+  module _ (few-enough : tooMany m ≡ false) where
     pub too-short : length area < size → Writes m area (Writing.Refused 3) area
-    unfolding writingOf bytesAfter tooMany putInto fileInFront
+    unfolding writingOf bytesAfter putInto
     too-short h =
         let short = lt-ltb (length area) size h in
-        record { answers = rw (few, file-long m, short); bytes = rw (few, file-long m, short) }
+        record { answers = rw (few-enough, file-long m, short); bytes = rw (few-enough, file-long m, short) }
 
     pub written : size ≤ length area → (new : List ℕ) → new ≡ fileBytes m → Writes m area (Writing.Length size) (new ++ drop size area)
-    unfolding writingOf bytesAfter tooMany putInto fileInFront
+    unfolding writingOf bytesAfter putInto
     written h new e =
         let long = le-ltb (length area) size h in
-        record { answers = rw (few, file-long m, long); bytes = rw (few, file-long m, long, e) }
+        record { answers = rw (few-enough, file-long m, long); bytes = rw (few-enough, file-long m, long, e) }
 
 -- ---- a refusal
 
-put-refused : (short : Bool) (n : ℕ) (k : ℕ) (x y : List ℕ)
-    → Writing.Refused n ≡ cond short (Writing.Refused 3) (Writing.Length k) → (n ≡ 3) × (cond short x y ≡ x)
-put-refused true n k x y h = (cc, refl)
-put-refused false n k x y h = let z : _≡_ {A = ℕ} 0 1 = cc in absurd (omega arith)
-
-refused-by : (full short : Bool) (n k : ℕ) (x y : List ℕ)
-    → Writing.Refused n ≡ cond full (Writing.Refused 6) (cond short (Writing.Refused 3) (Writing.Length k))
-    → ((n ≡ 3) ⊎ (n ≡ 6)) × (cond full x (cond short x y) ≡ x)
-refused-by true short n k x y h = (inr cc, refl)
-refused-by false short n k x y h =
-    let p = put-refused short n k x y h in
-    (inl (p .0), p .1)
+refused-by : (full short : Bool) (n k : ℕ) (file area : List ℕ)
+    → let said = cond full (Writing.Refused 6) (cond short (Writing.Refused 3) (Writing.Length k)) in
+    Writing.Refused n ≡ said → ((n ≡ 3) ⊎ (n ≡ 6)) × (bytesAfter said file area ≡ area)
+unfolding bytesAfter
+refused-by true short n k file area h = (inr cc, refl)
+refused-by false true n k file area h = (inl cc, refl)
+refused-by false false n k file area h = let z : _≡_ {A = ℕ} 0 1 = cc in absurd (omega arith)
 
 pub refused-writing : RefusedWriting
-unfolding writingOf bytesAfter putInto fileInFront
+unfolding writingOf putInto
 refused-writing m area n area′ x =
-    let p = refused-by (tooMany m) (ltb (length area) (length (fileBytes m))) n (length (fileBytes m)) area _ (x .answers) in
+    let p = refused-by (tooMany m) (ltb (length area) (length (fileBytes m))) n (length (fileBytes m)) (fileBytes m) area (x .answers) in
     (p .0, x .bytes ∙ p .1)
 
 -- ---- an answer
@@ -99,7 +91,7 @@ module _ (m : Contents) (area : List ℕ) (n : ℕ) (area′ : List ℕ) (w : Wr
   not-many = wrote (tooMany m) (ltb (length area) (length (fileBytes m))) n (length (fileBytes m)) (w .answers) .0
 
   pub file-written : take n area′ ≡ fileBytes m
-  unfolding writingOf bytesAfter putInto fileInFront
+  unfolding writingOf bytesAfter putInto
   file-written =
       let x = wrote (tooMany m) (ltb (length area) (length (fileBytes m))) n (length (fileBytes m)) (w .answers) in
       rw (w .bytes, x .0, x .1, x .2) (take-at (fileBytes m) (drop (length (fileBytes m)) area) (length (fileBytes m)) refl)

@@ -1,4 +1,4 @@
--- The program's input: its format, what reading and writing one give, the format from the writer's side, and the way there and back.
+-- Mesh files, the program's input: the format, and from the writer's side; what reading and writing one give; there and back; the C forms.
 pub mod Format
 pub mod Written
 pub mod Reading

@@ -1,15 +1,18 @@
--- The answers as numbers, as the C interface has them, and the contracts of its two forms. A refusal n is 2^31 + n.
+-- The answers as numbers, as the C interface has them, the contracts of its two forms, and there and back by them. A refusal n is 2^31 + n.
 use mathlib.Core.Path.{_≡_}
-use Prim.Native.Nat.{ℕ, _+_}
+use Prim.Native.Nat.{ℕ, _+_, _^_, _≤_, _<_}
 use mathlib.Core.Bool.{not, cond}
-use mathlib.Core.List.{List, [], _∷_}
-use lib.ListN.{length}
+use mathlib.Core.List.{List, [], _∷_, _++_}
+use lib.ListN.{length, take, drop}
 use Rattle.record.specs.Numbers.{profileNumber, flagsFit}
+use Rattle.words.specs.Words.{Below}
 use Rattle.meshfile.specs.declared.ReadingBits.{ReadingBits}
 use Rattle.meshfile.specs.declared.writing.Writing.{Writing}
 use Rattle.meshfile.specs.Format.{Contents, fileOf}
+use Rattle.meshfile.specs.Written.{fileBytes}
 use Rattle.meshfile.specs.Reading.{readingOf, verticesAfter, idsAfter}
 use Rattle.meshfile.specs.Writing.{writingOf, bytesAfter}
+use Rattle.meshfile.specs.RoundTrip.{withKind4, FilePut}
 
 -- ---- mf_write_mesh
 
@@ -24,7 +27,7 @@ writingNumber (Writing.Refused n) = 2147483648 + n
 -- of contents m with flags of any value and a lent area come the number k and the later area
 pub record WritesNumbered (m : Contents) (area : List ℕ) (k : ℕ) (area′ : List ℕ) : Type 0 where
   pub number : k ≡ writingNumber (flagsThen m (writingOf m (length area)))
-  pub bytes : area′ ≡ cond (not (flagsFit (m .clip) (m .defect))) area (bytesAfter m area)
+  pub bytes : area′ ≡ bytesAfter (flagsThen m (writingOf m (length area))) (fileBytes m) area
 
 -- any two outcomes that it allows are equal (`write-numbered-one`)
 abbrev pub WriteNumberedOne : Type 0
@@ -55,3 +58,22 @@ abbrev pub ReadNumberedOne : Type 0
 ReadNumberedOne = (bytes ps ids five : List ℕ) (k k′ : ℕ) (ps₁ ps₂ ids₁ ids₂ five₁ five₂ : List ℕ)
     → ReadsNumbered bytes ps ids five k ps₁ ids₁ five₁ → ReadsNumbered bytes ps ids five k′ ps₂ ids₂ five₂
     → (k ≡ k′) × (ps₁ ≡ ps₂) × (ids₁ ≡ ids₂) × (five₁ ≡ five₂)
+
+-- ---- there and back
+
+-- Reading what was written gives the same bits: a number below 2^31 is a length. (`reads-back-numbered`)
+abbrev pub ReadsBackNumbered : Type 0
+ReadsBackNumbered = (m : Contents) → m .unit < 2 ^ 32 → Below (2 ^ 32) (m .vertices) → Below (2 ^ 32) (m .ids)
+    → (area : List ℕ) (n : ℕ) (area′ : List ℕ) → n < 2 ^ 31 → WritesNumbered m area n area′
+    → (ps ids five : List ℕ) → length (m .vertices) ≤ length ps → length (m .ids) ≤ length ids
+    → (k : ℕ) (ps′ ids′ five′ : List ℕ) → ReadsNumbered (take n area′) ps ids five k ps′ ids′ five′
+    → (k ≡ 0) × (ps′ ≡ m .vertices ++ drop (length (m .vertices)) ps) × (ids′ ≡ m .ids ++ drop (length (m .ids)) ids)
+    × (five′ ≡ length (m .vertices) ∷ length (m .ids) ∷ m .unit ∷ m .clip ∷ m .defect ∷ [])
+
+-- Writing what was read, by the five counts, gives the same bytes, with their kind 4 record. (`writes-back-numbered`)
+abbrev pub WritesBackNumbered : Type 0
+WritesBackNumbered = (bytes : List ℕ) → Below 256 bytes
+    → (ps ids five ps′ ids′ : List ℕ) (f i u c d : ℕ) → ReadsNumbered bytes ps ids five 0 ps′ ids′ (f ∷ i ∷ u ∷ c ∷ d ∷ [])
+    → (area : List ℕ) (k : ℕ) (area′ : List ℕ)
+    → WritesNumbered (record { unit = u; vertices = take f ps′; ids = take i ids′; clip = c; defect = d }) area k area′
+    → (w : Writing) × (k ≡ writingNumber w) × FilePut (withKind4 f i bytes) area w area′

@@ -39,18 +39,18 @@ readingOf (File.Holds m) f i = cond (meshAreasShort m f i) (ReadingBits.Refused 
 
 -- ---- a pattern taken as a float
 
-abbrev pub meshFile : MeshBits → MeshFile
-meshFile m =
+abbrev pub withFloat : MeshBits → MeshFile
+withFloat m =
     record { unit = ofBits binary32 (m .unit); floats = m .floats; ids = m .ids; clip = m .clip; profile = m .profile }
 
 unfoldable pub asFloats : ReadingBits → Reading
 asFloats (ReadingBits.Refused n) = Reading.Refused n
-asFloats (ReadingBits.File m) = Reading.File (meshFile m)
+asFloats (ReadingBits.File m) = Reading.File (withFloat m)
 
 -- ---- the areas
 
--- what stands in an area afterwards: the file's vertices, as what `taken` makes of its words, or its ids first, the rest untouched; all of
--- it on a refusal
+-- what stands in an area afterwards: first the file's vertices, what `taken` makes of their words, or its ids, the rest untouched; on a
+-- refusal all of it
 unfoldable pub verticesAfter : {A : Type 0} → (List ℕ → List A) → File → ℕ → List A → List A
 verticesAfter taken (File.Refused n) i area = area
 verticesAfter taken (File.Holds m) i area =
@@ -60,8 +60,8 @@ unfoldable pub idsAfter : File → ℕ → List ℕ → List ℕ
 idsAfter (File.Refused n) f area = area
 idsAfter (File.Holds m) f area = cond (meshAreasShort m f (length area)) area (m .ids ++ drop (length (m .ids)) area)
 
--- The complete contract: of bytes and lent vertices vs and ids come the answer r and the later vs′ and ids′. What the words are taken as,
--- and with them the answer, is left open.
+-- The complete contract: of bytes and lent vertices vs and ids come the answer r and the later vs′ and ids′. `taken` says what the
+-- vertices' words become, `answer` what the answer on patterns becomes.
 pub record ReadsAs {A R : Type 0} (taken : List ℕ → List A) (answer : ReadingBits → R) (bytes : List ℕ) (vs : List A) (ids : List ℕ)
     (r : R) (vs′ : List A) (ids′ : List ℕ) : Type 0 where
   pub answers : r ≡ answer (readingOf (fileOf bytes) (length vs) (length ids))
@@ -78,10 +78,10 @@ Reads = ReadsAs floatsOf asFloats
 
 -- ---- what is proved of it
 
--- Reading refuses by 3, 5 and 6 only, and a refusal leaves both areas as they were.
 abbrev pub By356 : ℕ → Type 0
 By356 n = (n ≡ 3) ⊎ (n ≡ 5) ⊎ (n ≡ 6)
 
+-- Reading refuses by 3, 5 and 6 only, and a refusal leaves both areas as they were. (`refused-reading`, `refused-reading-bits`)
 abbrev pub RefusedReading : Type 0
 RefusedReading = (bytes : List ℕ) (vs : List Float) (ids : List ℕ) (n : ℕ) (vs′ : List Float) (ids′ : List ℕ)
     → Reads bytes vs ids (Reading.Refused n) vs′ ids′ → By356 n × (vs′ ≡ vs) × (ids′ ≡ ids)

@@ -13,7 +13,7 @@ use Rattle.meshfile.specs.declared.writing.Writing.{Writing}
 use Rattle.meshfile.specs.Format.{Contents, File, fileOf}
 use Rattle.meshfile.specs.Written.{chunkOf}
 use Rattle.meshfile.specs.Reading.{ReadsBits}
-use Rattle.meshfile.specs.Writing.{contentsOf, putInto, fileInFront, Writes}
+use Rattle.meshfile.specs.Writing.{contentsOf, putInto, bytesAfter, Writes}
 
 -- Reading what was written gives the same unit, floats, ids and flags, to the bit: of every pattern, a NaN's too. (`reads-back`)
 abbrev pub ReadsBack : Type 0
@@ -24,20 +24,26 @@ ReadsBack = (u : ℕ) (vs is : List ℕ) (clip : Bool) (profile : Profile) → u
     → (r ≡ ReadingBits.File (record { unit = u; floats = length vs; ids = length is; clip = clip; profile = profile }))
     × (ps′ ≡ vs ++ drop (length vs) ps) × (ids′ ≡ is ++ drop (length is) ids)
 
--- A file of f floats and i ids has its kind 4 record where bytes stand behind the ids; where it has none, one of no flags is put there.
+-- A file of f floats and i ids has its kind 4 record where bytes stand behind the ids, three headers and the unit before them; where it
+-- has none, one of no flags is put there.
 unfoldable pub withKind4 : ℕ → ℕ → List ℕ → List ℕ
 withKind4 f i bytes = cond (ltb (22 + 4 * f + 4 * i) (length bytes)) bytes (bytes ++ chunkOf 4 (0 ∷ 0 ∷ []))
 
--- what was read into ps and ids, to be written
+-- the contract of writing what was read into ps and ids
 abbrev pub Rewrites : MeshBits → List ℕ → List ℕ → List ℕ → Writing → List ℕ → Type 0
 Rewrites m ps ids = Writes (contentsOf (m .unit) (take (m .floats) ps) (take (m .ids) ids) (m .clip) (m .profile))
+
+-- these bytes are put into an area
+pub record FilePut (file area : List ℕ) (w : Writing) (area′ : List ℕ) : Type 0 where
+  pub answers : w ≡ putInto file (length area)
+  pub bytes : area′ ≡ bytesAfter (putInto file (length area)) file area
 
 -- Writing what was read gives the same bytes, with their kind 4 record. (`writes-back`)
 abbrev pub WritesBack : Type 0
 WritesBack = (bytes : List ℕ) → Below 256 bytes
     → (ps ids : List ℕ) (m : MeshBits) (ps′ ids′ : List ℕ) → ReadsBits bytes ps ids (ReadingBits.File m) ps′ ids′
     → (area : List ℕ) (w : Writing) (area′ : List ℕ) → Rewrites m ps′ ids′ area w area′
-    → (w ≡ putInto (withKind4 (m .floats) (m .ids) bytes) (length area)) × (area′ ≡ fileInFront (withKind4 (m .floats) (m .ids) bytes) area)
+    → FilePut (withKind4 (m .floats) (m .ids) bytes) area w area′
 
 -- and these bytes are read as the file was (`same-file`)
 abbrev pub SameFile : Type 0

@@ -22,25 +22,23 @@ contentsOf u vs is clip profile =
 unfoldable pub tooMany : Contents → Bool
 tooMany m = ltb mostInFile (length (m .vertices)) || ltb mostInFile (length (m .ids))
 
--- A file put into an area of n bytes: its length, or 3 where the area is too short. Then the file stands first and the rest is untouched;
--- all of it on a refusal.
+-- a file put into an area of n bytes: its length, or 3 where the area is too short
 unfoldable pub putInto : List ℕ → ℕ → Writing
 putInto file n = cond (ltb n (length file)) (Writing.Refused 3) (Writing.Length (length file))
-
-unfoldable pub fileInFront : List ℕ → List ℕ → List ℕ
-fileInFront file area = cond (ltb (length area) (length file)) area (file ++ drop (length file) area)
 
 -- 6 is tried first
 unfoldable pub writingOf : Contents → ℕ → Writing
 writingOf m n = cond (tooMany m) (Writing.Refused 6) (putInto (fileBytes m) n)
 
-unfoldable pub bytesAfter : Contents → List ℕ → List ℕ
-bytesAfter m area = cond (tooMany m) area (fileInFront (fileBytes m) area)
+-- what stands in the area afterwards, by the answer: the file first, the rest untouched; on a refusal all of it
+unfoldable pub bytesAfter : Writing → List ℕ → List ℕ → List ℕ
+bytesAfter (Writing.Refused n) file area = area
+bytesAfter (Writing.Length n) file area = file ++ drop n area
 
 -- The complete contract: of contents m and a lent area come the answer r and the later area.
 pub record Writes (m : Contents) (area : List ℕ) (r : Writing) (area′ : List ℕ) : Type 0 where
   pub answers : r ≡ writingOf m (length area)
-  pub bytes : area′ ≡ bytesAfter m area
+  pub bytes : area′ ≡ bytesAfter (writingOf m (length area)) (fileBytes m) area
 
 -- ---- what is proved of it
 

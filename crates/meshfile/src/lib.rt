@@ -8,7 +8,7 @@ ghost use lib.ListN.{length, take, drop};
 ghost use Rattle.words.specs.Words.{wordsIn, floatsOf};
 ghost use Rattle.meshfile.specs.declared.Front.{Front};
 ghost use Rattle.meshfile.specs.Format.{lengthFits, frontOf, flagsIn, endingOf};
-ghost use Rattle.meshfile.specs.Reading.{meshBits, meshFile, Reads, ReadsBits};
+ghost use Rattle.meshfile.specs.Reading.{meshBits, withFloat, Reads, ReadsBits};
 ghost use Rattle.meshfile.specs.inner.Steps.{partsBy, idsFrom, verticesFrom, layoutOf, inRoom, contentsAt, IdsRead};
 use record::Profile;
 pub use writing::Writing;
@@ -183,7 +183,7 @@ fn layout_of(bytes: &[u8]) -> Layout
     }
 }
 
-// The same where areas of v floats and w ids are long enough.
+// The same where areas of v floats and w ids are long enough, else 3.
 fn layout_within(bytes: &[u8], v: usize, w: usize) -> Layout
     ensures { λ r. ⌜ r ≡ inRoom v w (layoutOf (now (bytes .entry))) ⌝ }
 {
@@ -216,7 +216,7 @@ fn bits_beside(bytes: &[u8], p: Parts) -> MeshBits
 }
 
 fn with_float(m: MeshBits) -> MeshFile
-    ensures { λ r. ⌜ r ≡ meshFile m ⌝ }
+    ensures { λ r. ⌜ r ≡ withFloat m ⌝ }
 {
     let profile = m.profile;
     MeshFile {

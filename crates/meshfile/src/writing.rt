@@ -30,7 +30,7 @@ fn put_header(kind: u8, n: u32, area: &mut [u8])
 }
 
 // A record of words.
-fn put_words(kind: u8, payload: &[u32], area: &mut [u8])
+fn put_record(kind: u8, payload: &[u32], area: &mut [u8])
     requires { ⌜ (length (now area) ≡ 6 + 4 * length (now payload)) × (length (now payload) ≤ mostInFile) ⌝ }
     ensures { λ _. ⌜ now (area .exit) ≡ chunkOf kind (allBytes (now (payload .entry))) ⌝ }
 {
@@ -57,9 +57,9 @@ fn put_file(unit: u32, vertices: &[u32], ids: &[u32], clip: bool, profile: Profi
 {
     let floats_end = 16 + 4 * vertices.len();
     let ids_end = floats_end + 6 + 4 * ids.len();
-    put_words(1, &[unit], &mut area[..10]);
-    put_words(2, vertices, &mut area[10..floats_end]);
-    put_words(3, ids, &mut area[floats_end..ids_end]);
+    put_record(1, &[unit], &mut area[..10]);
+    put_record(2, vertices, &mut area[10..floats_end]);
+    put_record(3, ids, &mut area[floats_end..ids_end]);
     put_flags(clip, profile, &mut area[ids_end..]);
 }
 

@@ -1,5 +1,5 @@
--- What is proved of the programs beside their contracts: which refusals a file can meet, what of an STL does not show, what a file prints
--- that was written, that no NaN gets past, and what becomes of input that is longer than any file.
+-- What is proved of the programs beside their contracts: which refusals a file can meet, what of an STL does not show, what is
+-- printed for a file that was written, that no NaN gets past, and what becomes of input that is longer than any file.
 use mathlib.Core.Path.{_≡_}
 use mathlib.Core.Logic.{_⊎_}
 use Prim.Native.Nat.{ℕ, _+_, _%_, _^_, _≤_, _<_}
@@ -14,8 +14,8 @@ use Rattle.refusals.specs.Refusals.{unitFits}
 use Rattle.record.specs.declared.Profile.{Profile}
 use Rattle.words.specs.Words.{floatsOf, Below}
 use Rattle.meshfile.specs.Format.{Contents, File, fileOf}
-use Rattle.meshfile.specs.Written.{fileBytes}
-use Rattle.meshfile.specs.Writing.{contentsOf}
+use Rattle.meshfile.specs.declared.writing.Writing.{Writing}
+use Rattle.meshfile.specs.Writing.{contentsOf, Writes}
 use Rattle.meshfile.specs.RoundTrip.{withKind4}
 use Rattle.stl.specs.declared.Stl.{Stl}
 use Rattle.stl.specs.Stl.{stlOf}
@@ -52,8 +52,8 @@ StlUnseen = (bytes bytes′ : List ℕ) → SameWhereSeen bytes bytes′ → stl
 -- What is printed for a mesh file that was written is the text of what was written. (`written-text`)
 abbrev pub WrittenText : Type 0
 WrittenText = (u : ℕ) (vs is : List ℕ) (clip : Bool) (profile : Profile) → u < 2 ^ 32 → Below (2 ^ 32) vs → Below (2 ^ 32) is
-    → length vs ≤ 1536 → length is ≤ 1536
-    → textOf (fileBytes (contentsOf u vs is clip profile)) ≡ meshText (floatsOf vs) is (ofBits binary32 u) clip profile
+    → (area : List ℕ) (n : ℕ) (area′ : List ℕ) → Writes (contentsOf u vs is clip profile) area (Writing.Length n) area′
+    → textOf (take n area′) ≡ meshText (floatsOf vs) is (ofBits binary32 u) clip profile
 
 -- A file that was read and written back prints the same. (`rewritten-text`)
 abbrev pub RewrittenText : Type 0

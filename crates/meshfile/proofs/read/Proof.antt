@@ -1,4 +1,5 @@
 -- `meshfile::read` meets its contract: what `read_ids` found, and the floats of the vertices' words. Assumes nothing.
+use native.Mathlib.Omega.{arith}
 use borrow.Author.Needs.{needs}
 use Rattle.words.specs.Words.{floatsOf}
 use Rattle.meshfile.specs.Reading.{asFloats}
@@ -13,7 +14,8 @@ ids-read c = c .before .before .before .before
 fill-floats-requires : tie.Need-fill-floats-requires
 fill-floats-requires c κs =
     let file = c .before .before in
-    room (ids-read file .read-ids .ensures) (file .found2 .given .1)
+    let r = room (ids-read file .read-ids .ensures) (file .found2 .given .1) in
+    (omega (arith, r .0), r .1)
 
 returns : tie.Need-returns
 unfolding asFloats

@@ -1,6 +1,7 @@
 -- `meshfile::read_bits` meets its contract: what `read_ids` found, and the words of the vertices. Assumes nothing.
 use mathlib.Core.List.{List}
 use Prim.Native.Nat.{ℕ}
+use native.Mathlib.Omega.{arith}
 use borrow.Author.Needs.{needs}
 use Rattle.meshfile.specs.declared.ReadingBits.{ReadingBits}
 use Rattle.meshfile.proofs.Gives.{unread, room, filled}
@@ -21,7 +22,8 @@ ids-read c = c .before .before .before .before
 fill-words-requires : tie.Need-fill-words-requires
 fill-words-requires c κs =
     let file = c .before .before in
-    room (ids-read file .read-ids .ensures) (file .found2 .given .1)
+    let r = room (ids-read file .read-ids .ensures) (file .found2 .given .1) in
+    (omega (arith, r .0), r .1)
 
 returns : tie.Need-returns
 returns c =

@@ -32,7 +32,9 @@ mul-fill-words : tie.Need-mul-fill-words
 mul-fill-words c = omega (arith, room (c .before .before) .0)
 
 fill-words-requires : tie.Need-fill-words-requires
-fill-words-requires c κs = room (c .before .before .before)
+fill-words-requires c κs =
+    let r = room (c .before .before .before) in
+    (omega (arith, r .0), r .1)
 
 bits-beside-requires : tie.Need-bits-beside-requires
 bits-beside-requires c κs = room (c .before .before .before .before .before .before) .0

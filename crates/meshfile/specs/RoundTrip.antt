@@ -24,8 +24,8 @@ ReadsBack = (u : ℕ) (vs is : List ℕ) (clip : Bool) (profile : Profile) → u
     → (r ≡ ReadingBits.File (record { unit = u; floats = length vs; ids = length is; clip = clip; profile = profile }))
     × (ps′ ≡ vs ++ drop (length vs) ps) × (ids′ ≡ is ++ drop (length is) ids)
 
--- A file of f floats and i ids has its kind 4 record where bytes stand behind the ids, three headers and the unit before them; where it
--- has none, one of no flags is put there.
+-- Three headers and the unit are 22 bytes: a file of f floats and i ids has its kind 4 record where bytes stand behind these and the ids.
+-- Where it has none, one of no flags is put there.
 unfoldable pub withKind4 : ℕ → ℕ → List ℕ → List ℕ
 withKind4 f i bytes = cond (ltb (22 + 4 * f + 4 * i) (length bytes)) bytes (bytes ++ chunkOf 4 (0 ∷ 0 ∷ []))
 

@@ -4,10 +4,11 @@ use mathlib.Core.Bool.{Bool, true, false, not, _||_, false≢true, cond}
 use Prim.Native.Nat.{ℕ, _≤_}
 use native.Mathlib.Omega.{arith}
 use mathlib.Core.List.{List}
-use lib.Dec.{T, ltb}
+use lib.Dec.{T, eqb, ltb}
 use lib.ListN.{length}
 use lib.Ieee.{Float}
-use borrow.Author.Tests.{ltb-false}
+use borrow.Author.Tests.{eq-eqb, eqb-false, ltb-false, ne-eqb}
+use Rattle.sums.specs.Editions.{editionKnown}
 use Rattle.sums.specs.Fine.{allFine}
 use Rattle.refusals.specs.declared.Check.{Check}
 use Rattle.refusals.specs.Refusals.{areasShort, unitFits, checkOf}
@@ -23,9 +24,23 @@ pub both-small : (f i : ℕ) → (ltb mostEntries f || ltb mostEntries i) ≡ fa
 both-small f i e =
     let h = neither (ltb mostEntries f) (ltb mostEntries i) e in (not-more mostEntries f (h .0), not-more mostEntries i (h .1))
 
+-- ---- the edition
+
+pub unknown-edition : (e : ℕ) → (e ≡ 1 → ⊥) → (e ≡ 2 → ⊥) → false ≡ editionKnown e
+unfolding editionKnown
+unknown-edition e not-1 not-2 = rw (ne-eqb e 1 not-1, ne-eqb e 2 not-2)
+
+pub known-edition : (e : ℕ) → 1 ≤ e → e ≤ 2 → true ≡ editionKnown e
+unfolding editionKnown
+known-edition e l h = go (eqb e 1) refl
+  where
+    go : (b : Bool) → eqb e 1 ≡ b → true ≡ (b || eqb e 2)
+    go true h1 = refl
+    go false h1 = let other = eqb-false e 1 h1 in sym (eq-eqb e 2 (omega arith))
+
 -- ---- the first row that applies
 
-module _ (vs : List Float) (ids : List ℕ) (u : Float) (w r s : ℕ) where
+module _ (vs : List Float) (ids : List ℕ) (u : Float) (e w r s : ℕ) where
   abbrev many : Bool
   many = ltb mostEntries (length vs) || ltb mostEntries (length ids)
 
@@ -35,36 +50,41 @@ module _ (vs : List Float) (ids : List ℕ) (u : Float) (w r s : ℕ) where
   abbrev short : Bool
   short = areasShort (length vs) (length ids) w r s
 
-  pub row-1 : many ≡ true → Check.Refuse 1 ≡ checkOf vs ids u w r s
+  pub row-1 : many ≡ true → Check.Refuse 1 ≡ checkOf vs ids u e w r s
   unfolding checkOf
   row-1 a = rw a
 
-  pub row-zero : many ≡ false → few ≡ true → Check.Zero ≡ checkOf vs ids u w r s
+  pub row-zero : many ≡ false → few ≡ true → Check.Zero ≡ checkOf vs ids u e w r s
   unfolding checkOf
   row-zero a b = rw (a, b)
 
-  pub row-2 : many ≡ false → few ≡ false → unitFits u ≡ false → Check.Refuse 2 ≡ checkOf vs ids u w r s
+  pub row-2 : many ≡ false → few ≡ false → unitFits u ≡ false → Check.Refuse 2 ≡ checkOf vs ids u e w r s
   unfolding checkOf
   row-2 a b c = rw (a, b, c)
 
+  pub row-7 : many ≡ false → few ≡ false → unitFits u ≡ true → editionKnown e ≡ false → Check.Refuse 7 ≡ checkOf vs ids u e w r s
+  unfolding checkOf
+  row-7 a b c d = rw (a, b, c, d)
+
   -- no row above 3 applies
-  pub record Behind2 : Type 0 where
+  pub record Behind7 : Type 0 where
     pub not-many : many ≡ false
     pub not-few : few ≡ false
     pub unit : unitFits u ≡ true
+    pub edition : editionKnown e ≡ true
 
-  module _ (h : Behind2) where
-    pub row-3 : short ≡ true → Check.Refuse 3 ≡ checkOf vs ids u w r s
+  module _ (h : Behind7) where
+    pub row-3 : short ≡ true → Check.Refuse 3 ≡ checkOf vs ids u e w r s
     unfolding checkOf
-    row-3 d = rw (h .not-many, h .not-few, h .unit, d)
+    row-3 d = rw (h .not-many, h .not-few, h .unit, h .edition, d)
 
-    pub row-4 : short ≡ false → allFine vs ≡ false → Check.Refuse 4 ≡ checkOf vs ids u w r s
+    pub row-4 : short ≡ false → allFine vs ≡ false → Check.Refuse 4 ≡ checkOf vs ids u e w r s
     unfolding checkOf
-    row-4 d e = rw (h .not-many, h .not-few, h .unit, d, e)
+    row-4 d f = rw (h .not-many, h .not-few, h .unit, h .edition, d, f)
 
-    pub no-row : short ≡ false → allFine vs ≡ true → Check.Full ≡ checkOf vs ids u w r s
+    pub no-row : short ≡ false → allFine vs ≡ true → Check.Full ≡ checkOf vs ids u e w r s
     unfolding checkOf
-    no-row d e = rw (h .not-many, h .not-few, h .unit, d, e)
+    no-row d f = rw (h .not-many, h .not-few, h .unit, h .edition, d, f)
 
 -- ---- none applies
 
@@ -73,28 +93,31 @@ isFull (Check.Refuse n) = false
 isFull Check.Zero = false
 isFull Check.Full = true
 
--- each of the five tests failed
-five-left : (p q r s t : Bool) → cond p (Check.Refuse 1)
-    (cond q Check.Zero (cond (not r) (Check.Refuse 2) (cond s (Check.Refuse 3) (cond (not t) (Check.Refuse 4) Check.Full)))) ≡ Check.Full
-    → (p ≡ false) × (q ≡ false) × T r × (s ≡ false) × T t
+-- a row that came out full was passed over
+passed : (p : Bool) (refused behind : Check) → isFull refused ≡ false → cond p refused behind ≡ Check.Full
+    → (p ≡ false) × (behind ≡ Check.Full)
 unfolding isFull
-five-left true q r s t e = absurd (false≢true (ap isFull e))
-five-left false true r s t e = absurd (false≢true (ap isFull e))
-five-left false false false s t e = absurd (false≢true (ap isFull e))
-five-left false false true true t e = absurd (false≢true (ap isFull e))
-five-left false false true false false e = absurd (false≢true (ap isFull e))
-five-left false false true false true e = (refl, refl, tt, refl, tt)
+passed true refused behind not-full e = absurd (false≢true (sym not-full ∙ ap isFull e))
+passed false refused behind not-full e = (refl, e)
+
+not-refused : (b : Bool) → not b ≡ false → T b
+not-refused true h = tt
+not-refused false h = absurd (false≢true (sym h))
 
 -- the mesh passes, and the areas are long enough
-pub admitted : (vs : List Float) (ids : List ℕ) (u : Float) (w r s : ℕ) (k : Check) → k ≡ Check.Full → k ≡ checkOf vs ids u w r s
-    → Admitted vs ids u w r s
-unfolding checkOf
-admitted vs ids u w r s k h e =
-    let t = five-left (ltb mostEntries (length vs) || ltb mostEntries (length ids)) (ltb (length ids) 3 || ltb (length vs) 9) (unitFits u)
-    (areasShort (length vs) (length ids) w r s) (allFine vs) (sym e ∙ h) in
-    let most = both-small (length vs) (length ids) (t .0) in
-    let least = neither (ltb (length ids) 3) (ltb (length vs) 9) (t .1) in
-    let areas = neither (ltb w (workWords (length vs) (length ids))) (ltb r rasterBytes || ltb s (surfaceFloats (length ids))) (t .3) in
+pub admitted : (vs : List Float) (ids : List ℕ) (u : Float) (e w r s : ℕ) (k : Check) → k ≡ Check.Full → k ≡ checkOf vs ids u e w r s
+    → Admitted vs ids u e w r s
+unfolding checkOf isFull
+admitted vs ids u e w r s k h is =
+    let row1 = passed (ltb mostEntries (length vs) || ltb mostEntries (length ids)) _ _ refl (sym is ∙ h) in
+    let zero = passed (ltb (length ids) 3 || ltb (length vs) 9) _ _ refl (row1 .1) in
+    let row2 = passed (not (unitFits u)) _ _ refl (zero .1) in
+    let row7 = passed (not (editionKnown e)) _ _ refl (row2 .1) in
+    let row3 = passed (areasShort (length vs) (length ids) w r s) _ _ refl (row7 .1) in
+    let row4 = passed (not (allFine vs)) _ _ refl (row3 .1) in
+    let most = both-small (length vs) (length ids) (row1 .0) in
+    let least = neither (ltb (length ids) 3) (ltb (length vs) 9) (zero .0) in
+    let areas = neither (ltb w (workWords (length vs) (length ids))) (ltb r rasterBytes || ltb s (surfaceFloats (length ids))) (row3 .0) in
     let others = neither (ltb r rasterBytes) (ltb s (surfaceFloats (length ids))) (areas .1) in
     record {
       mesh =
@@ -103,8 +126,9 @@ admitted vs ids u w r s k h e =
             ids-most = most .1;
             floats-least = not-more (length vs) 9 (least .1);
             ids-least = not-more (length ids) 3 (least .0);
-            unit = t .2;
-            fine = t .4;
+            unit = not-refused (unitFits u) (row2 .0);
+            edition = not-refused (editionKnown e) (row7 .0);
+            fine = not-refused (allFine vs) (row4 .0);
           };
       work = not-more w (workWords (length vs) (length ids)) (areas .0);
       raster = not-more r rasterBytes (others .0);

@@ -1,3 +1,3 @@
--- The table of refusals (01): its rows, and what it says of a mesh and of the lent areas.
+-- The table of refusals (01, 02): its rows, and what it says of a mesh and of the lent areas.
 pub mod Refusals
 pub mod inner

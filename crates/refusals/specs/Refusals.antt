@@ -1,4 +1,4 @@
--- Order of checks (01): the rows of the table are tried from the top, and the first that applies decides.
+-- Order of checks (01, and 02, A6): the rows of the table are tried from the top, and the first that applies decides.
 use Prim.Native.Nat.{ℕ, _≤_}
 use mathlib.Core.Bool.{Bool, cond, not, _&&_, _||_}
 use mathlib.Core.List.{List}
@@ -7,6 +7,7 @@ use lib.ListN.{length}
 use lib.Ieee.{Float, binary32, le, ofBits}
 use Rattle.ids.specs.Lent.{mostEntries}
 use Rattle.vertices.specs.Areas.{workWords, surfaceFloats, rasterBytes}
+use Rattle.sums.specs.Editions.{editionKnown}
 use Rattle.sums.specs.Fine.{allFine}
 use Rattle.refusals.specs.declared.Check.{Check}
 
@@ -19,20 +20,22 @@ abbrev pub areasShort : ℕ → ℕ → ℕ → ℕ → ℕ → Bool
 areasShort f i w r s = ltb w (workWords f i) || (ltb r rasterBytes || ltb s (surfaceFloats i))
 
 -- what a mesh that gets a full record has
-pub record Passes (vs : List Float) (ids : List ℕ) (u : Float) : Type 0 where
+pub record Passes (vs : List Float) (ids : List ℕ) (u : Float) (e : ℕ) : Type 0 where
   pub floats-most : length vs ≤ mostEntries
   pub ids-most : length ids ≤ mostEntries
   pub floats-least : 9 ≤ length vs
   pub ids-least : 3 ≤ length ids
   pub unit : T (unitFits u)
+  pub edition : T (editionKnown e)
   pub fine : T (allFine vs)
 
--- by the floats, the ids, the unit, and the lengths of work area, raster and surface area
-unfoldable pub checkOf : List Float → List ℕ → Float → ℕ → ℕ → ℕ → Check
-checkOf vs ids u w r s =
+-- by the floats, the ids, the unit, the edition, and the lengths of work area, raster and surface area
+unfoldable pub checkOf : List Float → List ℕ → Float → ℕ → ℕ → ℕ → ℕ → Check
+checkOf vs ids u e w r s =
     cond (ltb mostEntries (length vs) || ltb mostEntries (length ids)) (Check.Refuse 1)
     (cond (ltb (length ids) 3 || ltb (length vs) 9) Check.Zero
     (cond (not (unitFits u)) (Check.Refuse 2)
+    (cond (not (editionKnown e)) (Check.Refuse 7)
     (cond (areasShort (length vs) (length ids) w r s) (Check.Refuse 3)
     (cond (not (allFine vs)) (Check.Refuse 4)
-    Check.Full))))
+    Check.Full)))))

@@ -1,7 +1,8 @@
-// The table of refusals: document 01, 'Order of checks and what comes back'. Internal: `qto` asks it.
+// The table of refusals: document 01, 'Order of checks and what comes back', with 02's row. Internal: `qto` asks it.
 ghost use mathlib.Core.Path.{_≡_};
 ghost use Prim.Native.Nat.{_≤_};
 ghost use Rattle.ids.specs.Lent.{mostEntries};
+ghost use Rattle.sums.specs.Editions.{editionKnown};
 ghost use Rattle.sums.specs.Fine.{allFine};
 ghost use Rattle.refusals.specs.Refusals.{unitFits, areasShort, checkOf};
 ghost use Rattle.vertices.specs.Areas.{workWords, rasterBytes};
@@ -18,6 +19,19 @@ fn unit_fits(unit: f32) -> bool
     ensures { λ r. ⌜ r ≡ unitFits unit ⌝ }
 {
     (unit >= 0.00000095367431640625) & (unit <= 16.0)
+}
+
+// 1 or 2.
+fn edition_known(edition: u32) -> bool
+    ensures { λ r. ⌜ r ≡ editionKnown edition ⌝ }
+{
+    if edition < 1 {
+        return false;
+    }
+    if edition > 2 {
+        return false;
+    }
+    true
 }
 
 // Is every float finite, and at most 2^33 in magnitude? All are looked at whatever the first ones are: a processor then does several
@@ -64,11 +78,12 @@ pub fn checked(
     vertices: &[f32],
     indices: &[u32],
     unit_scale: f32,
+    edition: u32,
     work: usize,
     raster: usize,
     surfaces: usize,
 ) -> Check
-    ensures { λ r. ⌜ r ≡ checkOf (now (vertices .entry)) (now (indices .entry)) «unit_scale» work raster surfaces ⌝ }
+    ensures { λ r. ⌜ r ≡ checkOf (now (vertices .entry)) (now (indices .entry)) «unit_scale» edition work raster surfaces ⌝ }
 {
     let f = vertices.len();
     let i = indices.len();
@@ -80,6 +95,9 @@ pub fn checked(
     }
     if !unit_fits(unit_scale) {
         return Check::Refuse(2);
+    }
+    if !edition_known(edition) {
+        return Check::Refuse(7);
     }
     let short = areas_short(f, i, work, raster, surfaces);
     let fine = all_fine(vertices);

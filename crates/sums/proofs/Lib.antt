@@ -4,6 +4,7 @@
 mod Boxes
 pub mod Parts
 mod Slopes
+pub mod Editions
 pub mod Plus
 pub mod Within
 pub mod Roots

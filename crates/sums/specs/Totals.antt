@@ -2,7 +2,7 @@
 use Prim.Native.Nat.{ℕ, zero, suc}
 use mathlib.Core.Bool.{cond}
 use mathlib.Core.List.{List}
-use lib.Ieee.{Float, binary32, lt, neg, ofBits}
+use lib.Ieee.{Float, lt, neg}
 use Rattle.ieee.specs.Magnitude.{magnitude}
 use Rattle.ieee.specs.Single.{_⊕_, _⊗_, nought}
 use Rattle.ieee.specs.Double.{_⊞_, nought64}
@@ -22,10 +22,6 @@ slopeOf p z =
     cond (lt (p .top) z) Slope.Top
     (cond (lt z (neg (p .top))) Slope.Bottom
     (cond (lt (magnitude z) (p .side)) Slope.Side Slope.Inclined))
-
--- 0.940 and 0.342
-abbrev pub thresholds : Thresholds
-thresholds = record { top = ofBits binary32 0x3f70_a3d7; side = ofBits binary32 0x3eaf_1aa0 }
 
 -- ---- the areas by slope
 

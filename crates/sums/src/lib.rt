@@ -12,7 +12,7 @@ pub use totals::Areas;
 pub use totals::Slope;
 pub use totals::Thresholds;
 pub use totals::Totals;
-pub use totals::house_rule;
+pub use totals::thresholds_of;
 pub use triangle::Facet;
 pub use triangle::Prepared;
 pub use triangle::cross_at;

@@ -1,6 +1,7 @@
 // The slope of a facet, and the running sums that take it.
 ghost use mathlib.Core.Path.{_≡_};
-ghost use Rattle.sums.specs.Totals.{onSlope, scaledAreas, slopeOf, thresholds, noTotals, withFacet};
+ghost use Rattle.sums.specs.Editions.{thresholdsOf};
+ghost use Rattle.sums.specs.Totals.{onSlope, scaledAreas, slopeOf, noTotals, withFacet};
 use crate::triangle::Facet;
 
 pub enum Slope {
@@ -16,10 +17,16 @@ pub struct Thresholds {
     pub side: f32,
 }
 
-// 01's pair.
-pub fn house_rule() -> Thresholds
-    ensures { λ r. ⌜ r ≡ thresholds ⌝ }
+// The pair of an edition: 01's, and that of 2027.
+pub fn thresholds_of(edition: u32) -> Thresholds
+    ensures { λ r. ⌜ r ≡ thresholdsOf edition ⌝ }
 {
+    if edition == 2 {
+        return Thresholds {
+            top: 0.866,
+            side: 0.5,
+        };
+    }
     Thresholds {
         top: 0.940,
         side: 0.342,

@@ -6,6 +6,7 @@ use lib.Ieee.{Float}
 use Rattle.ieee.specs.Magnitude.{magnitude}
 use Rattle.ieee.specs.Single.{_⊗_}
 use Rattle.sums.specs.declared.bounds.Bounds.{Bounds}
+use Rattle.sums.specs.declared.totals.Thresholds.{Thresholds}
 use Rattle.sums.specs.Box.{box, boxVolume}
 use Rattle.weld.specs.Weld.{epsilonOf}
 use Rattle.verdict.specs.declared.Quality.{Quality}
@@ -34,11 +35,11 @@ unfolding verdict
 paired vs ids u b m aabb ε q p hb ha hε hq hp = rw (hp, hq, hε, ha, hb)
 
 -- the measures are those of the mesh
-pub of-mesh : (vs : List Float) (ids : List ℕ) (u : Float) (m : Measures) (t : Takeoff) → m ≡ measures vs ids u
+pub of-mesh : (vs : List Float) (ids : List ℕ) (u : Float) (p : Thresholds) (m : Measures) (t : Takeoff) → m ≡ measures vs ids u p
     → t .qto ≡ recordBy vs ids u m (verdict vs ids u (m .volume))
-    → t .pairs ≡ pairsOf (verdict vs ids u (m .volume)) (prismPairs vs ids (box vs)) → t ≡ takeoffOf vs ids u
+    → t .pairs ≡ pairsOf (verdict vs ids u (m .volume)) (prismPairs vs ids (box vs)) → t ≡ takeoffOf vs ids u p
 unfolding takeoffOf recordOf recordBy recordFrom
-of-mesh vs ids u m t hm hq hp =
+of-mesh vs ids u p m t hm hq hp =
     let q = hq ∙ ap (λ (n : Measures). recordBy vs ids u n (verdict vs ids u (n .volume))) hm in
-    let p = hp ∙ ap (λ (n : Measures). pairsOf (verdict vs ids u (n .volume)) (prismPairs vs ids (box vs))) hm in
-    λ i. record { qto = q i; pairs = p i }
+    let both = hp ∙ ap (λ (n : Measures). pairsOf (verdict vs ids u (n .volume)) (prismPairs vs ids (box vs))) hm in
+    λ i. record { qto = q i; pairs = both i }

@@ -19,9 +19,10 @@ use Rattle.ieee.specs.Single.{_⊗_, nought}
 use Rattle.ieee.specs.Double.{_⊠_, _⧄_}
 use Rattle.ieee.proofs.Order.Extremes.{least-from}
 use Rattle.ids.specs.Triangles.{triangleCount}
+use Rattle.sums.specs.declared.totals.Thresholds.{Thresholds}
 use Rattle.sums.specs.declared.totals.Totals.{Totals}
 use Rattle.sums.specs.Box.{box, boxVolume}
-use Rattle.sums.specs.Totals.{thresholds}
+use Rattle.sums.specs.Editions.{thresholdsOf}
 use Rattle.sums.proofs.FineBoxes.{box-fine, box-volume-within}
 use Rattle.sums.proofs.Units.{leastUnit, mostUnit, cube-within, square-within}
 use Rattle.sums.proofs.Within.{Within, multiple-value, power-value, within-div, within-most, within-mul, within-product, within-rounded}
@@ -160,30 +161,30 @@ best-finite Quality.OpenShell v s aabb p h g = go (trusted p (upper p aabb) v s)
     go true = record { volume = h; prism = g }
     go false = record { volume = g; prism = g }
 
--- ---- the record
-module _ (vs : List Float) (ids : List ℕ) (u : Float) (p : Passes vs ids u) where
+-- ---- the record, whatever the pair of thresholds
+module _ (vs : List Float) (ids : List ℕ) (u : Float) (e : ℕ) (h : Passes vs ids u e) where
   ends : T (le leastUnit u) × T (le u mostUnit)
-  ends = unit-ends u (p .unit)
+  ends = unit-ends u (h .unit)
 
   few : triangleCount ids ≤ 32768
-  few = omega (arith, p .ids-most)
+  few = omega (arith, h .ids-most)
 
   rows-all-finite : FiniteRows (surfaceRows vs ids u)
   unfolding surfaceRows buckets
   rows-all-finite =
       sorted-finite (scaled (square u) (rows (buckets vs ids)))
       (scaled-finite (triangleCount ids) few (square u) (square-within u (ends .0) (ends .1)) (buckets vs ids)
-      (buckets-within vs ids (triangleCount ids) (p .fine) few))
+      (buckets-within vs ids (triangleCount ids) (h .fine) few))
 
-  pub record-finite : FiniteRecord (recordOf vs ids u)
+  pub record-finite : (p : Thresholds) → FiniteRecord (recordOf vs ids u p)
   unfolding recordOf recordBy recordFrom measures measuresFrom totals best
-  record-finite =
+  record-finite p =
       let n = triangleCount ids in
-      let t = totals vs ids in
-      let w = totals-within vs thresholds ids n (p .fine) few in
+      let t = totals vs ids p in
+      let w = totals-within vs p ids n (h .fine) few in
       let S = square-within u (ends .0) (ends .1) in
       let C = cube-within u (ends .0) (ends .1) in
-      let b = box-fine vs (p .fine) (omega (arith, p .floats-least)) in
+      let b = box-fine vs (h .fine) (omega (arith, h .floats-least)) in
       let v = volumeOf t u in
       let areas = each-still (t .areas) (area-finite n few (square u) S) (w .areas) in
       let v-finite = volume-finite n few t w u S C in
@@ -207,7 +208,7 @@ module _ (vs : List Float) (ids : List ℕ) (u : Float) (p : Passes vs ids u) wh
 
 -- ---- what comes back
 pub rows-finite : RowsFinite
-rows-finite vs ids u p = rows-all-finite vs ids u p
+rows-finite vs ids u e h = rows-all-finite vs ids u e h
 
 zero-finite : FiniteRecord zeroRecord
 unfolding ofBits
@@ -215,5 +216,6 @@ zero-finite = search needs
 
 pub computes-finite : ComputesFinite
 unfolding takeoffOf
-computes-finite vs ids u w r s a w′ r′ s′ t c e =
-    of-record (λ (t : Takeoff). FiniteRecord (t .qto)) vs ids u w r s zero-finite (λ p. record-finite vs ids u p) c e
+computes-finite vs ids u e w r s a w′ r′ s′ t c is =
+    of-record (λ (t : Takeoff). FiniteRecord (t .qto)) vs ids u e w r s zero-finite
+    (λ h. record-finite vs ids u e h (thresholdsOf e)) c is

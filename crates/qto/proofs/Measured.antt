@@ -18,7 +18,7 @@ use Rattle.sums.specs.declared.totals.Areas.{Areas}
 use Rattle.sums.specs.declared.totals.Thresholds.{Thresholds}
 use Rattle.sums.specs.Box.{box, origin}
 use Rattle.sums.specs.Fine.{allFine}
-use Rattle.sums.specs.Totals.{scaledAreas, thresholds}
+use Rattle.sums.specs.Totals.{scaledAreas}
 use Rattle.sums.proofs.Units.{leastUnit, mostUnit, square-positive}
 use lib.Ieee.Fits.{and-l, and-r}
 use Rattle.rows.specs.declared.PlanarSurface.{PlanarSurface}
@@ -47,32 +47,32 @@ unit-ends u h = (and-l (le leastUnit u) (le u mostUnit) h, and-r (le leastUnit u
 pub unit-square : (u : Float) → T (unitFits u) → T (positive (square u))
 unit-square u h = let e = unit-ends u h in square-positive u (e .0) (e .1)
 
--- the walk from the box minimum o by the pair p found r and made the surface area w of s
-pub record Found (vs : List Float) (ids : List ℕ) (b : Bounds) (o : List Float) (p : Thresholds) (s : List Float) (r : Walked)
+-- the walk from the box minimum o by the pair p′, which is p, found r and made the surface area w of s
+pub record Found (vs : List Float) (ids : List ℕ) (b : Bounds) (o : List Float) (p p′ : Thresholds) (s : List Float) (r : Walked)
     (w : List Float) : Type 0 where
   pub is-box : b ≡ box vs
   pub is-origin : o ≡ origin b
-  pub is-pair : p ≡ thresholds
-  pub walked : Walks vs o p ids s r w
+  pub is-pair : p′ ≡ p
+  pub walked : Walks vs o p′ ids s r w
 
 module _
     {vs : List Float}
     {ids : List ℕ}
     {b : Bounds}
     {o : List Float}
-    {p : Thresholds}
+    {p p′ : Thresholds}
     {s : List Float}
     {r : Walked}
     {w : List Float}
     (u : Float)
-    (found : Found vs ids b o p s r w)
+    (found : Found vs ids b o p p′ s r w)
   where
-    walks : Walks vs (origin (box vs)) thresholds ids s r w
+    walks : Walks vs (origin (box vs)) p ids s r w
     walks =
         subst (λ (q : Thresholds). Walks vs (origin (box vs)) q ids s r w) (found .is-pair)
-        (subst (λ (q : List Float). Walks vs q p ids s r w) (found .is-origin ∙ ap origin (found .is-box)) (found .walked))
+        (subst (λ (q : List Float). Walks vs q p′ ids s r w) (found .is-origin ∙ ap origin (found .is-box)) (found .walked))
 
-    totalled : r .totals ≡ totals vs ids
+    totalled : r .totals ≡ totals vs ids p
     unfolding totals
     totalled = walks .totals
 
@@ -127,8 +127,8 @@ module _
           subst (λ (l : List PlanarSurface). T (allPlain (scaled (square u) l))) (sym front-rows)
           (buckets-plain vs ids (square u) (triangleCount ids) fine (unit-square u h))
 
-      pub arrangeable : Passes vs ids u → Arrangeable (take k w) (r .rows) (square u)
-      arrangeable h = record { few = few (h .ids-most); floats = front-length; plain = front-plain (h .unit) (h .fine) }
+      pub arrangeable : (e : ℕ) → Passes vs ids u e → Arrangeable (take k w) (r .rows) (square u)
+      arrangeable e h = record { few = few (h .ids-most); floats = front-length; plain = front-plain (h .unit) (h .fine) }
 
       -- what the code makes of the sums and of the rows when these are in order: x before y, which stands behind the rows
       module _ (e : Extremes) (x : List Float) (arranged : Arranged (take k w) (square u) e x) where
@@ -145,7 +145,7 @@ module _
               count = r .rows;
               triangles = r .counts;
             })
-            (measures vs ids u)
+            (measures vs ids u p)
         unfolding measures measuresFrom volumeOf surfaceOf
         measured volume surface c q areas fine hv hc hs hq ha =
             rw (arranged .largest-is, arranged .smallest-is, hv, hc, hs, hq, ha, arranged-rows, count-rows, totalled, asked fine)

@@ -10,6 +10,8 @@ use Rattle.raster.specs.Footprint.{noCells, footprint}
 use Rattle.raster.specs.Cells.{PairFits}
 use Rattle.raster.proofs.Cells.{none-fits, cells-fit}
 use Rattle.sums.specs.Box.{box}
+use Rattle.sums.specs.Editions.{thresholdsOf}
+use Rattle.sums.specs.declared.totals.Thresholds.{Thresholds}
 use Rattle.sums.specs.declared.bounds.Bounds.{Bounds}
 use Rattle.verdict.specs.declared.Quality.{Quality}
 use Rattle.volume.specs.declared.Pairs.{Pairs}
@@ -55,13 +57,13 @@ pairs-fit Quality.OpenShell p f = f
 
 pub computes-pairs : ComputesPairs
 unfolding takeoffOf
-computes-pairs vs ids u w r s a w′ r′ s′ t c e = of-record PairsAre vs ids u w r s zero-are (λ p. full-are) c e
+computes-pairs vs ids u e w r s a w′ r′ s′ t c is = of-record PairsAre vs ids u e w r s zero-are (λ h. full-are (thresholdsOf e)) c is
   where
     zero-are : PairsAre zeroTakeoff
     zero-are = record { none = λ shut. refl; z = none-fits; y = none-fits; x = none-fits }
 
-    full-are : PairsAre (takeoffOf vs ids u)
-    full-are =
-        let q = recordOf vs ids u .«mesh_quality» in
+    full-are : (p : Thresholds) → PairsAre (takeoffOf vs ids u p)
+    full-are p =
+        let q = recordOf vs ids u p .«mesh_quality» in
         let f = pairs-fit q (prismPairs vs ids (box vs)) (prism-pairs-fit vs ids (box vs)) in
         record { none = none-unless-open q (prismPairs vs ids (box vs)); z = f .z; y = f .y; x = f .x }

@@ -41,9 +41,9 @@ FiniteRows (r ∷ rs) = T (finite (r .area)) × FiniteRows rs
 
 abbrev pub ComputesFinite : Type 0
 ComputesFinite =
-    (vs : List Float) (ids : List ℕ) (u : Float) (w r : List ℕ) (s : List Float) (a : Answer) (w′ r′ : List ℕ) (s′ : List Float)
+    (vs : List Float) (ids : List ℕ) (u : Float) (e : ℕ) (w r : List ℕ) (s : List Float) (a : Answer) (w′ r′ : List ℕ) (s′ : List Float)
     (t : Takeoff)
-    → Computes vs ids u w r s a w′ r′ s′ → a ≡ Answer.Record t → FiniteRecord (t .qto)
+    → Computes vs ids u e w r s a w′ r′ s′ → a ≡ Answer.Record t → FiniteRecord (t .qto)
 
 abbrev pub RowsFinite : Type 0
-RowsFinite = (vs : List Float) (ids : List ℕ) (u : Float) → Passes vs ids u → FiniteRows (surfaceRows vs ids u)
+RowsFinite = (vs : List Float) (ids : List ℕ) (u : Float) (e : ℕ) → Passes vs ids u e → FiniteRows (surfaceRows vs ids u)

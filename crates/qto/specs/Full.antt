@@ -1,5 +1,5 @@
 -- Rules of the record (01): the record of a mesh that passes the checks, each float step rounded once, as 000 writes it. Beside it the
--- pairs (02, A3).
+-- pairs (02, A3). The slopes are by a pair of thresholds p, whichever it is: an edition gives one (02, A6).
 use Prim.Native.Nat.{ℕ, _*_}
 use mathlib.Core.List.{List, _++_}
 use lib.ListN.{length, drop}
@@ -9,9 +9,10 @@ use Rattle.ieee.specs.Rounded.{rounded}
 use Rattle.ieee.specs.Single.{_⊗_}
 use Rattle.ieee.specs.Double.{_⊠_, _⧄_}
 use Rattle.ids.specs.Triangles.{triangleCount}
+use Rattle.sums.specs.declared.totals.Thresholds.{Thresholds}
 use Rattle.sums.specs.declared.totals.Totals.{Totals}
 use Rattle.sums.specs.Box.{box, origin, boxVolume}
-use Rattle.sums.specs.Totals.{scaledAreas, thresholds, totalsTo}
+use Rattle.sums.specs.Totals.{scaledAreas, totalsTo}
 use Rattle.rows.specs.declared.PlanarSurface.{PlanarSurface}
 use Rattle.rows.specs.Rows.{flatten, scaled, sorted, largest, smallest}
 use Rattle.surfaces.specs.Surfaces.{Bucket, rows}
@@ -38,8 +39,8 @@ cube u = u ⊗ u ⊗ u
 
 -- ---- triangles and slope: the sums over the mesh
 
-unfoldable pub totals : List Float → List ℕ → Totals
-totals vs ids = totalsTo vs (origin (box vs)) thresholds ids (triangleCount ids)
+unfoldable pub totals : List Float → List ℕ → Thresholds → Totals
+totals vs ids p = totalsTo vs (origin (box vs)) p ids (triangleCount ids)
 
 -- the volume: a sixth of the sum, times u³ in f64, to f32; the surface area: times u² likewise
 unfoldable pub volumeOf : Totals → Float → Float
@@ -74,8 +75,8 @@ measuresFrom t rs c u =
       triangles = c;
     }
 
-unfoldable pub measures : List Float → List ℕ → Float → Measures
-measures vs ids u = measuresFrom (totals vs ids) (surfaceRows vs ids u) (countsOf vs (origin (box vs)) ids) u
+unfoldable pub measures : List Float → List ℕ → Float → Thresholds → Measures
+measures vs ids u p = measuresFrom (totals vs ids p) (surfaceRows vs ids u) (countsOf vs (origin (box vs)) ids) u
 
 -- ---- verdict and best volume
 
@@ -118,11 +119,11 @@ recordFrom m aabb q b =
 unfoldable pub recordBy : List Float → List ℕ → Float → Measures → Quality → MeshQto
 recordBy vs ids u m q = recordFrom m (boxVolume (box vs) (cube u)) q (best vs ids u m q)
 
-unfoldable pub recordOf : List Float → List ℕ → Float → MeshQto
-recordOf vs ids u = recordBy vs ids u (measures vs ids u) (verdict vs ids u (measures vs ids u .volume))
+unfoldable pub recordOf : List Float → List ℕ → Float → Thresholds → MeshQto
+recordOf vs ids u p = recordBy vs ids u (measures vs ids u p) (verdict vs ids u (measures vs ids u p .volume))
 
 -- ---- and beside it, by its verdict, the pairs
 
-unfoldable pub takeoffOf : List Float → List ℕ → Float → Takeoff
-takeoffOf vs ids u =
-    record { qto = recordOf vs ids u; pairs = pairsOf (recordOf vs ids u .«mesh_quality») (prismPairs vs ids (box vs)) }
+unfoldable pub takeoffOf : List Float → List ℕ → Float → Thresholds → Takeoff
+takeoffOf vs ids u p =
+    record { qto = recordOf vs ids u p; pairs = pairsOf (recordOf vs ids u p .«mesh_quality») (prismPairs vs ids (box vs)) }

@@ -28,4 +28,4 @@ pub record RowsAre (vs : List Float) (ids : List ℕ) (u : Float) : Type 0 where
   pub sums : (k : Key) → areaFor k (buckets vs ids) ≡ sumFor vs (origin (box vs)) ids k (triangleCount ids)
 
 abbrev pub SurfaceRowsAre : Type 0
-SurfaceRowsAre = (vs : List Float) (ids : List ℕ) (u : Float) → Passes vs ids u → RowsAre vs ids u
+SurfaceRowsAre = (vs : List Float) (ids : List ℕ) (u : Float) (e : ℕ) → Passes vs ids u e → RowsAre vs ids u

@@ -1,4 +1,4 @@
-// `compute`: the takeoff of one mesh. It answers or refuses by document 01's table. The record comes by value, and beside it the pairs of
+// `compute`: the takeoff of one mesh under an edition of the slope rule. It answers or refuses by the documents' table. The record comes by value, and beside it the pairs of
 // its footprints; the surface rows stand in the lent surface area.
 ghost use mathlib.Core.Path.{_≡_};
 ghost use lib.ListN.{length};
@@ -53,11 +53,12 @@ fn measure(
     indices: &[u32],
     b: Bounds,
     unit_scale: f32,
+    edition: u32,
     index: &mut [u32],
     surfaces: &mut [f32],
 ) -> Measures
-    requires { ⌜ Measurable (now vertices) (now indices) b «unit_scale» (now index) (now surfaces) ⌝ }
-    ensures { λ r. ⌜ Measured (now (vertices .entry)) (now (indices .entry)) «unit_scale» (now (surfaces .entry))
+    requires { ⌜ Measurable (now vertices) (now indices) b «unit_scale» edition (now index) (now surfaces) ⌝ }
+    ensures { λ r. ⌜ Measured (now (vertices .entry)) (now (indices .entry)) «unit_scale» edition (now (surfaces .entry))
         r (now (surfaces .exit)) ⌝ }
 {
     let square = unit_scale * unit_scale;
@@ -66,7 +67,7 @@ fn measure(
         vertices,
         indices,
         sums::origin(b),
-        sums::house_rule(),
+        sums::thresholds_of(edition),
         index,
         surfaces,
     );
@@ -150,18 +151,19 @@ fn full(
     vertices: &[f32],
     indices: &[u32],
     unit_scale: f32,
+    edition: u32,
     work: &mut [u32],
     raster: &mut [u8],
     surfaces: &mut [f32],
 ) -> Takeoff
-    requires { ⌜ Admitted (now vertices) (now indices) «unit_scale» (length (now work)) (length (now raster)) (length (now surfaces)) ⌝ }
-    ensures { λ r. ⌜ Recorded (now (vertices .entry)) (now (indices .entry)) «unit_scale»
+    requires { ⌜ Admitted (now vertices) (now indices) «unit_scale» edition (length (now work)) (length (now raster)) (length (now surfaces)) ⌝ }
+    ensures { λ r. ⌜ Recorded (now (vertices .entry)) (now (indices .entry)) «unit_scale» edition
         (now (work .entry)) (now (raster .entry)) (now (surfaces .entry))
         r (now (work .exit)) (now (raster .exit)) (now (surfaces .exit)) ⌝ }
 {
     let b = sums::box_of(vertices);
     let n = 5 * (indices.len() / 3);
-    let m = measure(vertices, indices, b, unit_scale, &mut work[0..n], surfaces);
+    let m = measure(vertices, indices, b, unit_scale, edition, &mut work[0..n], surfaces);
     let words = refusals::work_words(vertices.len(), indices.len());
     let bytes = refusals::raster_bytes();
     record_by(
@@ -195,11 +197,12 @@ pub fn compute(
     vertices: &[f32],
     indices: &[u32],
     unit_scale: f32,
+    edition: u32,
     work: &mut [u32],
     raster: &mut [u8],
     surfaces: &mut [f32],
 ) -> Answer
-    ensures { λ r. ⌜ Computes (now (vertices .entry)) (now (indices .entry)) «unit_scale»
+    ensures { λ r. ⌜ Computes (now (vertices .entry)) (now (indices .entry)) «unit_scale» edition
         (now (work .entry)) (now (raster .entry)) (now (surfaces .entry))
         r (now (work .exit)) (now (raster .exit)) (now (surfaces .exit)) ⌝ }
 {
@@ -207,6 +210,7 @@ pub fn compute(
         vertices,
         indices,
         unit_scale,
+        edition,
         work.len(),
         raster.len(),
         surfaces.len(),
@@ -215,7 +219,7 @@ pub fn compute(
         Check::Refuse(n) => Answer::Refused(n),
         Check::Zero => Answer::Record(zero_takeoff()),
         Check::Full => {
-            Answer::Record(full(vertices, indices, unit_scale, work, raster, surfaces))
+            Answer::Record(full(vertices, indices, unit_scale, edition, work, raster, surfaces))
         }
     }
 }

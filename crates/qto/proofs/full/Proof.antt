@@ -1,6 +1,7 @@
 -- `qto::full` meets its contract: the record is that of the mesh's own measures, and the parts that are lent come back zero. Assumes
 -- nothing.
 use Rattle.ids.specs.Triangles.{triangleCount}
+use Rattle.sums.specs.Editions.{thresholdsOf}
 use Rattle.vertices.specs.Areas.{workWords, rasterBytes}
 use Rattle.raster.proofs.Clearing.{cleared-back}
 use Rattle.qto.proofs.Assembled.{of-mesh}
@@ -42,11 +43,11 @@ module _ (c : tie.After-measure) where
   area = start boxed .args .work .now
 
   abbrev measured : List ℕ
-  measured = c .measure .last .1 .1 .1 .1 .0 ++ postOf 0 (index boxed - 0) area
+  measured = c .measure .last .1 .1 .1 .1 .1 .0 ++ postOf 0 (index boxed - 0) area
 
   still-long : words boxed ≤ length measured
   still-long =
-      let e = front-kept (index boxed) area (c .measure .last .1 .1 .1 .1 .0) (c .measure .kept .1 .1 .1 .1 .0) in
+      let e = front-kept (index boxed) area (c .measure .last .1 .1 .1 .1 .1 .0) (c .measure .kept .1 .1 .1 .1 .1 .0) in
       omega (arith, e, start boxed .pre .work)
 
 part-measure-end : tie.Need-part-measure-end
@@ -102,13 +103,13 @@ returns c =
     let q = done .record-by in
     let r = m .measure in
     record {
-      is = of-mesh (a .vertices .now) (a .indices .now) (a .unit-scale) (r .result) (q .result) (r .ensures .is) (q .ensures .is)
+      is = of-mesh (a .vertices .now) (a .indices .now) (a .unit-scale) (thresholdsOf (a .edition)) (r .result) (q .result) (r .ensures .is) (q .ensures .is)
           (q .ensures .pairs-are);
       work =
           front-cleared (words b) _ (measured m) (q .last .1 .1 .1 .1 .1 .0) (sized k .work-words .ensures) (q .ensures .work)
-          ∙ cleared-back (words b) (index b) (a .work .now) (r .last .1 .1 .1 .1 .0) (index-within b)
+          ∙ cleared-back (words b) (index b) (a .work .now) (r .last .1 .1 .1 .1 .1 .0) (index-within b)
           (omega (arith, index-within b, start b .pre .work))
-          (r .kept .1 .1 .1 .1 .0);
+          (r .kept .1 .1 .1 .1 .1 .0);
       raster = front-cleared rasterBytes _ (a .raster .now) (q .last .1 .1 .1 .1 .1 .1 .0) (k .raster-bytes .ensures) (q .ensures .raster);
       surfaces = r .ensures .later;
     }

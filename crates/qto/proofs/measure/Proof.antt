@@ -1,4 +1,5 @@
 -- `qto::measure` meets its contract: by what the walk left in the surface area. Assumes nothing.
+use Rattle.sums.specs.Editions.{thresholdsOf}
 use Rattle.qto.proofs.Measured.{Found, few, arrangeable, measured, rows-after}
 use borrow.Rule.Slice.PartMut.{post-is}
 use mathlib.Core.List.{List}
@@ -27,13 +28,13 @@ module _ (c : tie.After-walk) where
   area = c .walk .last .1 .1 .1 .1 .1 .0
 
   found : Found (s .args .vertices .now) (s .args .indices .now) (s .args .b) (from-origin .origin .result)
-      (c .before .before .before .house-rule .result)
+      (thresholdsOf (s .args .edition)) (c .before .before .before .thresholds-of .result)
       (s .args .surfaces .now) (c .walk .result) area
   found =
       record {
         is-box = s .pre .is-box;
         is-origin = from-origin .origin .ensures;
-        is-pair = c .before .before .before .house-rule .ensures;
+        is-pair = c .before .before .before .thresholds-of .ensures;
         walked = c .walk .ensures;
       }
 
@@ -43,7 +44,7 @@ at-walk c = c .before .before .before .before .before
 arrange-requires : tie.Need-arrange-requires
 arrange-requires c κs =
     let k = at-walk (c .before .before .before) in
-    arrangeable (u k) (found k) (4 * k .walk .result .rows - 0) (omega arith) (s k .pre .mesh)
+    arrangeable (u k) (found k) (4 * k .walk .result .rows - 0) (omega arith) (s k .args .edition) (s k .pre .mesh)
 
 returns : tie.Need-returns
 returns c =

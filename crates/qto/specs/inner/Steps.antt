@@ -10,6 +10,7 @@ use Rattle.ids.specs.Triangles.{triangleCount}
 use Rattle.vertices.specs.Areas.{workWords, surfaceFloats, rasterBytes}
 use Rattle.sums.specs.declared.bounds.Bounds.{Bounds}
 use Rattle.sums.specs.Box.{box}
+use Rattle.sums.specs.Editions.{thresholdsOf}
 use Rattle.rows.specs.Rows.{flatten, rowsOf, scaled, sorted, largest, smallest}
 use Rattle.rows.specs.Plain.{allPlain}
 use Rattle.volume.specs.Pairs.{prismPairs, pairsOf}
@@ -33,14 +34,14 @@ pub record Arranged (rows : List Float) (by : Float) (r : Extremes) (rows′ : L
 
 -- ---- `measure`: a mesh that passes, its box, the words of the rows' index and the surface area
 
-pub record Measurable (vs : List Float) (ids : List ℕ) (b : Bounds) (u : Float) (index : List ℕ) (s : List Float) : Type 0 where
-  pub mesh : Passes vs ids u
+pub record Measurable (vs : List Float) (ids : List ℕ) (b : Bounds) (u : Float) (e : ℕ) (index : List ℕ) (s : List Float) : Type 0 where
+  pub mesh : Passes vs ids u e
   pub is-box : b ≡ box vs
   pub index-words : length index ≡ 5 * triangleCount ids
   pub room : surfaceFloats (length ids) ≤ length s
 
-pub record Measured (vs : List Float) (ids : List ℕ) (u : Float) (s : List Float) (r : Measures) (s′ : List Float) : Type 0 where
-  pub is : r ≡ measures vs ids u
+pub record Measured (vs : List Float) (ids : List ℕ) (u : Float) (e : ℕ) (s : List Float) (r : Measures) (s′ : List Float) : Type 0 where
+  pub is : r ≡ measures vs ids u (thresholdsOf e)
   pub few : r .count ≤ 32768
   pub later : s′ ≡ surfacesAfter vs ids u s
 
@@ -62,9 +63,9 @@ pub record RecordedBy (vs : List Float) (ids : List ℕ) (u : Float) (m : Measur
 
 -- ---- `full`: in areas that may be longer, as the table admits them
 
-pub record Recorded (vs : List Float) (ids : List ℕ) (u : Float) (w r : List ℕ) (s : List Float) (t : Takeoff) (w′ r′ : List ℕ)
+pub record Recorded (vs : List Float) (ids : List ℕ) (u : Float) (e : ℕ) (w r : List ℕ) (s : List Float) (t : Takeoff) (w′ r′ : List ℕ)
     (s′ : List Float) : Type 0 where
-  pub is : t ≡ takeoffOf vs ids u
+  pub is : t ≡ takeoffOf vs ids u (thresholdsOf e)
   pub work : w′ ≡ cleared (workWords (length vs) (length ids)) w
   pub raster : r′ ≡ cleared rasterBytes r
   pub surfaces : s′ ≡ surfacesAfter vs ids u s

@@ -10,7 +10,7 @@ use lib.ListN.{length}
 use lib.Ieee.{Float}
 use Rattle.ids.specs.Triangles.{triangleCount}
 use Rattle.sums.specs.Box.{box, origin, boxVolume}
-use Rattle.sums.specs.Totals.{thresholds}
+use Rattle.sums.specs.declared.totals.Thresholds.{Thresholds}
 use Rattle.walk.specs.Counts.{countsOf}
 use Rattle.verdict.specs.Verdict.{byChain, quality}
 use Rattle.refusals.specs.Refusals.{unitFits}
@@ -23,10 +23,10 @@ use Rattle.place.proofs.Triangles.{same-totals, same-buckets, same-coun
 use Rattle.place.proofs.Weld.{same-welded}
 
 module _ (dx dy dz : ℤ) (vs vs′ : List Float) (m : Moved dx dy dz vs vs′) (some : 9 ≤ length vs) (ids : List ℕ) where
-  pub totals-stay : totals vs′ ids ≡ totals vs ids
+  pub totals-stay : (p : Thresholds) → totals vs′ ids p ≡ totals vs ids p
   unfolding totals
-  totals-stay =
-      same-totals dx dy dz vs vs′ m (box vs) (box vs′) (box-shifted dx dy dz vs vs′ m (omega arith)) thresholds ids (triangleCount ids)
+  totals-stay p =
+      same-totals dx dy dz vs vs′ m (box vs) (box vs′) (box-shifted dx dy dz vs vs′ m (omega arith)) p ids (triangleCount ids)
 
   buckets-stay : buckets vs′ ids ≡ buckets vs ids
   unfolding buckets
@@ -47,16 +47,16 @@ module _ (dx dy dz : ℤ) (vs vs′ : List Float) (m : Moved dx dy dz vs vs′) 
     unfolding surfacesAfter
     surfaces-stay area = rw rows-stay
 
-    measures-stay : measures vs′ ids u ≡ measures vs ids u
+    measures-stay : (p : Thresholds) → measures vs′ ids u p ≡ measures vs ids u p
     unfolding measures
-    measures-stay = rw (totals-stay, rows-stay, counts-stay)
+    measures-stay p = rw (totals-stay p, rows-stay, counts-stay)
 
-    module _ (enough : T (unitEnough u)) (fits : T (unitFits u)) where
-      pub verdict-stays : verdict vs′ ids u (measures vs′ ids u .volume) ≡ verdict vs ids u (measures vs ids u .volume)
+    module _ (p : Thresholds) (enough : T (unitEnough u)) (fits : T (unitFits u)) where
+      pub verdict-stays : verdict vs′ ids u (measures vs′ ids u p .volume) ≡ verdict vs ids u (measures vs ids u p .volume)
       unfolding verdict quality byChain
-      verdict-stays = rw (measures-stay, box-volume-stays, same-welded u enough fits dx dy dz vs vs′ m ids)
+      verdict-stays = rw (measures-stay p, box-volume-stays, same-welded u enough fits dx dy dz vs vs′ m ids)
 
-      pub records-agree : AgreeRecords (recordOf vs ids u) (recordOf vs′ ids u)
+      pub records-agree : AgreeRecords (recordOf vs ids u p) (recordOf vs′ ids u p)
       unfolding recordOf recordBy best
-      records-agree = rw (verdict-stays, measures-stay, box-volume-stays)
-          (agree-but-prism (measures vs ids u) (verdict vs ids u (measures vs ids u .volume)) _ _ (boxVolume (box vs) (cube u)) _ _)
+      records-agree = rw (verdict-stays, measures-stay p, box-volume-stays)
+          (agree-but-prism (measures vs ids u p) (verdict vs ids u (measures vs ids u p .volume)) _ _ (boxVolume (box vs) (cube u)) _ _)

@@ -16,12 +16,12 @@ SameOwed n words words′ = owed n words′ ≡ owed n words
 abbrev pub SameNumberedArea : ℕ → List ℕ → List Float → List Float → Type 0
 SameNumberedArea n words s s′ = s′ ≡ s
 
--- the same flags too, and the record's words alike before the call (`numbered-does-not-show`)
+-- the same edition and flags, and the record's words alike before the call (`numbered-does-not-show`)
 abbrev pub NumberedDoesNotShow : Type 0
 NumberedDoesNotShow =
-    (dx dy dz : ℤ) (vs vs′ : List Float) (ids : List ℕ) (u : Float) (clip defect : ℕ) (w r : List ℕ) (s : List Float) (words : List ℕ)
+    (dx dy dz : ℤ) (vs vs′ : List Float) (ids : List ℕ) (u : Float) (e clip defect : ℕ) (w r : List ℕ) (s : List Float) (words : List ℕ)
     (n n′ : ℕ) (w₁ w₂ r₁ r₂ : List ℕ) (s₁ s₂ : List Float) (words₁ words₂ : List ℕ)
     → Moved dx dy dz vs vs′ → T (unitEnough u)
-    → ComputesNumbered vs ids u clip defect w r s words n w₁ r₁ s₁ words₁
-    → ComputesNumbered vs′ ids u clip defect w r s words n′ w₂ r₂ s₂ words₂
+    → ComputesNumbered vs ids u e clip defect w r s words n w₁ r₁ s₁ words₁
+    → ComputesNumbered vs′ ids u e clip defect w r s words n′ w₂ r₂ s₂ words₂
     → AgreeNumbered SameOwed SameNumberedArea n n′ w₁ w₂ r₁ r₂ s₁ s₂ words₁ words₂

@@ -8,17 +8,17 @@ use lib.IntN.{ℤ}
 use lib.Ieee.{Float}
 use Rattle.qto.specs.declared.Answer.{Answer}
 use Rattle.qto.specs.Compute.{Computes}
-use Rattle.road.specs.Agree.{Agree, AgreeRecords}
+use Rattle.road.specs.Agree.{Agree, AgreeRecords, Beside}
 use Rattle.place.specs.Moved.{Moved, unitEnough}
 
 -- whatever the answer is, the surface area is the same
 abbrev pub SameArea : Answer → List Float → List Float → Type 0
 SameArea a s s′ = s′ ≡ s
 
--- the same ids and unit, and lent areas alike before the call (`place-does-not-show`)
+-- the same ids, unit and edition, and lent areas alike before the call (`place-does-not-show`)
 abbrev pub PlaceDoesNotShow : Type 0
 PlaceDoesNotShow =
-    (dx dy dz : ℤ) (vs vs′ : List Float) (ids : List ℕ) (u : Float) (w r : List ℕ) (s : List Float) (a a′ : Answer)
+    (dx dy dz : ℤ) (vs vs′ : List Float) (ids : List ℕ) (u : Float) (e : ℕ) (w r : List ℕ) (s : List Float) (a a′ : Answer)
     (w₁ w₂ r₁ r₂ : List ℕ) (s₁ s₂ : List Float)
-    → Moved dx dy dz vs vs′ → T (unitEnough u) → Computes vs ids u w r s a w₁ r₁ s₁ → Computes vs′ ids u w r s a′ w₂ r₂ s₂
-    → Agree AgreeRecords SameArea a a′ w₁ w₂ r₁ r₂ s₁ s₂
+    → Moved dx dy dz vs vs′ → T (unitEnough u) → Computes vs ids u e w r s a w₁ r₁ s₁ → Computes vs′ ids u e w r s a′ w₂ r₂ s₂
+    → Agree (Beside AgreeRecords) SameArea a a′ w₁ w₂ r₁ r₂ s₁ s₂

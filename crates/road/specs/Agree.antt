@@ -59,15 +59,15 @@ pub record Beside (R : MeshQto → MeshQto → Type 0) (t t′ : Takeoff) : Type
   pub records : R (t .qto) (t′ .qto)
   pub pairs : AgreePairs (t .qto .«mesh_quality») (t .pairs) (t′ .pairs)
 
--- two refusals with one number, or two such records
-unfoldable pub AgreeAnswers : (MeshQto → MeshQto → Type 0) → Answer → Answer → Type 0
+-- two refusals with one number, or two records that stand to each other as R says, each with its pairs
+unfoldable pub AgreeAnswers : (Takeoff → Takeoff → Type 0) → Answer → Answer → Type 0
 AgreeAnswers R (Answer.Refused n) (Answer.Refused m) = m ≡ n
-AgreeAnswers R (Answer.Record t) (Answer.Record t′) = Beside R t t′
+AgreeAnswers R (Answer.Record t) (Answer.Record t′) = R t t′
 AgreeAnswers R (Answer.Refused n) (Answer.Record t) = ⊥
 AgreeAnswers R (Answer.Record t) (Answer.Refused n) = ⊥
 
 -- the answers, and what stands in work area, raster and surface area afterwards; of the surface area S says it, by the answer
-pub record Agree (R : MeshQto → MeshQto → Type 0) (S : Answer → List Float → List Float → Type 0) (a a′ : Answer) (w w′ r r′ : List ℕ)
+pub record Agree (R : Takeoff → Takeoff → Type 0) (S : Answer → List Float → List Float → Type 0) (a a′ : Answer) (w w′ r r′ : List ℕ)
     (s s′ : List Float) : Type 0 where
   pub answers : AgreeAnswers R a a′
   pub work : w′ ≡ w

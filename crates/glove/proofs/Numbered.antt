@@ -16,20 +16,20 @@ use Rattle.record.specs.declared.Profile.{Profile}
 use Rattle.record.specs.Flags.{marked, flagged}
 use Rattle.record.specs.Numbers.{profileAt}
 use Rattle.record.proofs.Kept.{flags-leave}
-use Rattle.refusals.specs.Refusals.{Passes}
+use Rattle.sums.specs.declared.totals.Thresholds.{Thresholds}
+use Rattle.sums.specs.Editions.{thresholdsOf}
 use Rattle.qto.specs.declared.Takeoff.{Takeoff}
 use Rattle.qto.specs.Full.{recordOf, recordBy, recordFrom, measures, measuresFrom, volumeOf, takeoffOf}
 use Rattle.qto.specs.Compute.{zeroTakeoff}
 use Rattle.qto.specs.Numbers.{wordsOf, withFlags}
-use Rattle.road.specs.Agree.{AgreePairs, Beside}
-use Rattle.road.proofs.Outcomes.{same-verdict-pairs}
+use Rattle.road.specs.Agree.{Beside}
+use Rattle.road.proofs.Outcomes.{zero-beside}
 use Rattle.road.proofs.Numbered.{AlikeNumbered, words-agree, flagged-pairs, numbered-agree}
 use Rattle.glove.specs.Turned.{sided, turnedOver, volumeAsNumber, TurnedRecords, TurnedRows}
 use Rattle.glove.specs.Numbered.{volumeWordAsNumber, turnedWords, TurnedWordsBy, TurnedWords, TurnedAreaBy, TurnedNumberedArea}
 use Rattle.glove.specs.Numbered.{GloveNumbered}
-use Rattle.glove.proofs.Record.{records-turned}
 use Rattle.glove.proofs.Flags.{flags-turn}
-use Rattle.glove.proofs.Glove.{check-same, no-rows, rows-after, zero-turned}
+use Rattle.glove.proofs.Glove.{check-same, no-rows, rows-after, takeoffs-turned, zero-turned}
 
 -- ---- a record's volume is of binary32, flagged or not
 
@@ -41,9 +41,9 @@ flagged-count : (clip : Bool) (profile : Profile) (q : MeshQto) → flagged clip
 unfolding marked
 flagged-count = flags-leave (λ q. q .«surface_count») (λ to p q. refl)
 
-record-fits : (vs : List Float) (ids : List ℕ) (u : Float) → T (fits binary32 (recordOf vs ids u .«volume_m3»))
+record-fits : (vs : List Float) (ids : List ℕ) (u : Float) (p : Thresholds) → T (fits binary32 (recordOf vs ids u p .«volume_m3»))
 unfolding recordOf recordBy recordFrom measures measuresFrom volumeOf
-record-fits vs ids u = rounded-fits binary32 _
+record-fits vs ids u p = rounded-fits binary32 _
 
 -- ---- so its words are turned as it is, and those of the pairs stay
 
@@ -92,39 +92,31 @@ module _ (clip defect : ℕ) where
 refused-at : (n : ℕ) → eqb (0x8000_0000 + n) 0 ≡ false
 refused-at n = ne-eqb (0x8000_0000 + n) 0 (λ e. omega arith)
 
-module _ (vs : List Float) (ids : List ℕ) (u : Float) where
-  full-fits : T (fits binary32 (takeoffOf vs ids u .qto .«volume_m3»))
-  unfolding takeoffOf
-  full-fits = record-fits vs ids u
-
-  full-beside : Passes vs ids u → Beside TurnedRecords (takeoffOf vs ids u) (takeoffOf vs (reversed ids) u)
-  unfolding takeoffOf sided
-  full-beside p = let r = records-turned vs ids u p in record { records = r; pairs = same-verdict-pairs _ _ _ _ (r .verdict) }
-
-zero-beside : Beside TurnedRecords zeroTakeoff zeroTakeoff
-unfolding AgreePairs
-zero-beside = record { records = zero-turned; pairs = refl }
+full-fits : (vs : List Float) (ids : List ℕ) (u : Float) (p : Thresholds) → T (fits binary32 (takeoffOf vs ids u p .qto .«volume_m3»))
+unfolding takeoffOf
+full-fits vs ids u p = record-fits vs ids u p
 
 zero-fits : T (fits binary32 (zeroTakeoff .qto .«volume_m3»))
 zero-fits = unfold fits ofBits in tt
 
-alike : (vs : List Float) (ids : List ℕ) (u : Float) (clip defect : ℕ) (s : List Float) (words : List ℕ)
-    → AlikeNumbered TurnedWords TurnedNumberedArea vs vs ids (reversed ids) u clip defect s words
+alike : (vs : List Float) (ids : List ℕ) (u : Float) (e clip defect : ℕ) (s : List Float) (words : List ℕ)
+    → AlikeNumbered TurnedWords TurnedNumberedArea vs vs ids (reversed ids) u e e clip defect s words
 unfolding TurnedWordsBy TurnedAreaBy takeoffOf
-alike vs ids u clip defect s words =
+alike vs ids u e clip defect s words =
+    let p = thresholdsOf e in
     record {
-      checks = check-same vs ids u;
+      checks = check-same vs ids u e;
       lengths = rw (reversed-is ids .long);
       refused = λ n. rw (refused-at n) refl;
       refused-rows = λ n. rw (refused-at n) refl;
-      zero-record = words-for clip defect zeroTakeoff zeroTakeoff zero-fits zero-fits zero-beside;
+      zero-record = words-for clip defect zeroTakeoff zeroTakeoff zero-fits zero-fits (zero-beside TurnedRecords zero-turned);
       zero-rows = rows-for clip defect zeroTakeoff s s (no-rows s);
-      full = λ p. words-for clip defect (takeoffOf vs ids u) (takeoffOf vs (reversed ids) u) (full-fits vs ids u)
-          (full-fits vs (reversed ids) u) (full-beside vs ids u p);
-      full-rows = λ p. rows-for clip defect (takeoffOf vs ids u) _ _ (rows-after vs ids u s p);
+      full = λ k. words-for clip defect (takeoffOf vs ids u p) (takeoffOf vs (reversed ids) u p) (full-fits vs ids u p)
+          (full-fits vs (reversed ids) u p) (takeoffs-turned vs ids u e k);
+      full-rows = λ k. rows-for clip defect (takeoffOf vs ids u p) _ _ (rows-after vs ids u e p s k);
     }
 
 pub glove-numbered : GloveNumbered
-glove-numbered vs ids u clip defect w r s words n n′ w₁ w₂ r₁ r₂ s₁ s₂ words₁ words₂ c c′ =
-    numbered-agree TurnedWords TurnedNumberedArea vs vs ids (reversed ids) u clip defect s words
-    (alike vs ids u clip defect s words) w r n n′ w₁ w₂ r₁ r₂ s₁ s₂ words₁ words₂ c c′
+glove-numbered vs ids u e clip defect w r s words n n′ w₁ w₂ r₁ r₂ s₁ s₂ words₁ words₂ c c′ =
+    numbered-agree TurnedWords TurnedNumberedArea vs vs ids (reversed ids) u e e clip defect s words
+    (alike vs ids u e clip defect s words) w r n n′ w₁ w₂ r₁ r₂ s₁ s₂ words₁ words₂ c c′

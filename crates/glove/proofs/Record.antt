@@ -15,9 +15,9 @@ use Rattle.ids.specs.Triangles.{triangleCount}
 use Rattle.ids.specs.Reversed.{reversed}
 use Rattle.ids.proofs.Reversed.{reversed-is}
 use Rattle.sums.specs.declared.totals.Areas.{Areas}
+use Rattle.sums.specs.declared.totals.Thresholds.{Thresholds}
 use Rattle.sums.specs.declared.totals.Totals.{Totals}
 use Rattle.sums.specs.Box.{box, origin, boxVolume}
-use Rattle.sums.specs.Totals.{thresholds}
 use Rattle.sums.specs.Turned.{turnedAreas, TurnedTotals}
 use Rattle.sums.proofs.TurnedTotals.{totals-turned}
 use Rattle.walk.proofs.Turned.{counts-reversed}
@@ -36,11 +36,6 @@ use Rattle.glove.proofs.Rows.{same-count, largest-same, smallest-same}
 
 -- ---- the sums
 
--- 0.940 is not below 0
-top-enough : T (le nought (thresholds .top))
-unfolding le ofBits
-top-enough = tt
-
 volume-turned : (t t′ : Totals) (u : Float) → TurnedTotals t t′ → asNumber (volumeOf t′ u) ≡ opposite (volumeOf t u)
 unfolding volumeOf
 volume-turned t t′ u s =
@@ -49,18 +44,19 @@ volume-turned t t′ u s =
     (mul-opposite-left binary64 (t .volume6 ⧄ six) (cube u) (t′ .volume6 ⧄ six)
     (div-opposite binary64 (t .volume6) six (t′ .volume6) (s .volume6)))
 
-module _ (vs : List Float) (ids : List ℕ) where
-  pub sums-turned : TurnedTotals (totals vs ids) (totals vs (reversed ids))
+-- by any pair of thresholds of which the first is not below 0
+module _ (p : Thresholds) (h : T (le nought (p .top))) (vs : List Float) (ids : List ℕ) where
+  pub sums-turned : TurnedTotals (totals vs ids p) (totals vs (reversed ids) p)
   unfolding totals
   sums-turned =
-      rw (reversed-is ids .long) (totals-turned thresholds top-enough vs (origin (box vs)) ids (triangleCount ids) (omega arith))
+      rw (reversed-is ids .long) (totals-turned p h vs (origin (box vs)) ids (triangleCount ids) (omega arith))
 
   module _ (u : Float) where
-    pub same-size : magnitude (measures vs (reversed ids) u .volume) ≡ magnitude (measures vs ids u .volume)
+    pub same-size : magnitude (measures vs (reversed ids) u p .volume) ≡ magnitude (measures vs ids u p .volume)
     unfolding measures measuresFrom
-    same-size = magnitude-opposite (volumeOf (totals vs ids) u) _ (volume-turned (totals vs ids) _ u sums-turned)
+    same-size = magnitude-opposite (volumeOf (totals vs ids p) u) _ (volume-turned (totals vs ids p) _ u sums-turned)
 
-    pub verdict-same : verdict vs (reversed ids) u (measures vs (reversed ids) u .volume) ≡ verdict vs ids u (measures vs ids u .volume)
+    pub verdict-same : verdict vs (reversed ids) u (measures vs (reversed ids) u p .volume) ≡ verdict vs ids u (measures vs ids u p .volume)
     unfolding verdict
     verdict-same = quality-reversed vs ids (epsilonOf distance u) _ _ (boxVolume (box vs) (cube u)) same-size
 
@@ -97,23 +93,23 @@ agree m m′ q q′ v v′ s s′ aabb p p′ e same-verdict same-volume same-su
     (subst (λ (n : Measures). AgreeRecords (recordFrom (overturned m) aabb q (bestOf q v s aabb p))
     (recordFrom n aabb q (bestOf q v s aabb p′))) (sym e) (agree-but-prism (overturned m) q v s aabb p p′))
 
-module _ (vs : List Float) (ids : List ℕ) (u : Float) (p : Passes vs ids u) where
-  measures-turned : numbered (measures vs (reversed ids) u) ≡ overturned (measures vs ids u)
+module _ (p : Thresholds) (h : T (le nought (p .top))) (vs : List Float) (ids : List ℕ) (u : Float) (e : ℕ) (k : Passes vs ids u e) where
+  measures-turned : numbered (measures vs (reversed ids) u p) ≡ overturned (measures vs ids u p)
   unfolding measures measuresFrom surfaceOf
   measures-turned =
-      let s = sums-turned vs ids in
+      let s = sums-turned p h vs ids in
       rw (
-        volume-turned (totals vs ids) (totals vs (reversed ids)) u s,
+        volume-turned (totals vs ids p) (totals vs (reversed ids) p) u s,
         s .surface,
         s .areas,
-        largest-same vs ids u p,
-        smallest-same vs ids u p,
-        same-count vs ids u p,
+        largest-same vs ids u e k,
+        smallest-same vs ids u e k,
+        same-count vs ids u e k,
         counts-reversed vs (origin (box vs)) ids,
       )
 
-  pub records-turned : TurnedRecords (recordOf vs ids u) (recordOf vs (reversed ids) u)
+  pub records-turned : TurnedRecords (recordOf vs ids u p) (recordOf vs (reversed ids) u p)
   unfolding recordOf recordBy best
   records-turned =
-      agree (measures vs ids u) (measures vs (reversed ids) u) _ _ _ _ _ _ (boxVolume (box vs) (cube u)) _ _ measures-turned
-      (verdict-same vs ids u) (same-size vs ids u) (ap (λ (m : Measures). m .surface) measures-turned)
+      agree (measures vs ids u p) (measures vs (reversed ids) u p) _ _ _ _ _ _ (boxVolume (box vs) (cube u)) _ _ measures-turned
+      (verdict-same p h vs ids u) (same-size p h vs ids u) (ap (λ (m : Measures). m .surface) measures-turned)

@@ -37,7 +37,7 @@ in-front vs ids u s n e =
     let long : length (flatten rs) ≡ 4 * n = length-flatten rs ∙ ap (λ (k : ℕ). 4 * k) e in
     (ap rowsOf (take-at (flatten rs) _ (4 * n) long) ∙ rows-flat rs, drop-at (flatten rs) _ (4 * n) long ∙ rw e)
 
-module _ (vs : List Float) (ids : List ℕ) (u : Float) (p : Passes vs ids u) where
+module _ (vs : List Float) (ids : List ℕ) (u : Float) (e : ℕ) (p : Passes vs ids u e) where
   -- the rows before they are put in order
   abbrev loose : List PlanarSurface
   loose = scaled (square u) (rows (buckets vs ids))

@@ -13,15 +13,15 @@ use Rattle.glove.proofs.Glove.{check-same}
 
 pub stations : StationsTurn
 unfolding surfacesAfter
-stations vs ids u =
+stations vs ids u e p h =
     record {
       checks = check-same vs ids u;
       box-volume = refl;
-      sums = sums-turned vs ids;
-      rows = rows-turned vs ids u;
+      sums = sums-turned p h vs ids;
+      rows = rows-turned vs ids u e;
       counts = counts-reversed vs (origin (box vs)) ids;
       weld = λ any. welded-reversed vs ids (epsilonOf distance u);
-      quality = λ any. verdict-same vs ids u;
-      surfaces = λ passes area. rw (rows-turned vs ids u passes);
+      quality = λ any. verdict-same p h vs ids u;
+      surfaces = λ passes area. rw (rows-turned vs ids u e passes);
       work = λ area. rw (reversed-is ids .long);
     }

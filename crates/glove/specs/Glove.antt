@@ -6,12 +6,13 @@ use lib.Ieee.{Float}
 use Rattle.ids.specs.Reversed.{reversed}
 use Rattle.qto.specs.declared.Answer.{Answer}
 use Rattle.qto.specs.Compute.{Computes}
-use Rattle.road.specs.Agree.{Agree}
+use Rattle.road.specs.Agree.{Agree, Beside}
 use Rattle.glove.specs.Turned.{TurnedRecords, TurnedArea}
 
--- the same vertices and unit, and lent areas alike before the call (`glove`)
+-- the same vertices, unit and edition, and lent areas alike before the call (`glove`)
 abbrev pub Glove : Type 0
 Glove =
-    (vs : List Float) (ids : List ℕ) (u : Float) (w r : List ℕ) (s : List Float) (a a′ : Answer) (w₁ w₂ r₁ r₂ : List ℕ) (s₁ s₂ : List Float)
-    → Computes vs ids u w r s a w₁ r₁ s₁ → Computes vs (reversed ids) u w r s a′ w₂ r₂ s₂
-    → Agree TurnedRecords TurnedArea a a′ w₁ w₂ r₁ r₂ s₁ s₂
+    (vs : List Float) (ids : List ℕ) (u : Float) (e : ℕ) (w r : List ℕ) (s : List Float) (a a′ : Answer) (w₁ w₂ r₁ r₂ : List ℕ)
+    (s₁ s₂ : List Float)
+    → Computes vs ids u e w r s a w₁ r₁ s₁ → Computes vs (reversed ids) u e w r s a′ w₂ r₂ s₂
+    → Agree (Beside TurnedRecords) TurnedArea a a′ w₁ w₂ r₁ r₂ s₁ s₂

@@ -27,6 +27,7 @@ use Rattle.volume.specs.Best.{bestOf}
 use Rattle.record.specs.Flags.{ifClip, ifInvalid}
 use Rattle.record.specs.Numbers.{profileAt}
 use Rattle.refusals.specs.declared.Check.{Check}
+use Rattle.sums.specs.Editions.{editionKnown, thresholdsOf}
 use Rattle.refusals.specs.Refusals.{checkOf, unitFits}
 use Rattle.qto.specs.Full.{best, buckets, measures, measuresFrom, recordBy, recordFrom, recordOf, surfaceOf, surfaceRows, totals, verdict}
 use Rattle.qto.specs.Full.{volumeOf}
@@ -35,19 +36,19 @@ use Rattle.meshfile.specs.Format.{File, ended, endingOf, fileOf, frontOf, idsIn
 use Rattle.meshfile.specs.Written.{plainFile, chunkOf}
 use Rattle.listing.specs.Cube.{cubeRecord, cubeRows, CubeLines}
 use Rattle.listing.proofs.Cube.{cube-lines}
-use Rattle.program.specs.Program.{listed, meshText, textAt, textFor, textOf}
+use Rattle.program.specs.Program.{namedEdition, listed, meshText, textAt, textFor, textOf}
 use Rattle.program.specs.Cube.{cubeFile, CubePrinted}
 
 cube-file : fileOf (plainFile cubeFile) ≡ File.Holds cubeFile
 unfolding cubeFile plainFile chunkOf allBytes bytesOf fileOf frontOf u16At u32At wordsIn lengthFits unitIn verticesIn idsIn ended endingOf
 cube-file = refl
 
-cube-passes : checkOf (floatsOf (cubeFile .vertices)) (cubeFile .ids) (ofBits binary32 (cubeFile .unit)) 13824 65536 2048 ≡ Check.Full
-unfolding cubeFile floatsOf checkOf unitFits allFine magnitude le lt eq ofBits ofFields
+cube-passes : checkOf (floatsOf (cubeFile .vertices)) (cubeFile .ids) (ofBits binary32 (cubeFile .unit)) namedEdition 13824 65536 2048 ≡ Check.Full
+unfolding cubeFile floatsOf checkOf unitFits editionKnown allFine magnitude le lt eq ofBits ofFields
 cube-passes = refl
 
-cube-record : recordOf (floatsOf (cubeFile .vertices)) (cubeFile .ids) (ofBits binary32 (cubeFile .unit)) ≡ cubeRecord
-unfolding cubeFile floatsOf cubeRecord recordOf recordBy recordFrom verdict measures measuresFrom volumeOf surfaceOf totals totalsTo
+cube-record : recordOf (floatsOf (cubeFile .vertices)) (cubeFile .ids) (ofBits binary32 (cubeFile .unit)) (thresholdsOf namedEdition) ≡ cubeRecord
+unfolding cubeFile thresholdsOf floatsOf cubeRecord recordOf recordBy recordFrom verdict measures measuresFrom volumeOf surfaceOf totals totalsTo
     withPart withFacet onSlope slopeOf part partOf cornersInRange inRange rebased normal size tetra facetOf triangle boxTo lowest
     highest boxVolume extent quality tooLarge nearZero byChain byFaces boundaryFree overIncident enough chain step around sameEdge
     present unbalanced crowded keysThat keys counting uses signedSum bit sumBy maxBy distinct overTriangles best bestOf buckets

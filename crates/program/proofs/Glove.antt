@@ -9,13 +9,13 @@ use Rattle.record.specs.Numbers.{profileAt}
 use Rattle.refusals.specs.declared.Check.{Check}
 use Rattle.refusals.specs.Refusals.{Passes}
 use Rattle.refusals.proofs.Checks.{admitted}
+use Rattle.qto.specs.Full.{takeoffOf}
 use Rattle.glove.specs.Turned.{TurnedRecords}
 use Rattle.glove.proofs.Rows.{rows-turned}
-use Rattle.glove.proofs.Record.{records-turned}
 use Rattle.glove.proofs.Flags.{flags-turn}
-use Rattle.glove.proofs.Glove.{check-same}
+use Rattle.glove.proofs.Glove.{check-same, takeoffs-turned}
 use Rattle.meshfile.specs.Format.{Contents, File}
-use Rattle.program.specs.Program.{checkMesh, listed, textAt, meshText, textFor, textOf}
+use Rattle.program.specs.Program.{namedEdition, checkMesh, listed, textAt, meshText, textFor, textOf}
 use Rattle.program.specs.Place.{meshFloats, meshUnit, meshRecord}
 use Rattle.program.specs.Glove.{IsFull, TurnedTexts, TextTurns}
 
@@ -37,14 +37,16 @@ module _ (m : Contents) where
   said = checkMesh (meshFloats m) (m .ids) (meshUnit m)
 
   same-check : checkMesh (meshFloats m) (reversed (m .ids)) (meshUnit m) ≡ said
-  same-check = check-same (meshFloats m) (m .ids) (meshUnit m) 13824 65536 2048
+  same-check = check-same (meshFloats m) (m .ids) (meshUnit m) namedEdition 13824 65536 2048
 
-  mesh : IsFull m → Passes (meshFloats m) (m .ids) (meshUnit m)
-  mesh full = admitted (meshFloats m) (m .ids) (meshUnit m) 13824 65536 2048 said full refl .mesh
+  mesh : IsFull m → Passes (meshFloats m) (m .ids) (meshUnit m) namedEdition
+  mesh full = admitted (meshFloats m) (m .ids) (meshUnit m) namedEdition 13824 65536 2048 said full refl .mesh
 
   records : IsFull m → TurnedRecords (meshRecord m) (meshRecord m′)
+  unfolding takeoffOf
   records full =
-      flags-turn (eqb (m .clip) 1) (profileAt (m .defect)) _ _ (records-turned (meshFloats m) (m .ids) (meshUnit m) (mesh full))
+      flags-turn (eqb (m .clip) 1) (profileAt (m .defect)) _ _
+      (takeoffs-turned (meshFloats m) (m .ids) (meshUnit m) namedEdition (mesh full) .records)
 
   abbrev textBy : Check → Contents → List ℕ
   textBy k c = textAt k (meshFloats c) (c .ids) (meshUnit c) (eqb (c .clip) 1) (profileAt (c .defect))
@@ -68,7 +70,7 @@ module _ (m : Contents) where
                   rw (
                     same-check,
                     full,
-                    rows-turned (meshFloats m) (m .ids) (meshUnit m) (mesh full),
+                    rows-turned (meshFloats m) (m .ids) (meshUnit m) namedEdition (mesh full),
                     reversed-alike (m .ids) .piece-count,
                   );
               turned = records full;

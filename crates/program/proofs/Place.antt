@@ -7,6 +7,7 @@ use lib.IntN.{ℤ}
 use Rattle.verdict.specs.declared.Quality.{Quality}
 use Rattle.record.specs.Numbers.{profileAt}
 use Rattle.refusals.specs.declared.Check.{Check}
+use Rattle.sums.specs.Editions.{thresholdsOf}
 use Rattle.refusals.specs.Refusals.{Passes}
 use Rattle.qto.specs.Full.{recordOf}
 use Rattle.refusals.proofs.Checks.{admitted}
@@ -18,7 +19,7 @@ use Rattle.road.proofs.Agree.{but-best, same-record}
 use Rattle.road.proofs.Flags.{flags-keep}
 use Rattle.words.specs.Words.{floatsOf}
 use Rattle.meshfile.specs.Format.{Contents, File}
-use Rattle.program.specs.Program.{checkMesh, listed, textAt, meshText, textFor, textOf}
+use Rattle.program.specs.Program.{namedEdition, checkMesh, listed, textAt, meshText, textFor, textOf}
 use Rattle.program.specs.Place.{meshFloats, meshUnit, meshRecord, meshRows, IsOpen, AgreeTexts, TextDoesNotShow}
 
 -- ---- what a file holds, and the same with other floats
@@ -40,21 +41,22 @@ module _ (m : Contents) (vertices : List ℕ) where
     said = checkMesh (meshFloats m) (m .ids) (meshUnit m)
 
     same-check : checkMesh (meshFloats m′) (m .ids) (meshUnit m) ≡ said
-    same-check = check-stays dx dy dz (meshFloats m) (meshFloats m′) moved (m .ids) (meshUnit m) 13824 65536 2048
+    same-check = check-stays dx dy dz (meshFloats m) (meshFloats m′) moved (m .ids) (meshUnit m) namedEdition 13824 65536 2048
 
     -- of a mesh that the table lets pass
     module _ (passes : said ≡ Check.Full) where
-      mesh : Passes (meshFloats m) (m .ids) (meshUnit m)
-      mesh = admitted (meshFloats m) (m .ids) (meshUnit m) 13824 65536 2048 said passes refl .mesh
+      mesh : Passes (meshFloats m) (m .ids) (meshUnit m) namedEdition
+      mesh = admitted (meshFloats m) (m .ids) (meshUnit m) namedEdition 13824 65536 2048 said passes refl .mesh
 
       same-rows : meshRows m′ ≡ meshRows m
       same-rows = rows-stay dx dy dz (meshFloats m) (meshFloats m′) moved (mesh .floats-least) (m .ids) (meshUnit m)
 
       records : AgreeRecords (meshRecord m) (meshRecord m′)
       records =
-          flags-keep (eqb (m .clip) 1) (profileAt (m .defect)) (recordOf (meshFloats m) (m .ids) (meshUnit m))
-          (recordOf (meshFloats m′) (m .ids) (meshUnit m))
-          (records-agree dx dy dz (meshFloats m) (meshFloats m′) moved (mesh .floats-least) (m .ids) (meshUnit m) enough (mesh .unit))
+          flags-keep (eqb (m .clip) 1) (profileAt (m .defect)) (recordOf (meshFloats m) (m .ids) (meshUnit m) (thresholdsOf namedEdition))
+          (recordOf (meshFloats m′) (m .ids) (meshUnit m) (thresholdsOf namedEdition))
+          (records-agree dx dy dz (meshFloats m) (meshFloats m′) moved (mesh .floats-least) (m .ids) (meshUnit m) (thresholdsOf namedEdition)
+          enough (mesh .unit))
 
     abbrev textBy : Check → Contents → List ℕ
     textBy k c = textAt k (meshFloats c) (c .ids) (meshUnit c) (eqb (c .clip) 1) (profileAt (c .defect))

@@ -6,6 +6,7 @@ use native.Mathlib.Omega.{arith}
 use borrow.Author.Tests.{le-ltb}
 use lib.Dec.{ltb}
 use lib.ListN.{length}
+use Rattle.sums.specs.Editions.{editionKnown}
 use Rattle.refusals.specs.Refusals.{areasShort, checkOf}
 use Rattle.program.specs.Promises.{checkFile, AreasSuffice}
 use Rattle.ids.specs.Lent.{mostEntries}
@@ -18,5 +19,5 @@ module _ (f i : ℕ) (hf : f ≤ 1536) (hi : i ≤ 1536) where
   not-short = rw (le-ltb 13824 (5 * i + 4 * (i / 3) + 8 * (f / 3)) (omega arith), le-ltb 2048 (4 * (i / 3)) (omega arith))
 
 pub areas-suffice : AreasSuffice
-unfolding checkOf checkFile
+unfolding checkOf checkFile editionKnown
 areas-suffice vs ids u hf hi = rw (not-many (length vs) (length ids) hf hi, not-short (length vs) (length ids) hf hi)

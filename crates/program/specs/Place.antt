@@ -6,6 +6,7 @@ use lib.Dec.{T, eqb}
 use lib.IntN.{ℤ}
 use lib.Ieee.{Float, binary32, ofBits}
 use Rattle.ids.specs.Pieces.{shareEdge, pieces}
+use Rattle.sums.specs.Editions.{thresholdsOf}
 use Rattle.rows.specs.declared.PlanarSurface.{PlanarSurface}
 use Rattle.verdict.specs.declared.Quality.{Quality}
 use Rattle.record.specs.declared.MeshQto.{MeshQto}
@@ -21,7 +22,7 @@ use Rattle.stl.specs.declared.Stl.{Stl}
 use Rattle.stl.specs.Stl.{stlOf}
 use Rattle.stl.specs.Reading.{mostTriangles}
 use Rattle.listing.specs.Listing.{listingOf}
-use Rattle.program.specs.Program.{checkMesh, textOf}
+use Rattle.program.specs.Program.{namedEdition, checkMesh, textOf}
 use Rattle.program.specs.StlText.{stlContents, stlTextOf}
 
 -- ---- a file's mesh
@@ -34,7 +35,7 @@ meshUnit m = ofBits binary32 (m .unit)
 
 -- its record, with the file's flags
 abbrev pub meshRecord : Contents → MeshQto
-meshRecord m = flagged (eqb (m .clip) 1) (profileAt (m .defect)) (recordOf (meshFloats m) (m .ids) (meshUnit m))
+meshRecord m = flagged (eqb (m .clip) 1) (profileAt (m .defect)) (recordOf (meshFloats m) (m .ids) (meshUnit m) (thresholdsOf namedEdition))
 
 abbrev pub meshRows : Contents → List PlanarSurface
 meshRows m = surfaceRows (meshFloats m) (m .ids) (meshUnit m)

@@ -7,6 +7,7 @@ use lib.Dec.{eqb}
 use lib.ListN.{length, drop}
 use lib.Ieee.{Float, binary32, ofBits}
 use Rattle.ids.specs.Pieces.{shareEdge, pieces}
+use Rattle.sums.specs.Editions.{thresholdsOf}
 use Rattle.rows.specs.declared.PlanarSurface.{PlanarSurface}
 use Rattle.record.specs.declared.MeshQto.{MeshQto}
 use Rattle.record.specs.declared.Profile.{Profile}
@@ -26,16 +27,20 @@ use Rattle.listing.specs.Listing.{listingOf, refusedLine}
 unfoldable pub listed : List ℕ → Bool → Profile → MeshQto → List PlanarSurface → List ℕ
 listed ids clip profile q rows = listingOf (flagged clip profile q) rows (pieces shareEdge ids)
 
--- by what 01's table says: `refused N`, or the listing; the zero record has one too
+-- the programs name edition 1 (02, A6)
+abbrev pub namedEdition : ℕ
+namedEdition = 1
+
+-- by what the table says: `refused N`, or the listing; the zero record has one too
 unfoldable pub textAt : Check → List Float → List ℕ → Float → Bool → Profile → List ℕ
 textAt (Check.Refuse n) vs ids u clip profile = refusedLine n
 textAt Check.Zero vs ids u clip profile = listed ids clip profile zeroRecord []
-textAt Check.Full vs ids u clip profile = listed ids clip profile (recordOf vs ids u) (surfaceRows vs ids u)
+textAt Check.Full vs ids u clip profile = listed ids clip profile (recordOf vs ids u (thresholdsOf namedEdition)) (surfaceRows vs ids u)
 
 -- The program lends 13,824 work words, 65,536 raster bytes and 2,048 surface floats: enough for every file (`areas-suffice`), so it never
--- prints 1 or 3.
+-- prints 1, 3 or 7.
 abbrev pub checkMesh : List Float → List ℕ → Float → Check
-checkMesh vs ids u = checkOf vs ids u 13824 65536 2048
+checkMesh vs ids u = checkOf vs ids u namedEdition 13824 65536 2048
 
 unfoldable pub meshText : List Float → List ℕ → Float → Bool → Profile → List ℕ
 meshText vs ids u clip profile = textAt (checkMesh vs ids u) vs ids u clip profile

@@ -26,7 +26,7 @@ use Rattle.program.specs.Program.{checkMesh, meshText, textOf, Prints}
 use Rattle.program.specs.StlText.{stlContents, stlTextOf}
 use Rattle.program.specs.Place.{meshFloats, meshUnit}
 
--- the rows of 01's table that a file can meet: it is never too large, and no area is too short (`areas-suffice`)
+-- the rows of the table that a file can meet: it is never too large, the edition is known, and no area is too short (`areas-suffice`)
 unfoldable pub checkFile : List Float → List ℕ → Float → Check
 checkFile vs ids u =
     cond (ltb (length ids) 3 || ltb (length vs) 9) Check.Zero

@@ -32,6 +32,9 @@ pub const STL_KEPT: usize = 8585;
 // How many bytes the longest listing asks for: 512 rows.
 pub const TEXT: usize = 18784;
 
+// The edition of the slope rule that both programs name.
+pub const EDITION: u32 = 1;
+
 // The number of pieces: with this work area it is never refused.
 fn pieces_of(ids: &[u32], work: &mut [u32]) -> u32
     requires { ⌜ (length (now ids) ≤ 1536) × (512 ≤ length (now work)) ⌝ }
@@ -72,7 +75,7 @@ fn print_record(q: MeshQto, m: MeshFile, count: u32, surfaces: &[f32], text: &mu
     }
 }
 
-// The mesh of a file: its listing, or the refusal of document 01's table.
+// The mesh of a file: its listing, or the refusal of the documents' table.
 fn print_mesh(m: MeshFile, vertices: &[f32], ids: &[u32], text: &mut [u8]) -> usize
     requires { ⌜ (length (now vertices) ≤ 1536) × (length (now ids) ≤ 1536) × (length (now text) ≡ 18784) ⌝ }
     ensures { λ r. ⌜ Prints (meshText (now (vertices .entry)) (now (ids .entry)) (m .unit) (m .clip) (m .profile))
@@ -82,7 +85,15 @@ fn print_mesh(m: MeshFile, vertices: &[f32], ids: &[u32], text: &mut [u8]) -> us
     let mut raster = [0u8; 65536];
     let mut surfaces = [0f32; 2048];
     let count = pieces_of(ids, &mut work);
-    let answer = qto::compute(vertices, ids, m.unit, &mut work, &mut raster, &mut surfaces);
+    let answer = qto::compute(
+        vertices,
+        ids,
+        m.unit,
+        EDITION,
+        &mut work,
+        &mut raster,
+        &mut surfaces,
+    );
     match answer {
         Answer::Record(t) => print_record(t.qto, m, count, &surfaces, text),
         Answer::Refused(n) => print_refusal(n, text),

@@ -1,6 +1,6 @@
 // Runs the meshes of data/meshes, each a u32 length and so many bytes of the program's format, and prints for each what
 // `takeoff` prints, and a line with what the routines on ids say of its ids, what `compute` says to a work area that is one word
-// short, and the pairs of its footprints; and a line with what `write` makes of what was read. Then what `write` says to too much, and
+// short, under edition 1 and under one that is unknown, the pairs of its footprints, and its areas by slope under edition 2; and a line with what `write` makes of what was read. Then what `write` says to too much, and
 // the files of data/mounts, in the same framing, each a binary STL: what `takeoff_stl` prints. The gate holds this to `stdout`: the
 // unchanged Rust's answers, and a plain reference's where the Rust has none (docs/DIFFERENCES.md says how).
 ghost use Prim.Native.Nat.{_≤_};
@@ -77,8 +77,8 @@ fn one_less(n: usize) -> usize
     n - 1
 }
 
-// Refusal 3 unless one comes before it, or 0 for the zero record, which asks for no words.
-fn print_short(vertices: &[f32], ids: &[u32], unit: f32)
+// Refusal 3 unless one comes before it, as 7 does where the edition is unknown; or 0 for the zero record, which asks for no words.
+fn print_short(label: &[u8], vertices: &[f32], ids: &[u32], unit: f32, edition: u32)
     requires { ⌜ (length (now vertices) ≤ 1536) × (length (now ids) ≤ 1536) ⌝ }
 {
     let mut work = [0u32; 13824];
@@ -89,13 +89,14 @@ fn print_short(vertices: &[f32], ids: &[u32], unit: f32)
         vertices,
         ids,
         unit,
+        edition,
         &mut work[..lent],
         &mut raster,
         &mut surfaces,
     );
     match answer {
-        Answer::Record(_) => print_count(b" short ", 0),
-        Answer::Refused(n) => print_count(b" short ", n as u64),
+        Answer::Record(_) => print_count(label, 0),
+        Answer::Refused(n) => print_count(label, n as u64),
     }
 }
 
@@ -111,7 +112,15 @@ fn print_pairs(vertices: &[f32], ids: &[u32], unit: f32) {
     let mut work = [0u32; 13824];
     let mut raster = [0u8; 65536];
     let mut surfaces = [0f32; 2048];
-    let answer = qto::compute(vertices, ids, unit, &mut work, &mut raster, &mut surfaces);
+    let answer = qto::compute(
+        vertices,
+        ids,
+        unit,
+        1,
+        &mut work,
+        &mut raster,
+        &mut surfaces,
+    );
     match answer {
         Answer::Record(t) => {
             let pairs = t.pairs;
@@ -124,14 +133,49 @@ fn print_pairs(vertices: &[f32], ids: &[u32], unit: f32) {
     }
 }
 
+// ---- the areas by slope under edition 2
+
+fn print_area(area: f32) {
+    print_count(b" ", floats::bits32(area) as u64);
+}
+
+// Their bits: top, bottom, side, inclined; a refusal has none.
+fn print_second(vertices: &[f32], ids: &[u32], unit: f32) {
+    let mut work = [0u32; 13824];
+    let mut raster = [0u8; 65536];
+    let mut surfaces = [0f32; 2048];
+    let answer = qto::compute(
+        vertices,
+        ids,
+        unit,
+        2,
+        &mut work,
+        &mut raster,
+        &mut surfaces,
+    );
+    match answer {
+        Answer::Record(t) => {
+            let q = t.qto;
+            io::write_all(STDOUT_FILENO, b" second");
+            print_area(q.area_top_m2);
+            print_area(q.area_bottom_m2);
+            print_area(q.area_side_m2);
+            print_area(q.area_inclined_m2);
+        }
+        Answer::Refused(_) => {}
+    }
+}
+
 // ---- the line
 
 fn print_answers(vertices: &[f32], ids: &[u32], unit: f32)
     requires { ⌜ (length (now vertices) ≤ 1536) × (length (now ids) ≤ 1536) ⌝ }
 {
     print_ids(ids);
-    print_short(vertices, ids, unit);
+    print_short(b" short ", vertices, ids, unit, 1);
+    print_short(b" unknown ", vertices, ids, unit, 3);
     print_pairs(vertices, ids, unit);
+    print_second(vertices, ids, unit);
     io::write_all(STDOUT_FILENO, b"\n");
 }
 

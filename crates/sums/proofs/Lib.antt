@@ -4,7 +4,6 @@
 mod Boxes
 pub mod Parts
 mod Slopes
-pub mod Editions
 pub mod Plus
 pub mod Within
 pub mod Roots
@@ -16,5 +15,7 @@ pub mod Areas
 pub mod Units
 pub mod TurnedFacets
 pub mod TurnedTotals
+pub mod Editions
+pub mod Rising
 mod Fractions
 pub mod UnitNormals

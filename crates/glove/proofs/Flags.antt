@@ -4,8 +4,9 @@ use mathlib.Core.Bool.{Bool, true, false}
 use Rattle.record.specs.declared.MeshQto.{MeshQto}
 use Rattle.record.specs.declared.Profile.{Profile}
 use Rattle.record.specs.Flags.{marked, ifClip, ifInvalid, flagged}
+use Rattle.road.specs.Replaced.{replaced}
 use Rattle.road.proofs.Flags.{flags-keep}
-use Rattle.glove.specs.Turned.{sided, turnedOver, volumeAsNumber, TurnedRecords}
+use Rattle.glove.specs.Turned.{turnedOver, volumeAsNumber, TurnedRecords}
 
 -- flags leave volume, top and bottom alone
 record Sides (clip : Bool) (profile : Profile) (q : MeshQto) : Type 0 where
@@ -13,7 +14,7 @@ record Sides (clip : Bool) (profile : Profile) (q : MeshQto) : Type 0 where
   numbers : flagged clip profile (volumeAsNumber q) ≡ volumeAsNumber (flagged clip profile q)
 
 sides : (clip : Bool) (profile : Profile) (q : MeshQto) → Sides clip profile q
-unfolding ifClip ifInvalid marked sided
+unfolding ifClip ifInvalid marked replaced
 sides true Profile.Valid q = record { turns = refl; numbers = refl }
 sides true (Profile.Invalid d) q = record { turns = refl; numbers = refl }
 sides false Profile.Valid q = record { turns = refl; numbers = refl }

@@ -18,8 +18,9 @@ use Rattle.record.specs.Record.{zeroRecord}
 use Rattle.refusals.specs.Refusals.{checkOf, Passes}
 use Rattle.qto.specs.Full.{measures, measuresFrom, recordBy, recordFrom, recordOf, takeoffOf, surfacesAfter}
 use Rattle.road.specs.Agree.{AgreeBy, Beside}
+use Rattle.road.specs.Replaced.{replaced}
 use Rattle.road.proofs.Outcomes.{Alike, beside, outcomes-agree, zero-beside}
-use Rattle.glove.specs.Turned.{sided, TurnedRecords, TurnedRows, TurnedArea}
+use Rattle.glove.specs.Turned.{TurnedRecords, TurnedRows, TurnedArea}
 use Rattle.glove.specs.Glove.{Glove}
 use Rattle.glove.proofs.Rows.{area-turned}
 use Rattle.glove.proofs.Record.{records-turned}
@@ -37,7 +38,7 @@ no-rows s = record { rows = refl; partners = λ i h. absurd (omega arith); areas
 
 -- the zero record is its own
 pub zero-turned : TurnedRecords zeroRecord zeroRecord
-unfolding AgreeBy sided asNumber neg ofBits
+unfolding AgreeBy replaced asNumber neg ofBits
 zero-turned = record { verdict = refl; rest = refl }
 
 pub rows-after : (vs : List Float) (ids : List ℕ) (u : Float) (e : ℕ) (p : Thresholds) (s : List Float) → Passes vs ids u e
@@ -56,7 +57,7 @@ top-enough e = go (eqb e 2)
 
 pub takeoffs-turned : (vs : List Float) (ids : List ℕ) (u : Float) (e : ℕ) → Passes vs ids u e
     → Beside TurnedRecords (takeoffOf vs ids u (thresholdsOf e)) (takeoffOf vs (reversed ids) u (thresholdsOf e))
-unfolding sided
+unfolding replaced
 takeoffs-turned vs ids u e k =
     let r = records-turned (thresholdsOf e) (top-enough e) vs ids u e k in
     beside TurnedRecords vs vs ids (reversed ids) u (thresholdsOf e) r (r .verdict)

@@ -23,9 +23,10 @@ use Rattle.qto.specs.Full.{recordOf, recordBy, recordFrom, measures, measuresFr
 use Rattle.qto.specs.Compute.{zeroTakeoff}
 use Rattle.qto.specs.Numbers.{wordsOf, withFlags}
 use Rattle.road.specs.Agree.{Beside}
+use Rattle.road.specs.Replaced.{replaced}
 use Rattle.road.proofs.Outcomes.{zero-beside}
 use Rattle.road.proofs.Numbered.{AlikeNumbered, words-agree, flagged-pairs, numbered-agree}
-use Rattle.glove.specs.Turned.{sided, turnedOver, volumeAsNumber, TurnedRecords, TurnedRows}
+use Rattle.glove.specs.Turned.{turnedOver, volumeAsNumber, TurnedRecords, TurnedRows}
 use Rattle.glove.specs.Numbered.{volumeWordAsNumber, turnedWords, TurnedWordsBy, TurnedWords, TurnedAreaBy, TurnedNumberedArea}
 use Rattle.glove.specs.Numbered.{GloveNumbered}
 use Rattle.glove.proofs.Flags.{flags-turn}
@@ -53,16 +54,16 @@ over t q = record { qto = q; pairs = t .pairs }
 
 module _ (t : Takeoff) (h : T (fits binary32 (t .qto .«volume_m3»))) where
   words-turned : turnedWords (wordsOf t) ≡ wordsOf (over t (turnedOver (t .qto)))
-  unfolding wordsOf sided
+  unfolding wordsOf replaced
   words-turned = rw (ofBits-toBits binary32 (t .qto .«volume_m3») h)
 
   words-numbered : volumeWordAsNumber (wordsOf t) ≡ wordsOf (over t (volumeAsNumber (t .qto)))
-  unfolding wordsOf sided
+  unfolding wordsOf replaced
   words-numbered = rw (ofBits-toBits binary32 (t .qto .«volume_m3») h)
 
 turned-by : (t t′ : Takeoff) → T (fits binary32 (t .qto .«volume_m3»)) → T (fits binary32 (t′ .qto .«volume_m3»))
     → Beside TurnedRecords t t′ → TurnedWords 0 (wordsOf t) (wordsOf t′)
-unfolding TurnedWordsBy sided
+unfolding TurnedWordsBy replaced
 turned-by t t′ h h′ b =
     rw (words-turned t h, words-numbered t′ h′)
     (words-agree (over t (turnedOver (t .qto))) (over t′ (volumeAsNumber (t′ .qto))) (record { records = b .records; pairs = b .pairs }))

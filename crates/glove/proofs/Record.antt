@@ -30,8 +30,9 @@ use Rattle.qto.specs.declared.Measures.{Measures}
 use Rattle.qto.specs.Full.{cube, totals, volumeOf, surfaceOf, measuresFrom, measures, distance, verdict, best}
 use Rattle.qto.specs.Full.{recordFrom, recordBy, recordOf}
 use Rattle.road.specs.Agree.{AgreeRecords}
+use Rattle.road.specs.Replaced.{replaced}
 use Rattle.road.proofs.Best.{agree-but-prism}
-use Rattle.glove.specs.Turned.{sided, TurnedRecords}
+use Rattle.glove.specs.Turned.{TurnedRecords}
 use Rattle.glove.proofs.Rows.{same-count, largest-same, smallest-same}
 
 -- ---- the sums
@@ -87,7 +88,7 @@ numbered m = sidedMeasures (asNumber (m .volume)) (m .areas) m
 -- with the same verdict, size of volume and surface, and whatever prisms
 agree : (m m′ : Measures) (q q′ : Quality) (v v′ s s′ aabb p p′ : Float) → numbered m′ ≡ overturned m → q′ ≡ q → v′ ≡ v → s′ ≡ s
     → TurnedRecords (recordFrom m aabb q (bestOf q v s aabb p)) (recordFrom m′ aabb q′ (bestOf q′ v′ s′ aabb p′))
-unfolding sided recordFrom
+unfolding replaced recordFrom
 agree m m′ q q′ v v′ s s′ aabb p p′ e same-verdict same-volume same-surface =
     rw (same-verdict, same-volume, same-surface)
     (subst (λ (n : Measures). AgreeRecords (recordFrom (overturned m) aabb q (bestOf q v s aabb p))

@@ -1,12 +1,13 @@
 -- What a record that is another one turned over says field by field, and what the pairs beside it say. Assumes nothing.
 use mathlib.Core.Path.{ap}
 use Rattle.record.specs.declared.MeshQto.{MeshQto}
+use Rattle.road.specs.Replaced.{replaced}
 use Rattle.road.proofs.Agree.{but-best, same-record, same-pairs}
-use Rattle.glove.specs.Turned.{sided, turnedOver, volumeAsNumber}
+use Rattle.glove.specs.Turned.{turnedOver, volumeAsNumber}
 use Rattle.glove.specs.Says.{RecordsSay, PairsSay}
 
 pub glove-says : RecordsSay
-unfolding sided
+unfolding replaced
 glove-says q q′ r =
     let b = but-best (q .«mesh_quality») (turnedOver q) (volumeAsNumber q′) (r .rest) in
     record {

@@ -11,33 +11,14 @@ use Rattle.rows.specs.Opposite.{oppositeRows, Partnered, areasOf}
 use Rattle.record.specs.declared.MeshQto.{MeshQto}
 use Rattle.qto.specs.declared.Answer.{Answer}
 use Rattle.road.specs.Agree.{AgreeRecords}
+use Rattle.road.specs.Replaced.{replaced}
 
 -- ---- the record
 
 -- with another volume, top and bottom
-unfoldable pub sided : Float → Float → Float → MeshQto → MeshQto
+abbrev pub sided : Float → Float → Float → MeshQto → MeshQto
 sided volume top bottom q =
-    record {
-      «volume_m3» = volume;
-      «aabb_volume_m3» = q .«aabb_volume_m3»;
-      «surface_area_m2» = q .«surface_area_m2»;
-      «area_top_m2» = top;
-      «area_bottom_m2» = bottom;
-      «area_side_m2» = q .«area_side_m2»;
-      «area_inclined_m2» = q .«area_inclined_m2»;
-      «largest_surface_m2» = q .«largest_surface_m2»;
-      «smallest_surface_m2» = q .«smallest_surface_m2»;
-      «surface_count» = q .«surface_count»;
-      «mesh_quality» = q .«mesh_quality»;
-      «volume_reliable» = q .«volume_reliable»;
-      «volume_method» = q .«volume_method»;
-      «volume_best_m3» = q .«volume_best_m3»;
-      «volume_prism_bound_m3» = q .«volume_prism_bound_m3»;
-      «profile_invalid» = q .«profile_invalid»;
-      «triangles_used» = q .«triangles_used»;
-      «triangles_out_of_range» = q .«triangles_out_of_range»;
-      «triangles_sliver» = q .«triangles_sliver»;
-    }
+    replaced volume (record { top = top; bottom = bottom; side = q .«area_side_m2»; inclined = q .«area_inclined_m2» }) q
 
 -- the volume negated, as a number; top and bottom in each other's place; all else as it is
 abbrev pub turnedOver : MeshQto → MeshQto

@@ -12,10 +12,11 @@ use Rattle.sums.specs.Editions.{thresholdsOf}
 use Rattle.qto.specs.Full.{takeoffOf}
 use Rattle.qto.specs.Numbers.{withFlags}
 use Rattle.road.specs.Agree.{AgreeRecords, Beside}
+use Rattle.road.specs.Numbered.{SameNumberedArea}
 use Rattle.road.proofs.Flags.{flags-keep}
 use Rattle.road.proofs.Numbered.{AlikeNumbered, words-agree, flagged-pairs, numbered-agree}
 use Rattle.place.specs.Moved.{Moved, unitEnough}
-use Rattle.place.specs.Numbered.{SameOwed, SameNumberedArea, NumberedDoesNotShow}
+use Rattle.place.specs.Numbered.{SameOwed, NumberedDoesNotShow}
 use Rattle.place.proofs.Record.{surfaces-stay}
 use Rattle.place.proofs.Place.{check-stays, takeoffs-agree}
 

@@ -12,10 +12,10 @@ use Rattle.sums.specs.Editions.{thresholdsOf}
 use Rattle.refusals.specs.Refusals.{checkOf, Passes}
 use Rattle.qto.specs.Full.{takeoffOf}
 use Rattle.vertices.specs.Areas.{workWords}
-use Rattle.road.specs.Agree.{AgreeBy, AgreeRecords, Beside}
+use Rattle.road.specs.Agree.{AgreeBy, AgreeRecords, Beside, SameArea}
 use Rattle.road.proofs.Outcomes.{Alike, beside, outcomes-agree, zero-beside}
 use Rattle.place.specs.Moved.{Moved, unitEnough}
-use Rattle.place.specs.Place.{SameArea, PlaceDoesNotShow}
+use Rattle.place.specs.Place.{PlaceDoesNotShow}
 use Rattle.place.proofs.Vertices.{fine-stays}
 use Rattle.place.proofs.Record.{surfaces-stay, records-agree}
 

@@ -6,15 +6,12 @@ use lib.Dec.{T}
 use lib.IntN.{ℤ}
 use lib.Ieee.{Float}
 use Rattle.qto.specs.Numbers.{ComputesNumbered}
-use Rattle.road.specs.Numbered.{owed, AgreeNumbered}
+use Rattle.road.specs.Numbered.{owed, AgreeNumbered, SameNumberedArea}
 use Rattle.place.specs.Moved.{Moved, unitEnough}
 
--- all that is owed of the words, and the same surface area
+-- all that is owed of the words
 abbrev pub SameOwed : ℕ → List ℕ → List ℕ → Type 0
 SameOwed n words words′ = owed n words′ ≡ owed n words
-
-abbrev pub SameNumberedArea : ℕ → List ℕ → List Float → List Float → Type 0
-SameNumberedArea n words s s′ = s′ ≡ s
 
 -- the same edition and flags, and the record's words alike before the call (`numbered-does-not-show`)
 abbrev pub NumberedDoesNotShow : Type 0

@@ -8,12 +8,8 @@ use lib.IntN.{ℤ}
 use lib.Ieee.{Float}
 use Rattle.qto.specs.declared.Answer.{Answer}
 use Rattle.qto.specs.Compute.{Computes}
-use Rattle.road.specs.Agree.{Agree, AgreeRecords, Beside}
+use Rattle.road.specs.Agree.{Agree, AgreeRecords, Beside, SameArea}
 use Rattle.place.specs.Moved.{Moved, unitEnough}
-
--- whatever the answer is, the surface area is the same
-abbrev pub SameArea : Answer → List Float → List Float → Type 0
-SameArea a s s′ = s′ ≡ s
 
 -- the same ids, unit and edition, and lent areas alike before the call (`place-does-not-show`)
 abbrev pub PlaceDoesNotShow : Type 0

@@ -22,13 +22,13 @@ use Rattle.qto.specs.Full.{takeoffOf, surfacesAfter}
 use Rattle.qto.specs.Compute.{zeroTakeoff, areaAt}
 use Rattle.qto.specs.Numbers.{wordsOf, withFlags, numberAt, wordsAt, checkFlags, ComputesNumbered}
 use Rattle.road.specs.Agree.{AgreeBy, AgreePairs, AgreeRecords, Beside}
-use Rattle.road.specs.Numbered.{unexcepted, owed, AgreeNumbered}
+use Rattle.road.specs.Numbered.{without, owed, AgreeNumbered}
 
 -- ---- words of records that agree
 
 words-by : (v : Quality) (t t′ : Takeoff) → t .qto .«mesh_quality» ≡ v → t′ .qto .«mesh_quality» ≡ v → AgreeBy v (t .qto) (t′ .qto)
     → AgreePairs v (t .pairs) (t′ .pairs) → owed 0 (wordsOf t′) ≡ owed 0 (wordsOf t)
-unfolding AgreeBy AgreePairs owed wordsOf unexcepted qualityNumber
+unfolding AgreeBy AgreePairs owed wordsOf without qualityNumber
 words-by Quality.Closed t t′ h h′ r p = rw (r, p)
 words-by Quality.Degenerate t t′ h h′ r p = rw (r, p)
 words-by Quality.OpenShell t t′ h h′ r p =

@@ -73,3 +73,7 @@ pub record Agree (R : Takeoff → Takeoff → Type 0) (S : Answer → List Float
   pub work : w′ ≡ w
   pub raster : r′ ≡ r
   pub surfaces : S a s s′
+
+-- whatever the answer is, the surface area is the same
+abbrev pub SameArea : Answer → List Float → List Float → Type 0
+SameArea a s s′ = s′ ≡ s

@@ -163,7 +163,15 @@ fn full(
 {
     let b = sums::box_of(vertices);
     let n = 5 * (indices.len() / 3);
-    let m = measure(vertices, indices, b, unit_scale, edition, &mut work[0..n], surfaces);
+    let m = measure(
+        vertices,
+        indices,
+        b,
+        unit_scale,
+        edition,
+        &mut work[0..n],
+        surfaces,
+    );
     let words = refusals::work_words(vertices.len(), indices.len());
     let bytes = refusals::raster_bytes();
     record_by(
@@ -219,7 +227,15 @@ pub fn compute(
         Check::Refuse(n) => Answer::Refused(n),
         Check::Zero => Answer::Record(zero_takeoff()),
         Check::Full => {
-            Answer::Record(full(vertices, indices, unit_scale, edition, work, raster, surfaces))
+            Answer::Record(full(
+                vertices,
+                indices,
+                unit_scale,
+                edition,
+                work,
+                raster,
+                surfaces,
+            ))
         }
     }
 }

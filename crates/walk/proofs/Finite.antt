@@ -70,7 +70,7 @@ each-still a f w =
     record { top = f _ (w .top); bottom = f _ (w .bottom); side = f _ (w .side); inclined = f _ (w .inclined) }
 
 -- one of the four goes on, the others stay
-each-next : {P Q : Float → Type 0} (s : Slope) (x : Float) (a : Areas) → ((y : Float) → P y → Q y) → ((y : Float) → P y → Q (y ⊕ x))
+pub each-next : {P Q : Float → Type 0} (s : Slope) (x : Float) (a : Areas) → ((y : Float) → P y → Q y) → ((y : Float) → P y → Q (y ⊕ x))
     → EachArea P a → EachArea Q (onSlope s x a)
 unfolding onSlope
 each-next Slope.Top x a f g w = record { top = g _ (w .top); bottom = f _ (w .bottom); side = f _ (w .side); inclined = f _ (w .inclined) }

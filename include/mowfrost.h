@@ -1,8 +1,8 @@
 /* Mowfrost from C: every function that the static library exports, and what it promises.
  *
  * The library is proved and made by `rt staticlib capi`: target/staticlib/libcapi.a, for x86-64 Linux. It needs nothing
- * but memset. examples/takeoff.c, mount.c and correct.c are programs over it. The contracts that are proved stand in
- * crates/capi/src, and docs/ARCHITECTURE.md leads from there to the definitions.
+ * but memset. examples/takeoff.c, mount.c, slopes.c and correct.c are programs over it. The contracts that are proved
+ * stand in crates/capi/src, and docs/ARCHITECTURE.md leads from there to the definitions.
  *
  * What comes back. Every function answers every input, or gives the one refusal that applies, and ends. It allocates
  * nothing and keeps nothing between two calls, so that calls which are lent different memory may run at the same time.

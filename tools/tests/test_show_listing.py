@@ -146,6 +146,7 @@ REFUSALS = {
     "or bytes after the end; from --stl not a binary STL, which has 84 bytes and 50 for each triangle",
     6: "too many: the file has more than 1536 floats or more than 1536 ids; from --stl a count above 170 triangles, "
     "or text in its place",
+    7: "the edition of the slope rule is neither 1 nor 2",
 }
 
 
@@ -206,7 +207,7 @@ BROKEN = {
     "refused 5 6\n": "line 1: 'refused 5 6' is not 'refused' and a number",
     "refused 5\nrefused 5\n": "line 2: the listing has ended, yet here is 'refused 5'",
     "refused 0\n": "line 1: there is no refusal 0",
-    "refused 7\n": "line 1: there is no refusal 7",
+    "refused 8\n": "line 1: there is no refusal 8",
     "\x00\x01\x02": "line 1: 'quality' belongs here, not '\\x00\\x01\\x02'",
 }
 
@@ -333,6 +334,7 @@ class Tool(Case):
         done = run(TOOL, "--help")
         self.assertEqual(done.returncode, 0)
         self.assertIn(b"exit status", done.stdout)
+        self.assertIn(b"takeoff names edition 1", done.stdout)
 
     def test_reader_that_has_gone(self) -> None:
         self.check_reader_gone(TOOL, given=CUBE_LISTING.encode())

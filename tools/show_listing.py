@@ -13,8 +13,8 @@ DESCRIPTION = "Shows a listing of takeoff in square and cubic metres and in word
 EPILOG = """\
 Each number is the shortest decimal that names the same f32. m2 and m3 are square and cubic metres. The volume of an
 open shell depends on where it is measured from, also where the listing says 'reliable 1'. Triangles that were left
-out are counted, with the reason; nothing is said of them where none was. A listing does not say under which edition
-of the slope rule (README.md) top, bottom, side and inclined were told apart: takeoff names edition 1.
+out are counted, with the reason; nothing is said of them where none was. A listing does not say the edition of the
+slope rule (README.md) that tells top, bottom, side and inclined apart: takeoff names edition 1.
 
 example:
   takeoff foot.mesh | show_listing.py
@@ -157,7 +157,7 @@ def amounts(values: dict[str, str]) -> list[tuple[str, str]]:
         ("Signed volume", signed_volume(values["volume"])),
         ("Box volume", f"{number(values['aabb'])} m3"),
         ("Prism bound", prism(values)),
-        ("Surface area", areas["surface"]),
+        ("Surface area", f"{areas['surface']}; by slope, under edition 1 of the slope rule:"),
         ("  top", areas["top"]),
         ("  bottom", areas["bottom"]),
         ("  side", areas["side"]),

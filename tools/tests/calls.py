@@ -36,7 +36,7 @@ def asked(vertices: bytes, ids: bytes) -> tuple[int, int, int]:
 
 @dataclass(frozen=True)
 class Call:
-    """What is passed: floats and ids packed, the unit as its bits, and the lengths of the areas, which without these are
+    """What is passed: floats and ids packed, the unit as its bits, and the lengths of the areas; without these they are
     just as long as is asked for."""
 
     vertices: bytes

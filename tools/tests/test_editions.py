@@ -125,14 +125,15 @@ def random_calls(seed: int, count: int) -> Iterator[Call]:
     for number in range(count):
         points = 4 if number % 3 == 0 else chance.randrange(3, 12)
         reach = chance.choice((2, 5, 40, 1000))
-        whole = chance.random() < 0.5
-        draws = [float(chance.randint(-reach, reach)) if whole else chance.uniform(-reach, reach) for _ in range(3 * points)]
-        vertices = [0 if number % 15 == 1 and at % 3 == 0 else bits(draw) for at, draw in enumerate(draws)]
+        draw = chance.choice((chance.randint, chance.uniform))
+        vertices = [bits(draw(-reach, reach)) for _ in range(3 * points)]
+        if number % 15 == 1:
+            vertices[::3] = [0] * points
         ids = [chance.randrange(points + (chance.random() < 0.1)) for _ in range(3 * chance.randrange(1, 30))]
         if number % 3 == 0:
             ids = [0, 1, 2, 0, 2, 3, 0, 3, 1, 1, 3, 2]
         else:
-            vertices += [bits(draws[0])] * chance.randrange(3)
+            vertices += [METRE] * chance.randrange(3)
             ids += [0] * chance.randrange(3)
         unit = bits(chance.choice((1.0, 0.001, 0.0254, 16.0, chance.uniform(0.0001, 16))))
         yield Call(packed(vertices), packed(ids), unit, 1, chance.randrange(2), chance.randrange(5))
@@ -214,7 +215,7 @@ class Library(unittest.TestCase):
         return answers(self.asker, calls)
 
     def check_beside(self, call: Call, one: Left, two: Left) -> None:
-        """Both are taken; the areas by slope are the plain form's, only what was inclined moved, the rest is the same."""
+        """Both taken; the areas by slope are the plain form's, only what was inclined moved, the rest is the same."""
         self.assertEqual((one.answer, two.answer), (0, 0))
         for edition, left in ((1, one), (2, two)):
             self.assertEqual(tuple(left.record[word] for word in WORDS), by_plain_form(edition, call))

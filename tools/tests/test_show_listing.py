@@ -20,7 +20,7 @@ Pieces:           1
 Signed volume:    8 m3
 Box volume:       8 m3
 Prism bound:      not computed; only an open shell needs it
-Surface area:     24 m2
+Surface area:     24 m2; by slope, under edition 1 of the slope rule:
   top:            4 m2
   bottom:         4 m2
   side:           16 m2
@@ -72,7 +72,7 @@ Pieces:           2
 Signed volume:    0 m3
 Box volume:       0 m3
 Prism bound:      0 m3 (set so for a degenerate mesh, not computed)
-Surface area:     0 m2
+Surface area:     0 m2; by slope, under edition 1 of the slope rule:
   top:            0 m2
   bottom:         0 m2
   side:           0 m2
@@ -123,7 +123,7 @@ Left out:         3 of 14 triangles, in no area and not in the signed volume
 Signed volume:    -8 m3 (negative: on the whole the faces look inwards)
 Box volume:       3.4028235e+38 m3
 Prism bound:      8.000001 m3 (least footprint times extent)
-Surface area:     0.1 m2
+Surface area:     0.1 m2; by slope, under edition 1 of the slope rule:
   top:            1e-45 m2
   bottom:         0.000001 m2
   side:           16777218 m2

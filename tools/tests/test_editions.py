@@ -34,6 +34,12 @@ MOST = 98304  # floats, and also ids, that a call may have
 # A call's faults in the order in which they are tried, and the refusal of each; 0 is the zero record.
 FAULTS = {"flag": 5, "many": 1, "few": 0, "unit": 2, "edition": 7, "area": 3, "float": 4}
 
+# By how much the three areas may be too short.
+SHORT = ((1, 0, 0), (0, 1, 0), (0, 0, 1))
+
+CUBE = meshfile.read(CUBE_BYTES)
+CUBE_MESH = packed(CUBE.vertices), packed(CUBE.ids)
+
 # The zero record: degenerate, by prism_fallback, with a bound that is a number.
 ZERO = tuple({0: 2, 2: 2, 14: 1}.get(word, 0) for word in range(RECORD))
 
@@ -155,13 +161,6 @@ def faulty(faults: set[str], number: int) -> Call:
     return Call(packed(vertices), ids, unit, edition, clip, defect, (work, raster, surfaces))
 
 
-CUBE = meshfile.read(CUBE_BYTES)
-CUBE_MESH = packed(CUBE.vertices), packed(CUBE.ids)
-
-# One of the three areas is one element short.
-SHORT = ((1, 0, 0), (0, 1, 0), (0, 0, 1))
-
-
 # ---- the tests
 
 
@@ -257,18 +256,15 @@ class Library(unittest.TestCase):
         self.assertEqual([slopes.count(slope) for slope in SLOPES], [5, 5, 10, 28])
 
     def test_a_fan_of_slopes(self) -> None:
-        """A triangle for each degree and half a degree, up and down: what moves is from 20 to 30 and from 60 to 70."""
+        """A triangle each half degree, looking up and down: what moves rises by 20 to 30 degrees or by 60.5 to 70."""
         calls = []
         for half in range(1, 180):
             angle = math.radians(half / 2)
             vertices = packed([bits(n) for n in (0, 0, 0, math.cos(angle), 0, math.sin(angle), 0, 1, 0)])
             calls += [Call(vertices, packed(ids)) for ids in ((0, 1, 2), (0, 2, 1))]
-        moved = set()
-        for number, (one, two) in enumerate(self.check_both(calls)):
-            if one.record != two.record:
-                moved.add((number // 2 + 1) / 2)
-        wanted = {half / 2 for half in (*range(40, 61), *range(121, 141))}
-        self.assertEqual(moved, wanted)
+        pairs = self.check_both(calls)
+        moved = [number // 2 + 1 for number, (one, two) in enumerate(pairs) if one.record != two.record]
+        self.assertEqual(moved, sorted([*range(40, 61), *range(121, 141)] * 2))
 
     def test_random_meshes(self) -> None:
         pairs = self.check_both(list(random_calls(6, 150)))
@@ -314,7 +310,7 @@ class Library(unittest.TestCase):
         """Every set of faults: the first of them decides, and a refusal touches nothing."""
         sets = [set(some) for size in range(len(FAULTS) + 1) for some in itertools.combinations(FAULTS, size)]
         calls = [faulty(faults, number) for number, faults in enumerate(sets)]
-        for faults, call, left in zip(sets, calls, self.ask(calls)):
+        for faults, left in zip(sets, self.ask(calls)):
             with self.subTest(faults=faults):
                 first = next((number for fault, number in FAULTS.items() if fault in faults), 0)
                 self.assertEqual(left.answer, REFUSED + first if first else 0)

@@ -13,7 +13,8 @@ DESCRIPTION = "Shows a listing of takeoff in square and cubic metres and in word
 EPILOG = """\
 Each number is the shortest decimal that names the same f32. m2 and m3 are square and cubic metres. The volume of an
 open shell depends on where it is measured from, also where the listing says 'reliable 1'. Triangles that were left
-out are counted, with the reason; nothing is said of them where none was.
+out are counted, with the reason; nothing is said of them where none was. A listing does not say the edition of the
+slope rule (README.md) that tells top, bottom, side and inclined apart: takeoff names edition 1.
 
 example:
   takeoff foot.mesh | show_listing.py
@@ -40,7 +41,7 @@ PROFILES = {
     "hole_outside": "a hole lies outside it",
     "overlapping": "two of its regions overlap",
 }
-# Document 01, 'Order of checks' and 'The program `takeoff`'; 02, A4.
+# Document 01, 'Order of checks' and 'The program `takeoff`'; 02, A4 and A6.
 REFUSALS = {
     1: "more than 98304 vertex floats or more than 98304 ids",
     2: "the unit is not finite, or outside its range (2^-20 to 16 metres a unit)",
@@ -50,6 +51,7 @@ REFUSALS = {
     "or bytes after the end; from --stl not a binary STL, which has 84 bytes and 50 for each triangle",
     6: "too many: the file has more than 1536 floats or more than 1536 ids; from --stl a count above 170 triangles, "
     "or text in its place",
+    7: "the edition of the slope rule is neither 1 nor 2",
 }
 
 
@@ -155,7 +157,7 @@ def amounts(values: dict[str, str]) -> list[tuple[str, str]]:
         ("Signed volume", signed_volume(values["volume"])),
         ("Box volume", f"{number(values['aabb'])} m3"),
         ("Prism bound", prism(values)),
-        ("Surface area", areas["surface"]),
+        ("Surface area", f"{areas['surface']}; by slope, under edition 1 of the slope rule:"),
         ("  top", areas["top"]),
         ("  bottom", areas["bottom"]),
         ("  side", areas["side"]),

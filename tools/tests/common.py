@@ -17,7 +17,14 @@ EXAMPLES = ROOT / "examples"
 SCRIPT = ROOT / "takeoff"
 
 # The examples, with the arguments that make the mesh file.
-MADE_WITH = {"cube": [], "open-plinth": [], "two-plinths": [], "corner-plinths": [], "mast-foot-mm": ["--unit", "0.001"]}
+MADE_WITH = {
+    "cube": [],
+    "open-plinth": [],
+    "two-plinths": [],
+    "corner-plinths": [],
+    "mast-foot-mm": ["--unit", "0.001"],
+    "hut": [],
+}
 
 CUBE_VERTICES = "v 0 0 0\nv 2 0 0\nv 0 2 0\nv 2 2 0\nv 0 0 2\nv 2 0 2\nv 0 2 2\nv 2 2 2\n"
 

@@ -1,4 +1,5 @@
-"""The static libraries: which is there and fresh, which this machine can link, and what the header declares."""
+"""The static libraries: which is there and fresh, which this machine can link, what is compiled over them, and what the
+header declares."""
 
 from __future__ import annotations
 
@@ -6,6 +7,8 @@ import os
 import platform
 import re
 import shutil
+import subprocess
+import unittest
 from pathlib import Path
 
 from tests.common import ROOT
@@ -56,6 +59,30 @@ def to_link() -> tuple[Path, str]:
 def tool(name: str) -> str | None:
     """Where a program is, if it is there."""
     return shutil.which(name)
+
+
+COMPILER = tool(os.environ.get("CC", "cc"))
+STRICT = ["-std=c11", "-Wall", "-Wextra", "-pedantic", "-Werror", f"-I{HEADER.parent}"]
+
+
+def said(*words: str) -> tuple[int, str, str]:
+    """Status, standard output and standard error of a command."""
+    ended = subprocess.run(words, capture_output=True, check=False, text=True, cwd=ROOT, timeout=60)
+    return ended.returncode, ended.stdout, ended.stderr
+
+
+def compiled(source: Path, folder: Path) -> str:
+    """A C text as a program over the library, in this folder; the test is left out where there is none to link."""
+    libraries, reason = to_link()
+    if reason or not COMPILER:
+        raise unittest.SkipTest(f"C is compiled and not run: {reason}" if reason else "C: there is no C compiler")
+    program = folder / f"{source.stem}_c"
+    if not program.exists():
+        words = [COMPILER, *STRICT, str(source), str(libraries / "libcapi.a"), "-o", str(program)]
+        status, out, errors = said(*words)
+        if (status, out, errors) != (0, "", ""):
+            raise AssertionError(f"{source.name}: {out}{errors}")
+    return str(program)
 
 
 def declared() -> dict[str, str]:

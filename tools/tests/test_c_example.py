@@ -1,19 +1,18 @@
 """The examples in C compile without a warning. takeoff.c prints document 01's cube, what is left out, cells, and refusals;
-mount.c the takeoff of STL files, of the largest too; correct.c changes one id of a mesh file and nothing else."""
+mount.c the takeoff of STL files, of the largest too; slopes.c areas under the edition that is named; correct.c changes
+one id of a mesh file and nothing else."""
 
 from __future__ import annotations
 
-import os
-import subprocess
+import re
 import unittest
+from pathlib import Path
 
+from mowfrost import f32, listing
 from mowfrost.meshfile import MOST, mesh_file
-from tests.common import CUBE_BYTES, EXAMPLES, ROOT, Case
-from tests.library import HEADER, to_link, tool
+from tests.common import CUBE_BYTES, EXAMPLES, MADE_WITH, Case
+from tests.library import COMPILER, HEADER, STRICT, compiled, said
 from tests.stl import MOUNT, MOUNT_FILE, head, written
-
-COMPILER = tool(os.environ.get("CC", "cc"))
-STRICT = ["-std=c11", "-Wall", "-Wextra", "-pedantic", "-Werror", f"-I{HEADER.parent}"]
 
 PRINTED = """\
 closed, best volume 8 m3 by mesh, to be relied on
@@ -35,36 +34,28 @@ a unit of 17: refused 2, the record is as it was
 a work word short: refused 3, the record is as it was
 a coordinate that is no number: refused 4, the record is as it was
 a clip of 2: refused 5, the record is as it was
+an edition of 3: refused 7, the record is as it was
 """
 
-NAMES = ("takeoff", "mount", "correct")
+NAMES = ("takeoff", "mount", "slopes", "correct")
+
+ASKER = Path(__file__).with_name("ask.c")
+
+# An area by slope, as slopes.c prints it.
+SLOPE = re.compile(r"(top|bottom|side|inclined) (\S+) m2")
 
 LARGEST = 10922  # triangles that mf_read_stl_large takes
-
-
-def said(*words: str) -> tuple[int, str, str]:
-    """Status, standard output and standard error of a command."""
-    ended = subprocess.run(words, capture_output=True, check=False, text=True, cwd=ROOT, timeout=60)
-    return ended.returncode, ended.stdout, ended.stderr
 
 
 @unittest.skipUnless(COMPILER, "the example in C: there is no C compiler")
 class Compiled(Case):
     def test_header_and_examples_compile_without_a_warning(self) -> None:
-        for source in (HEADER, *(EXAMPLES / f"{name}.c" for name in NAMES)):
+        for source in (HEADER, ASKER, *(EXAMPLES / f"{name}.c" for name in NAMES)):
             self.assertEqual(said(str(COMPILER), *STRICT, "-fsyntax-only", "-x", "c", str(source)), (0, "", ""))
 
     def compiled(self, name: str) -> str:
         """The example as a program."""
-        folder, reason = to_link()
-        if reason:
-            self.skipTest(f"the examples in C are compiled and not run: {reason}")
-        program = self.folder / f"{name}_c"
-        if program.exists():
-            return str(program)
-        words = [*STRICT, str(EXAMPLES / f"{name}.c"), str(folder / "libcapi.a"), "-o", str(program)]
-        self.assertEqual(said(str(COMPILER), *words), (0, "", ""))
-        return str(program)
+        return compiled(EXAMPLES / f"{name}.c", self.folder)
 
     def test_what_it_prints(self) -> None:
         self.assertEqual(said(self.compiled("takeoff")), (0, PRINTED, ""))
@@ -89,6 +80,57 @@ class Compiled(Case):
                 status, out, err = said(program, str(path))
                 self.assertEqual((status, err), (1 if says.startswith("refused") else 0, ""))
                 self.assertTrue(out.startswith(f"{path}: {says}"), out)
+        self.assertEqual(said(program, "no such file")[0], 1)
+
+    def test_slopes_of_the_hut(self) -> None:
+        """As examples/README.md has them, and as its table has them."""
+        program = self.compiled("slopes")
+        readme = (EXAMPLES / "README.md").read_text()
+        for edition, words in (1, []), (1, ["--edition", "1"]), (2, ["--edition", "2"]), (2, ["--edition", "0002"]):
+            status, out, errors = said(program, *words, str(EXAMPLES / "hut.mesh"))
+            self.assertEqual((status, errors), (0, ""))
+            out = out.replace(f"{EXAMPLES}/", "")
+            self.assertTrue(out.startswith(f"hut.mesh, edition {edition}: "), out)
+            self.assertIn(out, readme)
+            areas = [text for _, text in SLOPE.findall(out)]
+            self.assertIn(f"| edition {edition} | {' | '.join(areas)} |\n", readme)
+
+    def test_slopes_under_edition_1_are_the_listings(self) -> None:
+        """Unless another is named; of all examples in one call."""
+        files = [str(EXAMPLES / f"{name}.mesh") for name in MADE_WITH]
+        status, out, errors = said(self.compiled("slopes"), *files)
+        self.assertEqual((status, errors, out.count("\n")), (0, "", len(files)))
+        for name, file, line in zip(MADE_WITH, files, out.splitlines()):
+            found = listing.parse((EXAMPLES / f"{name}.listing").read_bytes())
+            assert isinstance(found, listing.Listing)
+            self.assertTrue(line.startswith(f"{file}, edition 1: "))
+            areas = {slope: f"{f32.from_text(text):08x}" for slope, text in SLOPE.findall(line)}
+            self.assertEqual(areas, {slope: found.values[slope] for slope in ("top", "bottom", "side", "inclined")})
+
+    def test_what_slopes_refuses(self) -> None:
+        """The file's faults by their numbers, and 7 for an edition that there is not; then 1 is the status."""
+        program, hut = self.compiled("slopes"), str(EXAMPLES / "hut.mesh")
+        for edition in ("0", "3", "4294967295"):
+            self.assertEqual(said(program, "--edition", edition, hut), (1, f"{hut}: refused 7\n", ""))
+        nan = mesh_file(0x3F800000, [0] * 8 + [0x7FC00000], [0, 1, 2])
+        for data, printed in (
+            (CUBE_BYTES[:-1], "refused 5"),
+            (mesh_file(0, [], [0] * (MOST + 1)), "refused 6"),
+            (mesh_file(0, [0] * 9, [0, 1, 2]), "refused 2"),
+            (nan, "refused 4"),
+        ):
+            self.out.write_bytes(data)
+            self.assertEqual(said(program, "--edition", "2", str(self.out))[:2], (1, f"{self.out}: {printed}\n"))
+        self.out.write_bytes(nan)
+        self.assertEqual(said(program, "--edition", "3", str(self.out))[:2], (1, f"{self.out}: refused 7\n"))
+        self.out.write_bytes(mesh_file(0, [0] * 8, [0, 1, 2]))
+        nothing = "edition 3: top 0 m2, bottom 0 m2, side 0 m2, inclined 0 m2"
+        self.assertEqual(said(program, "--edition", "3", str(self.out))[:2], (0, f"{self.out}, {nothing}\n"))
+        usage = (2, "", "usage: slopes_c [--edition N] FILE ..\n")
+        for words in ([], ["--edition"], ["--edition", "2"], ["--editions", "2", hut], ["--edition=2", hut]):
+            self.assertEqual(said(program, *words), usage)
+        for word in ("", "-1", "+1", "1x", " 1", "0x1", "4294967296", "99999999999999999999"):
+            self.assertEqual(said(program, "--edition", word, hut), usage)
         self.assertEqual(said(program, "no such file")[0], 1)
 
     def correct(self, data: bytes, position: object, id_: object) -> tuple[int, str, bytes | None]:

@@ -146,7 +146,8 @@ class Examples(Case):
             self.check(run("obj_to_mesh.py", *options(text.stdout), "-", given=text.stdout), 0, "", data)
 
     def test_obj_to_mesh_to_obj_and_back(self) -> None:
-        flags = (["--clip"], ["--defect", "hole_outside"], ["--flag-record"], ["--flag-record", "--clip"], [])
+        both = ["--clip", "--defect", "overlapping"]
+        flags = (["--clip"], ["--defect", "hole_outside"], ["--flag-record"], ["--flag-record", "--clip"], both, [])
         for path, more in zip(sorted(EXAMPLES.glob("*.obj")), flags):
             data = run("obj_to_mesh.py", *MADE_WITH[path.stem], *more, str(path)).stdout
             text = run("mesh_to_obj.py", "-", given=data)
@@ -155,7 +156,7 @@ class Examples(Case):
 
     def test_all_are_tried(self) -> None:
         self.assertEqual({path.stem for path in EXAMPLES.glob("*.mesh")}, {*MADE_WITH, WRONG.stem})
-        self.assertEqual(len(list(EXAMPLES.glob("*.obj"))), 5)
+        self.assertEqual(len(list(EXAMPLES.glob("*.obj"))), 6)
 
 
 class Corrected(Case):

@@ -20,7 +20,7 @@ Pieces:           1
 Signed volume:    8 m3
 Box volume:       8 m3
 Prism bound:      not computed; only an open shell needs it
-Surface area:     24 m2
+Surface area:     24 m2; by slope, under edition 1 of the slope rule:
   top:            4 m2
   bottom:         4 m2
   side:           16 m2
@@ -72,7 +72,7 @@ Pieces:           2
 Signed volume:    0 m3
 Box volume:       0 m3
 Prism bound:      0 m3 (set so for a degenerate mesh, not computed)
-Surface area:     0 m2
+Surface area:     0 m2; by slope, under edition 1 of the slope rule:
   top:            0 m2
   bottom:         0 m2
   side:           0 m2
@@ -123,7 +123,7 @@ Left out:         3 of 14 triangles, in no area and not in the signed volume
 Signed volume:    -8 m3 (negative: on the whole the faces look inwards)
 Box volume:       3.4028235e+38 m3
 Prism bound:      8.000001 m3 (least footprint times extent)
-Surface area:     0.1 m2
+Surface area:     0.1 m2; by slope, under edition 1 of the slope rule:
   top:            1e-45 m2
   bottom:         0.000001 m2
   side:           16777218 m2
@@ -146,6 +146,7 @@ REFUSALS = {
     "or bytes after the end; from --stl not a binary STL, which has 84 bytes and 50 for each triangle",
     6: "too many: the file has more than 1536 floats or more than 1536 ids; from --stl a count above 170 triangles, "
     "or text in its place",
+    7: "the edition of the slope rule is neither 1 nor 2",
 }
 
 
@@ -206,7 +207,7 @@ BROKEN = {
     "refused 5 6\n": "line 1: 'refused 5 6' is not 'refused' and a number",
     "refused 5\nrefused 5\n": "line 2: the listing has ended, yet here is 'refused 5'",
     "refused 0\n": "line 1: there is no refusal 0",
-    "refused 7\n": "line 1: there is no refusal 7",
+    "refused 8\n": "line 1: there is no refusal 8",
     "\x00\x01\x02": "line 1: 'quality' belongs here, not '\\x00\\x01\\x02'",
 }
 
@@ -333,6 +334,7 @@ class Tool(Case):
         done = run(TOOL, "--help")
         self.assertEqual(done.returncode, 0)
         self.assertIn(b"exit status", done.stdout)
+        self.assertIn(b"takeoff names edition 1", done.stdout)
 
     def test_reader_that_has_gone(self) -> None:
         self.check_reader_gone(TOOL, given=CUBE_LISTING.encode())

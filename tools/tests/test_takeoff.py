@@ -53,6 +53,7 @@ class Messages(unittest.TestCase):
         self.assertEqual((status, err), (0, ""))
         for words in ("--stl FILE", "--stl < FILE", "--cube", "--build", "--fresh"):
             self.assertIn(f"./takeoff {words}", out)
+        self.assertIn("edition 1 of the slope rule", out)
 
     def test_no_kit(self) -> None:
         with tempfile.TemporaryDirectory() as folder:

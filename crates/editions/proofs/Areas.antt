@@ -1,11 +1,10 @@
 -- From a pair of thresholds to one that leaves less inclined: facet by facet the inclined area is no larger and the other three are no
 -- smaller, since a sum of numbers from zero up rises with each summand and is above what it was. Assumes nothing.
 use mathlib.Core.Path.{_≡_, refl}
-use mathlib.Core.Bool.{not}
 use mathlib.Core.List.{List}
 use Prim.Native.Nat.{ℕ, zero, suc}
 use lib.Dec.{T}
-use lib.Ieee.{Float, binary32, add, fits, isNan, le, lt, eq, ofBits}
+use lib.Ieee.{Float, binary32, fits, le, lt, eq, ofBits}
 use lib.Ieee.Fits.{add-fits}
 use Rattle.ieee.specs.Single.{_⊕_, nought}
 use Rattle.ieee.proofs.Order.Comparison.{le-trans}

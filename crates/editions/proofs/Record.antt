@@ -1,6 +1,6 @@
 -- So volume, surface, verdict, best volume and pairs are the same by any two pairs of thresholds, and what the surfaces and the counts are
 -- made of never asked for one. Assumes nothing.
-use mathlib.Core.Path.{_≡_, refl}
+use mathlib.Core.Path.{_≡_}
 use mathlib.Core.List.{List}
 use Prim.Native.Nat.{ℕ}
 use lib.Ieee.{Float}

@@ -1,6 +1,5 @@
 -- Demand 3 (the place does not show), over what `compute` promises: of any two outcomes that its contract allows for a mesh and the same
 -- mesh moved.
-use mathlib.Core.Path.{_≡_}
 use mathlib.Core.List.{List}
 use Prim.Native.Nat.{ℕ}
 use lib.Dec.{T}

@@ -11,7 +11,7 @@ use borrow.Author.Tests.{eq-eqb, eqb-false, ltb-false, ne-eqb}
 use Rattle.sums.specs.Editions.{editionKnown}
 use Rattle.sums.specs.Fine.{allFine}
 use Rattle.refusals.specs.declared.Check.{Check}
-use Rattle.refusals.specs.Refusals.{areasShort, unitFits, checkOf}
+use Rattle.refusals.specs.Refusals.{areasShort, unitFits, checkOf, ZeroWhatever}
 use Rattle.refusals.specs.inner.Admitted.{Admitted}
 use Rattle.vertices.specs.Areas.{workWords, surfaceFloats, rasterBytes}
 use Rattle.ids.specs.Lent.{mostEntries}
@@ -134,3 +134,32 @@ admitted vs ids u e w r s k h is =
       raster = not-more r rasterBytes (others .0);
       surfaces = not-more s (surfaceFloats (length ids)) (others .1);
     }
+
+-- ---- the zero record
+
+isZero : Check → Bool
+isZero (Check.Refuse n) = false
+isZero Check.Zero = true
+isZero Check.Full = false
+
+-- no row below it gives one
+never : (p : Bool) (x y : Check) → isZero x ≡ false → isZero y ≡ false → isZero (cond p x y) ≡ false
+never true x y h k = h
+never false x y h k = k
+
+-- the first two rows decide about it
+zero-only : (many few : Bool) (behind behind′ : Check) → isZero behind ≡ false
+    → cond many (Check.Refuse 1) (cond few Check.Zero behind) ≡ Check.Zero
+    → cond many (Check.Refuse 1) (cond few Check.Zero behind′) ≡ Check.Zero
+unfolding isZero
+zero-only true few behind behind′ h e = absurd (false≢true (ap isZero e))
+zero-only false true behind behind′ h e = refl
+zero-only false false behind behind′ h e = absurd (false≢true (sym h ∙ ap isZero e))
+
+pub zero-whatever : ZeroWhatever
+unfolding checkOf isZero
+zero-whatever vs ids u u′ e e′ w w′ r r′ s s′ =
+    zero-only (ltb mostEntries (length vs) || ltb mostEntries (length ids)) (ltb (length ids) 3 || ltb (length vs) 9) _ _
+    (never (not (unitFits u)) _ _ refl
+    (never (not (editionKnown e)) _ _ refl
+    (never (areasShort (length vs) (length ids) w r s) _ _ refl (never (not (allFine vs)) (Check.Refuse 4) Check.Full refl refl))))

@@ -1,4 +1,5 @@
 -- Order of checks (01, and 02, A6): the rows of the table are tried from the top, and the first that applies decides.
+use mathlib.Core.Path.{_≡_}
 use Prim.Native.Nat.{ℕ, _≤_}
 use mathlib.Core.Bool.{Bool, cond, not, _&&_, _||_}
 use mathlib.Core.List.{List}
@@ -39,3 +40,9 @@ checkOf vs ids u e w r s =
     (cond (areasShort (length vs) (length ids) w r s) (Check.Refuse 3)
     (cond (not (allFine vs)) (Check.Refuse 4)
     Check.Full)))))
+
+-- the zero record hangs on the numbers of floats and ids alone: whatever unit, edition and areas are, it is given (`zero-whatever`)
+abbrev pub ZeroWhatever : Type 0
+ZeroWhatever =
+    (vs : List Float) (ids : List ℕ) (u u′ : Float) (e e′ w w′ r r′ s s′ : ℕ) → checkOf vs ids u e w r s ≡ Check.Zero
+    → checkOf vs ids u′ e′ w′ r′ s′ ≡ Check.Zero

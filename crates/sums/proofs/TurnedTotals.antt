@@ -23,7 +23,7 @@ use Rattle.sums.specs.declared.totals.Thresholds.{Thresholds}
 use Rattle.sums.specs.declared.totals.Totals.{Totals}
 use Rattle.sums.specs.Facet.{Part, part}
 use Rattle.sums.specs.Totals.{slopeOf, onSlope, withFacet, withPart, noTotals, totalsTo}
-use Rattle.sums.specs.Turned.{turnedAreas, TurnedTotals}
+use Rattle.sums.specs.Turned.{turnedAreas, TurnedTotals, BothTop}
 use Rattle.sums.proofs.TurnedFacets.{TurnedFacet, TurnedPart, none, thin, turned, part-turned}
 
 -- ---- the slope
@@ -62,6 +62,10 @@ slope-turned p z z′ h o =
     go false true c apart = refl
     go false false true apart = refl
     go false false false apart = refl
+
+pub both-top : BothTop
+unfolding slopeOf lt neg ofBits
+both-top = (refl, refl)
 
 -- ---- the sums
 on-slope-turned : (s : Slope) (x : Float) (a : Areas) → onSlope (turnedSlope s) x (turnedAreas a) ≡ turnedAreas (onSlope s x a)

@@ -25,12 +25,6 @@ of s law =
 returns : tie.Need-returns
 returns c = of (c .before .before .before) row-1 (c .if1 .taken)
 
-returns-3 : tie.Need-returns-3
-returns-3 c =
-    let k = c .before in
-    of (k .before .before .before .before .before) row-2 (k .before .before .if1 .left) (k .before .if2 .left)
-    (sym (k .unit-fits .ensures) ∙ not-true (k .unit-fits .result) (c .if3 .taken))
-
 -- the unit fits
 module _ (c : tie.Else3) where
   abbrev asked : tie.After-unit-fits
@@ -39,12 +33,11 @@ module _ (c : tie.Else3) where
   fitting : unitFits (asked .before .before .before .before .before .args .unit-scale) ≡ true
   fitting = sym (asked .unit-fits .ensures) ∙ not-false (asked .unit-fits .result) (c .if3 .left)
 
-returns-4 : tie.Need-returns-4
-returns-4 c =
+returns-3 : tie.Need-returns-3
+returns-3 c =
     let k = c .before in
-    let u = asked (k .before) in
-    of (u .before .before .before .before .before) row-7 (u .before .before .if1 .left) (u .before .if2 .left) (fitting (k .before))
-    (sym (k .edition-known .ensures) ∙ not-true (k .edition-known .result) (c .if4 .taken))
+    of (k .before .before .before .before .before) row-2 (k .before .before .if1 .left) (k .before .if2 .left)
+    (sym (k .unit-fits .ensures) ∙ not-true (k .unit-fits .result) (c .if3 .taken))
 
 areas-short-requires : tie.Need-areas-short-requires
 areas-short-requires c κs =
@@ -92,6 +85,13 @@ returns-5 c =
     let short = c .before .before in
     let k = short .before in
     of (start k) row-3 (behind k) (sym (short .areas-short .ensures) ∙ c .if5 .taken)
+
+returns-4 : tie.Need-returns-4
+returns-4 c =
+    let k = c .before in
+    let u = asked (k .before) in
+    of (u .before .before .before .before .before) row-7 (u .before .before .if1 .left) (u .before .if2 .left) (fitting (k .before))
+    (sym (k .edition-known .ensures) ∙ not-true (k .edition-known .result) (c .if4 .taken))
 
 returns-2 : tie.Need-returns-2
 returns-2 c = of (c .before .before .before .before) row-zero (c .before .if1 .left) (c .if2 .taken)

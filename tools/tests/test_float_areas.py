@@ -34,7 +34,7 @@ STORES = {
 NAMED = {
     ("qto", "compute", "surfaces"): [
         "surfaces.len(),",
-        "Answer::Record(full(vertices, indices, unit_scale, work, raster, surfaces))",
+        "let t = full(vertices, indices, unit_scale, edition, work, raster, surfaces);",
     ],
     ("meshfile", "read", "vertices"): [
         "let found = read_ids(bytes, vertices.len(), ids);",

@@ -15,7 +15,7 @@ use Rattle.sums.specs.declared.totals.Slope.{Slope}
 use Rattle.sums.specs.declared.totals.Thresholds.{Thresholds}
 use Rattle.sums.specs.declared.totals.Totals.{Totals}
 use Rattle.sums.specs.Box.{box, origin}
-use Rattle.sums.specs.Editions.{LessInclined, MayBecome}
+use Rattle.sums.specs.SlopeMoves.{LessInclined, MayBecome}
 use Rattle.sums.specs.Facet.{Part, outOfRange, sliver, used, part}
 use Rattle.sums.specs.Fine.{allFine}
 use Rattle.sums.specs.Totals.{noTotals, onSlope, slopeOf, totalsTo, withFacet, withPart}

@@ -6,7 +6,7 @@ use lib.Dec.{T}
 use lib.Ieee.{Float, le}
 use Rattle.sums.specs.declared.totals.Areas.{Areas}
 use Rattle.sums.specs.declared.totals.Thresholds.{Thresholds}
-use Rattle.sums.specs.Editions.{LessInclined}
+use Rattle.sums.specs.SlopeMoves.{LessInclined}
 use Rattle.refusals.specs.Refusals.{Passes}
 use Rattle.qto.specs.declared.Answer.{Answer}
 use Rattle.qto.specs.declared.Takeoff.{Takeoff}

@@ -227,7 +227,7 @@ pub fn compute(
         Check::Refuse(n) => Answer::Refused(n),
         Check::Zero => Answer::Record(zero_takeoff()),
         Check::Full => {
-            Answer::Record(full(
+            let t = full(
                 vertices,
                 indices,
                 unit_scale,
@@ -235,7 +235,8 @@ pub fn compute(
                 work,
                 raster,
                 surfaces,
-            ))
+            );
+            Answer::Record(t)
         }
     }
 }

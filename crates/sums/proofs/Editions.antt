@@ -14,7 +14,8 @@ use Rattle.ieee.proofs.Order.Magnitudes.{magnitude-below}
 use Rattle.ieee.proofs.Values.Negation.{le-neg, lt-neg, neg-neg}
 use Rattle.sums.specs.declared.totals.Slope.{Slope}
 use Rattle.sums.specs.declared.totals.Thresholds.{Thresholds}
-use Rattle.sums.specs.Editions.{edition1, edition2, thresholdsOf, LessInclined, MayBecome, SlopesMove, EditionMoves}
+use Rattle.sums.specs.Editions.{edition1, edition2, thresholdsOf}
+use Rattle.sums.specs.SlopeMoves.{LessInclined, MayBecome, SlopesMove, EditionMoves}
 use Rattle.sums.specs.Totals.{slopeOf}
 use Rattle.sums.proofs.Slopes.{slope-bottom, slope-side, slope-top}
 use Rattle.sums.proofs.TurnedTotals.{not-both}

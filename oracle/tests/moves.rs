@@ -8,6 +8,7 @@ use mowfrost_oracle::moves::compare::{on_chance, on_kind};
 use mowfrost_oracle::moves::meshes::{kinds, pair, LEAST_UNIT, LIMIT};
 use mowfrost_oracle::pairs::{Count, Pair};
 use mowfrost_oracle::record::MOST;
+use mowfrost_oracle::slopes::EDITIONS;
 
 mod pairs;
 mod ways;
@@ -43,8 +44,11 @@ fn nor_in_the_original_and_everything_is_reached() {
     // the last kind has those that are too large, seldom
     count.join(&on_kind(ORIGINAL, kinds().len() - 1, 20_000));
     assert_eq!(count.differ, 0);
-    let [one, two, three, four, five] = count.tally.refused;
-    assert!(one > 0 && two > 200 && three > 800 && four == 0 && five > 200, "{}", count.reached(&[]));
+    let [one, two, three, four, five, six, seven] = count.tally.refused;
+    assert!(one > 0 && two > 200 && three > 800 && four == 0 && five > 200 && six == 0, "{}", count.reached(&[]));
+    let [first, second, unknown] = count.editions;
+    assert!(second.abs_diff(first + unknown) < second / 8 && unknown > seven, "{}", count.reached(&[]));
+    assert!(seven > 200 && count.moved > 400, "{}", count.reached(&[]));
     assert!(count.tally.zero > 200 && count.tally.verdicts.iter().all(|&times| times > 300), "{}", count.reached(&[]));
     assert!(count.free.iter().all(|&times| times > 3), "{}", count.reached(&[]));
     assert!(count.covered > 100 && count.rim > 100 && count.rim_alone > 20, "{}", count.reached(&[]));
@@ -316,7 +320,7 @@ fn the_pairs_have_what_they_are_for() {
 
 #[test]
 fn each_exception_is_needed_of_the_original() {
-    exceptions_of_the_stored_pairs(ORIGINAL);
+    EDITIONS.into_iter().for_each(|edition| exceptions_of_the_stored_pairs(ORIGINAL, edition));
 }
 
 #[test]
@@ -325,7 +329,7 @@ fn each_exception_is_needed_of_the_original() {
     ignore = "the port's libraries were not built: at the root, rt staticlib capi and rt staticlib probe"
 )]
 fn each_exception_is_needed_of_the_port() {
-    exceptions_of_the_stored_pairs(PORT);
+    EDITIONS.into_iter().for_each(|edition| exceptions_of_the_stored_pairs(PORT, edition));
 }
 
 fn both(name: &str) -> [MeshFile; 2] {
@@ -336,7 +340,7 @@ fn both(name: &str) -> [MeshFile; 2] {
 const RIMS: [usize; 3] = [RIM, RIM + 2, RIM + 4];
 
 /// In each pair of `stored::places` so many of the exceptions differ and nothing else.
-fn exceptions_of_the_stored_pairs(port: Port) {
+fn exceptions_of_the_stored_pairs(port: Port, edition: u32) {
     let (half, most) = (257.0 / 512.0, 0.75);
     for (name, differ, best) in [
         ("bound", &[BOUND][..], [0.5, 0.5]),
@@ -346,7 +350,7 @@ fn exceptions_of_the_stored_pairs(port: Port) {
     ] {
         let [here, there] = both(name);
         assert_eq!(moved(&here, &there), Some([1 << 23, 1 << 23, 0]));
-        let (one, other) = (left(port, &here), left(port, &there));
+        let (one, other) = (left(port, edition, &here), left(port, edition, &there));
         // from above another half of the square; from the other sides all of it, and the rim is all of it there
         assert_eq!(differing(&one.0, &other.0), [differ, &[COVERED], &RIMS].concat(), "{name}");
         assert!(one.1 == other.1 && one.2 == other.2, "{name}");
@@ -360,7 +364,7 @@ fn exceptions_of_the_stored_pairs(port: Port) {
     ] {
         let [here, there] = both(name);
         assert_eq!(moved(&here, &there), Some(by));
-        let (one, other) = (left(port, &here), left(port, &there));
+        let (one, other) = (left(port, edition, &here), left(port, edition, &there));
         assert_eq!(differing(&one.0, &other.0), differ, "{name}");
         assert!(one.1 == other.1 && one.2 == other.2, "{name}");
         assert!(differ.iter().all(|&word| [one.0[word], other.0[word]] == numbers), "{name}");
@@ -368,7 +372,7 @@ fn exceptions_of_the_stored_pairs(port: Port) {
     // with other axes for x and y it is the other footprints' numbers, each alone
     for (name, word) in [("rim", RIM), ("covered", COVERED)] {
         for (axes, more) in [([0, 2, 1], 2), ([2, 0, 1], 4)] {
-            let [one, other] = both(name).map(|mesh| left(port, &along(&mesh, axes)).0);
+            let [one, other] = both(name).map(|mesh| left(port, edition, &along(&mesh, axes)).0);
             assert_eq!(differing(&one, &other), [word + more], "{name}");
         }
     }

@@ -90,12 +90,13 @@ impl Editions {
 
     pub fn told(&self) -> [String; 4] {
         let Editions { tallies, meshes, other, facets, moved: [top, bottom, side], .. } = self;
-        let [first, second, unknown] = [0, 1, 2].map(|i| format!("{}: {}", tallies[i].sum(), tallies[i].told(&[])));
+        let calls =
+            |i: usize, under: &str| format!("{} calls under {under}: {}", tallies[i].sum(), tallies[i].told(&[]));
         let near = |[under, just, above]: [u64; 3]| format!("{under}, {just}, {above}");
         [
-            format!("calls under edition 1, beside the original {first}"),
-            format!("calls under edition 2, areas by slope beside the plain form and all else beside the original {second}"),
-            format!("calls under editions that are not known {unknown}"),
+            calls(0, "edition 1, beside the original"),
+            calls(1, "edition 2, areas by slope beside the plain form and all else beside the original"),
+            calls(2, "editions that are not known"),
             format!(
                 "areas by slope, by the plain form: under 1 the original's, under 2 those of the original with two numbers changed, in \
                  {meshes} meshes with a full record; in {other} some area is another under 2. Of {facets} facets {top} are inclined under 1 \

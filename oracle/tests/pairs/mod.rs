@@ -35,8 +35,7 @@ pub struct Given<'a> {
 }
 
 /// By their numbers; `compute` has no 6.
-const REFUSALS: [&str; 7] =
-    ["refused 1", "refused 2", "refused 3", "refused 4", "refused 5", "refused 6", "refused 7"];
+const REFUSALS: [&str; 7] = ["refused 1", "refused 2", "refused 3", "refused 4", "refused 5", "refused 6", "refused 7"];
 
 impl Given<'_> {
     pub fn came_to(&self, mesh: &MeshFile) -> &'static str {

@@ -1,4 +1,4 @@
-//! The listing (01, 'The program `takeoff`', and 02, A1): what the program prints for a file.
+//! The listing (01, 'The program `takeoff`', and 02, A1): what the program prints for a file, which names edition 1 (02, A6).
 
 use crate::file::{self, MeshFile};
 use crate::mesh::qto::probe;

@@ -12,15 +12,15 @@ use mowfrost_oracle::ids::routines::{Routine, ROUTINES};
 use mowfrost_oracle::pairs::Pair;
 use mowfrost_oracle::random::Random;
 use mowfrost_oracle::record::plain;
-use mowfrost_oracle::slopes::EDITIONS;
+use mowfrost_oracle::slopes::{Slope, EDITIONS, FIRST, SECOND};
 use mowfrost_oracle::stored::by_hand;
 
 mod pairs;
 mod ways;
 
 use pairs::{
-    along, assert_found_wherever_it_shows, differing, left, quieted, stored, with, Fault, BASE, BEST, BOUND, COVERED,
-    EXCEPTIONS, METHOD, ORIGINAL, RELIABLE, RIM,
+    along, assert_found_wherever_it_shows, by_slope, differing, left, quieted, stored, taken_for, with, Fault, BASE,
+    BEST, BOUND, COVERED, EXCEPTIONS, METHOD, ORIGINAL, RELIABLE, RIM,
 };
 use ways::{Way, RIGHT};
 
@@ -293,6 +293,33 @@ fn planted_faults_are_found_by_their_reasons() {
     assert!(!reasons(sorted).is_empty(), "the ids of each triangle put in order");
 }
 
+/// Both meshes are asked under one edition, and the two comparisons of top and bottom are each other's opposite under each.
+#[test]
+fn an_edition_of_one_way_round_is_found() {
+    let areas = |reason: &String| (TOP..TOP + 4).any(|word| reason.starts_with(&format!("record {word} is ")));
+    let one_way = |known: u32, other: u32| {
+        reasons(&taken_for(|call| if call.edition == known && is_turned(call.mesh) { other } else { call.edition }))
+    };
+    for (known, other) in [(1, 2), (2, 1)] {
+        let reasons = one_way(known, other);
+        assert!(!reasons.is_empty() && reasons.iter().all(areas), "{other} for {known}: {reasons:?}");
+    }
+    let refused = one_way(2, 3);
+    assert!(!refused.is_empty() && refused.iter().all(|why| why.starts_with("answer ")), "{refused:?}");
+    type Rule = fn(&MeshFile, f32) -> Slope;
+    assert!(reasons(&by_slope(|_, nz| SECOND.slope(nz))).is_empty(), "02's rule");
+    let rules: [(&str, Rule); 4] = [
+        ("0.866 itself is top", |_, nz| if nz == SECOND.top { Slope::Top } else { SECOND.slope(nz) }),
+        ("-0.866 itself is bottom", |_, nz| if nz == -SECOND.top { Slope::Bottom } else { SECOND.slope(nz) }),
+        ("bottom by edition 1's threshold", |_, nz| if nz < 0.0 { FIRST.slope(nz) } else { SECOND.slope(nz) }),
+        ("0.5 itself is side one way up", |_, nz| if nz == SECOND.side { Slope::Side } else { SECOND.slope(nz) }),
+    ];
+    for (what, rule) in rules {
+        let reasons = reasons(&by_slope(rule));
+        assert!(!reasons.is_empty() && reasons.iter().all(areas), "{what}: {reasons:?}");
+    }
+}
+
 /// For each 0 in a normal of a row.
 fn minus_zeros(given: &mut pairs::Given) {
     let rows = given.areas.surfaces.chunks_exact_mut(4).take(given.record[16] as usize);
@@ -308,7 +335,7 @@ fn backwards(given: &mut pairs::Given) {
 }
 
 /// What a call can come to, and a kind in which many do; of refusal 1 those at the limits.
-const CLASSES: [(&str, &str); 9] = [
+const CLASSES: [(&str, &str); 10] = [
     ("closed", "closed"),
     ("open", "hole"),
     ("degenerate", "double_sheet"),
@@ -318,6 +345,7 @@ const CLASSES: [(&str, &str); 9] = [
     ("refused 3", "closed"),
     ("refused 4", "coordinate_ends"),
     ("refused 5", "closed"),
+    ("refused 7", "closed"),
 ];
 
 #[test]
@@ -426,6 +454,9 @@ fn the_pairs_have_what_they_are_for() {
         assert!(some(&|pair| (pair.clip, pair.defect) == (clip, defect)), "{clip} {defect}");
     }
     assert!(some(&|pair| pair.clip > 1 || pair.defect > 4));
+    let half = pairs.iter().filter(|pair| pair.edition == 2).count();
+    assert!(half.abs_diff(pairs.len() / 2) < pairs.len() / 40, "{half} of {}", pairs.len());
+    assert!(some(&|pair| pair.edition == 1) && some(&|pair| !EDITIONS.contains(&pair.edition)));
     assert!(some(&|pair| pair.here.vertices.len() < 9) && some(&|pair| pair.here.ids.len() < 3));
     assert!(some(&|pair| pair.here.vertices.iter().any(|x| x.is_nan())));
     let past = |mesh: &MeshFile, id: u32| id as usize >= mesh.vertices.len() / 3;

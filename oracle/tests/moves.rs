@@ -8,14 +8,14 @@ use mowfrost_oracle::moves::compare::{on_chance, on_kind};
 use mowfrost_oracle::moves::meshes::{kinds, pair, LEAST_UNIT, LIMIT};
 use mowfrost_oracle::pairs::{Count, Pair};
 use mowfrost_oracle::record::MOST;
-use mowfrost_oracle::slopes::EDITIONS;
+use mowfrost_oracle::slopes::{Slope, EDITIONS, FIRST, SECOND};
 
 mod pairs;
 mod ways;
 
 use pairs::{
-    along, assert_found_wherever_it_shows, differing, left, quieted, stored, with, Fault, BASE, BEST, BOUND, COVERED,
-    EXCEPTIONS, METHOD, ORIGINAL, RELIABLE, RIM,
+    along, assert_found_wherever_it_shows, by_slope, differing, left, quieted, stored, taken_for, with, Fault, BASE,
+    BEST, BOUND, COVERED, EXCEPTIONS, METHOD, ORIGINAL, RELIABLE, RIM,
 };
 use ways::{Way, RIGHT};
 
@@ -198,8 +198,35 @@ fn planted_faults_are_found() {
     assert!(found(&|call, areas, record| way.call(call, areas, record)), "coordinates that were rounded in metres");
 }
 
+/// Both meshes are asked under one edition, and slopes are by the corners rebased.
+#[test]
+fn an_edition_of_one_place_is_found() {
+    let one_place = |known: u32, other: u32| {
+        found(&taken_for(|call| if call.edition == known && is_far(call.mesh) { other } else { call.edition }))
+    };
+    assert!(!one_place(1, 1));
+    assert!(one_place(1, 2) && one_place(2, 1), "the other edition far out");
+    assert!(one_place(2, 3), "an edition that is not known far out");
+    assert!(
+        found(&taken_for(|call| if is_far(call.mesh) { call.edition.clamp(1, 2) } else { call.edition })),
+        "known far out"
+    );
+    assert!(!found(&by_slope(|_, nz| SECOND.slope(nz))), "02's rule");
+    let below = |mesh: &MeshFile, nz: f32| {
+        let on = nz == SECOND.top && first_x(mesh) < 0.0;
+        if on {
+            Slope::Top
+        } else {
+            SECOND.slope(nz)
+        }
+    };
+    assert!(found(&by_slope(below)), "0.866 itself is top below zero");
+    let far = |mesh: &MeshFile, nz: f32| if is_far(mesh) { FIRST.slope(nz) } else { SECOND.slope(nz) };
+    assert!(found(&by_slope(far)), "edition 1's thresholds under 2 far out");
+}
+
 /// What a call can come to, and a kind in which many do.
-const CLASSES: [(&str, &str); 8] = [
+const CLASSES: [(&str, &str); 9] = [
     ("closed", "boxes"),
     ("open", "open boxes"),
     ("degenerate", "flat"),
@@ -208,6 +235,7 @@ const CLASSES: [(&str, &str); 8] = [
     ("refused 2", "closed"),
     ("refused 3", "closed"),
     ("refused 5", "closed"),
+    ("refused 7", "closed"),
 ];
 
 /// 0 or 1, and the other one where the mesh is moved by an odd number in all.
@@ -298,6 +326,10 @@ fn the_pairs_have_what_they_are_for() {
         assert!(some(&|pair, _| (pair.clip, pair.defect) == (clip, defect)), "{clip} {defect}");
     }
     assert!(some(&|pair, _| pair.clip > 1 || pair.defect > 4));
+    let half = pairs.iter().filter(|pair| pair.edition == 2).count();
+    // each kind has the same turns, and so the same chance
+    assert!(half.abs_diff(pairs.len() / 2) < pairs.len() / 12, "{half} of {}", pairs.len());
+    assert!(some(&|pair, _| pair.edition == 1) && some(&|pair, _| !EDITIONS.contains(&pair.edition)));
     for rest in 0..3 {
         assert!(
             some(&|pair, _| pair.here.vertices.len() % 3 == rest) && some(&|pair, _| pair.here.ids.len() % 3 == rest)

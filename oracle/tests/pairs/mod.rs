@@ -7,6 +7,7 @@ use mowfrost_oracle::compute::compare::{Call, Port, PORT, REFUSED};
 use mowfrost_oracle::file::{read, MeshFile};
 use mowfrost_oracle::linked::bits;
 use mowfrost_oracle::record::{is_zero_record, Lent};
+use mowfrost_oracle::slopes::{areas_by, Slope};
 use mowfrost_oracle::stored::by_hand;
 
 pub const ORIGINAL: Port<'static> = &|call, areas, record| RIGHT.call(call, areas, record);
@@ -62,6 +63,23 @@ pub fn with(fault: Fault<'_>) -> impl Fn(&Call, Areas, &mut [u32; WORDS]) -> u32
         let mut given = Given { answer, areas: Areas { vertices, ids, work, raster, surfaces }, record };
         fault(call.mesh, &mut given);
         given.answer
+    }
+}
+
+/// The port under another edition than the one that is named.
+pub fn taken_for(edition: impl Fn(&Call) -> u32) -> impl Fn(&Call, Areas, &mut [u32; WORDS]) -> u32 {
+    move |call, areas, record| BASE(&Call { edition: edition(call), ..*call }, areas, record)
+}
+
+/// The port with slopes by another rule under edition 2.
+pub fn by_slope(rule: fn(&MeshFile, f32) -> Slope) -> impl Fn(&Call, Areas, &mut [u32; WORDS]) -> u32 {
+    move |call, areas, record| {
+        let answer = BASE(call, areas, record);
+        if answer == 0 && call.edition == 2 && !is_zero_record(call.mesh) {
+            let MeshFile { unit, vertices, ids, .. } = call.mesh;
+            record[7..11].copy_from_slice(&bits(&areas_by(vertices, ids, *unit, |nz| rule(call.mesh, nz))));
+        }
+        answer
     }
 }
 

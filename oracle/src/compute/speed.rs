@@ -55,24 +55,24 @@ pub fn small() -> impl Iterator<Item = Row> {
     .map(|(on, shape)| race(on, shape))
 }
 
-/// The best of several turns, port, original and plain counts one after the other.
+/// The best of several turns, port, original and plain counts one after the other; the port under both editions over the same areas.
 pub fn race(on: &'static str, shape: Shape) -> Row {
     let mesh = plain(1.0, &shape.vertices, &shape.ids);
-    let mut ports = EDITIONS.map(|edition| lent_port(&mesh, edition));
+    let mut port = lent_port(&mesh);
     let rust = |mesh: &MeshFile| drop(black_box(qto::compute(&mesh.vertices, &mesh.ids, mesh.unit)));
     let changed = |mesh: &MeshFile| drop(black_box(second::compute(&mesh.vertices, &mesh.ids, mesh.unit)));
     let rusts: [&dyn Fn(&MeshFile); 2] = [&rust, &changed];
     let plain = |mesh: &MeshFile| counts(&mesh.vertices, &mesh.ids);
     let never = f64::INFINITY;
     let mut row = Row { on, triangles: shape.triangles(), port: [never; 2], rust: [never; 2], counts: never };
-    let once = time(1, &mesh, &mut ports[0]).min(time(1, &mesh, rust));
+    let once = time(1, &mesh, |mesh| port(mesh, 1)).min(time(1, &mesh, rust));
     let calls = (TURN / once).ceil() as usize;
     let begun = Instant::now();
     let mut turns = 0;
     while turns < TURNS || begun.elapsed().as_secs_f64() < ENOUGH {
-        for edition in 0..2 {
-            row.port[edition] = row.port[edition].min(time(calls, &mesh, &mut ports[edition]));
-            row.rust[edition] = row.rust[edition].min(time(calls, &mesh, rusts[edition]));
+        for (i, edition) in EDITIONS.into_iter().enumerate() {
+            row.port[i] = row.port[i].min(time(calls, &mesh, |mesh| port(mesh, edition)));
+            row.rust[i] = row.rust[i].min(time(calls, &mesh, rusts[i]));
         }
         row.counts = row.counts.min(time(calls, &mesh, plain));
         turns += 1;
@@ -83,18 +83,18 @@ pub fn race(on: &'static str, shape: Shape) -> Row {
 /// So many calls of the port on a mesh, under edition 1.
 pub fn repeat(shape: &Shape, times: usize) {
     let mesh = plain(1.0, &shape.vertices, &shape.ids);
-    let mut port = lent_port(&mesh, 1);
+    let mut port = lent_port(&mesh);
     for _ in 0..times {
-        black_box(port(black_box(&mesh)));
+        black_box(port(black_box(&mesh), 1));
     }
 }
 
-/// The port with areas of just the size that a mesh needs.
-fn lent_port(mesh: &MeshFile, edition: u32) -> impl FnMut(&MeshFile) -> u32 {
+/// The port with areas of just the size that a mesh needs, under any edition.
+fn lent_port(mesh: &MeshFile) -> impl FnMut(&MeshFile, u32) -> u32 {
     let lent = Lent::exactly(mesh.vertices.len(), mesh.ids.len());
     let (mut work, mut raster, mut surfaces) = (vec![1; lent.work], vec![1; lent.raster], vec![1; lent.surfaces]);
     let (mut vertices, mut ids, mut record) = (bits(&mesh.vertices), mesh.ids.clone(), [0; WORDS]);
-    move |mesh| {
+    move |mesh, edition| {
         let (vertices, ids) = (&mut vertices[..], &mut ids[..]);
         let areas = Areas { vertices, ids, work: &mut work, raster: &mut raster, surfaces: &mut surfaces };
         capi::compute(&Call { mesh, edition, clip: 0, defect: 0 }, areas, &mut record)

@@ -1,4 +1,5 @@
-//! Lays the unchanged text of the Rust original, with our probe behind it, where the crate can compile it.
+//! Lays the unchanged text of the Rust original, with our probe behind it, where the crate can compile it; and once more with edition
+//! 2's two thresholds of slope (02, A6) in the place of its own.
 //! The original is read from the folder in MOWFROST_RUST (absolute, or relative to oracle/), by default from
 //! ../shared/docs/src beside the repository. Its text goes to cargo's output folder and nowhere else.
 //! Links the port's two static libraries, `capi` and `probe`, where they were built (`rt staticlib NAME`) and this machine can run
@@ -32,13 +33,30 @@ fn main() {
     let probe = read(&here, "probe.rs");
     let defect = profile_defect(&read(&source, PROFILE_CHECK));
 
-    let qto_out = out.join("qto.rs");
+    let (qto_out, second_out) = (out.join("qto.rs"), out.join("second.rs"));
     write(&qto_out, &format!("{qto}\n{probe}"));
+    write(&second_out, &second(&qto));
     write(
         &out.join("original.rs"),
-        &format!("pub mod profile_check {{\n{defect}\n}}\n#[path = {qto_out:?}]\npub mod qto;\n"),
+        &format!(
+            "pub mod profile_check {{\n{defect}\n}}\n#[path = {qto_out:?}]\npub mod qto;\n\
+             #[path = {second_out:?}]\npub mod second;\n"
+        ),
     );
     link_port(&here);
+}
+
+/// The thresholds of slope in the original, and those of edition 2.
+const THRESHOLDS: [[&str; 2]; 2] = [["f32 = 0.940;", "f32 = 0.866;"], ["f32 = 0.342;", "f32 = 0.5;"]];
+
+/// The original with two numbers changed, each where it stands once, and nothing else.
+fn second(qto: &str) -> String {
+    THRESHOLDS.iter().fold(qto.to_string(), |text, [first, second]| {
+        if text.matches(first).count() != 1 {
+            fail(&format!("{QTO} has not one `{first}`"));
+        }
+        text.replace(first, second)
+    })
 }
 
 /// `capi` is what is shipped, `probe` is for these runs alone. Each is one object in which only the exports are global, so that both can be

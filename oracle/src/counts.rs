@@ -27,10 +27,15 @@ pub fn counts(vertices: &[f32], ids: &[u32]) -> Counts {
 
 /// The length of each complete triple's cross product; nothing where an id is out of range, which is asked first.
 pub fn lengths<'a>(vertices: &'a [f32], ids: &'a [u32]) -> impl Iterator<Item = Option<f64>> + 'a {
+    crosses(vertices, ids).map(|cross| cross.map(length))
+}
+
+/// The cross products themselves.
+pub fn crosses<'a>(vertices: &'a [f32], ids: &'a [u32]) -> impl Iterator<Item = Option<[f64; 3]>> + 'a {
     let low = [0, 1, 2].map(|axis| least(vertices, axis));
     ids.chunks_exact(3).map(move |t| {
         let [a, b, c] = [t[0], t[1], t[2]].map(|id| corner(vertices, id, low));
-        Some(cross_length(a?, b?, c?))
+        Some(cross(a?, b?, c?))
     })
 }
 
@@ -46,10 +51,13 @@ fn corner(vertices: &[f32], id: u32, low: [f64; 3]) -> Option<[f64; 3]> {
         .then(|| [0, 1, 2].map(|axis| vertices[first as usize + axis] as f64 - low[axis]))
 }
 
-/// Of the cross product of the two sides that leave the first corner, each step rounded once.
-fn cross_length(a: [f64; 3], b: [f64; 3], c: [f64; 3]) -> f64 {
+/// Of the two sides that leave the first corner, each step rounded once.
+fn cross(a: [f64; 3], b: [f64; 3], c: [f64; 3]) -> [f64; 3] {
     let (u, v) = ([0, 1, 2].map(|axis| b[axis] - a[axis]), [0, 1, 2].map(|axis| c[axis] - a[axis]));
-    let [x, y, z] = [(1, 2), (2, 0), (0, 1)].map(|(i, j)| u[i] * v[j] - u[j] * v[i]);
+    [(1, 2), (2, 0), (0, 1)].map(|(i, j)| u[i] * v[j] - u[j] * v[i])
+}
+
+pub fn length([x, y, z]: [f64; 3]) -> f64 {
     (x * x + y * y + z * z).sqrt()
 }
 

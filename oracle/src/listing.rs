@@ -1,11 +1,14 @@
-//! The listing (01, 'The program `takeoff`', and 02, A1): what the program prints for a file.
+//! The listing (01, 'The program `takeoff`', and 02, A1): what the program prints for a file, which names edition 1 (02, A6).
 
 use crate::file::{self, MeshFile};
 use crate::mesh::qto::probe;
 use crate::meshfile;
 use crate::pieces::pieces;
-use crate::record::{compute, Answer, Exception, Lent, Record};
+use crate::record::{compute, compute_under, Answer, Exception, Lent, Record};
 use std::fmt::Write;
+
+/// The edition that `replay` names to be refused.
+const UNKNOWN: u32 = 3;
 
 /// The text for one file, and how it stands to the one exception.
 pub fn listing(bytes: &[u8]) -> (String, Exception) {
@@ -25,12 +28,15 @@ pub fn listed(read: Result<MeshFile, u32>) -> (String, Exception) {
 }
 
 /// The text that `replay` has to print for a file: its listing, and where the file could be read, also with a refusal of
-/// the mesh, a line with what the routines on ids answer, the refusal of the same mesh with one work word less, and where there is a
-/// record the cells beside it; then a line with how the file is written back.
+/// the mesh, a line with what the routines on ids answer, the refusals of the same mesh with one work word less under edition 1 and under
+/// one that is not known, and where there is a record the cells beside it and the areas by slope under edition 2; then a line with how
+/// the file is written back.
 pub fn replayed(bytes: &[u8]) -> (String, Exception) {
     let (mut text, exception) = listing(bytes);
     if let Ok(mesh) = file::read(bytes) {
-        text += &format!("{} short {}{}\n", routines(&mesh.ids), one_word_short(&mesh), footprints(&mesh));
+        let (short, unknown) = (one_word_short(&mesh, 1), one_word_short(&mesh, UNKNOWN));
+        let record = format!("{}{}", footprints(&mesh), second(&mesh));
+        text += &format!("{} short {short} unknown {unknown}{record}\n", routines(&mesh.ids));
         text += &meshfile::replayed::line(bytes);
     }
     (text, exception)
@@ -47,10 +53,21 @@ fn footprints(mesh: &MeshFile) -> String {
     }
 }
 
-/// 0 for a record: the zero record asks for no words.
-fn one_word_short(mesh: &MeshFile) -> u32 {
+/// Top, bottom, side and inclined under edition 2, as bits in decimal; nothing of a mesh that is refused.
+fn second(mesh: &MeshFile) -> String {
+    match compute_under(mesh, 2, Lent::exactly(mesh.vertices.len(), mesh.ids.len())) {
+        Answer::Refused(_) => String::new(),
+        Answer::Record(record, _) => {
+            let [top, bottom, side, inclined] = record.slopes().map(f32::to_bits);
+            format!(" second {top} {bottom} {side} {inclined}")
+        }
+    }
+}
+
+/// 0 for a record: the zero record asks for no words, and for no edition.
+fn one_word_short(mesh: &MeshFile, edition: u32) -> u32 {
     let exact = Lent::exactly(mesh.vertices.len(), mesh.ids.len());
-    match compute(mesh, Lent { work: exact.work.saturating_sub(1), ..exact }) {
+    match compute_under(mesh, edition, Lent { work: exact.work.saturating_sub(1), ..exact }) {
         Answer::Refused(refusal) => refusal,
         Answer::Record(..) => 0,
     }

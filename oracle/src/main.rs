@@ -32,10 +32,12 @@ oracle: the unchanged Rust original, asked in document 01's words
   oracle stored stl            writes the STL files that 'replay' holds (crates/replay/data/mounts), in the same framing
   oracle stored stl names      names them, a line each
   oracle replayed              standard input as for 'listing'; prints what 'replay' has to print (crates/replay/stdout):
-                               each listing and, where the file could be read, 'chain B O net L Z manifold M winding W short R':
-                               boundary-free, over-incident, largest face sum, all sums 0, the two answers, and the refusal
-                               of the mesh with one work word less (0 for a record); where the mesh has a record, behind it
-                               'pairs C R C R C R': covered and rim cells of the z, y and x footprints; then a line
+                               each listing, under edition 1, and, where the file could be read, 'chain B O net L Z manifold M
+                               winding W short R unknown R': boundary-free, over-incident, largest face sum, all sums 0, the
+                               two answers, and the refusal of the mesh with one work word less (0 for a record), under
+                               edition 1 and under edition 3, which is not known; where the mesh has a record, behind it
+                               'pairs C R C R C R': covered and rim cells of the z, y and x footprints, and 'second T B S I':
+                               top, bottom, side and inclined under edition 2, their bits in decimal; then a line
                                'written N A short R': length and Adler-32 of the file written back, kind 4 always there, and the
                                refusal of an area one byte short. Behind all meshes 'many 6 6': the refusals of 1,537 floats and
                                of 1,537 ids over an area of one byte
@@ -48,9 +50,9 @@ Against the program:
 
   oracle program N BIN ..      N files through the program BIN, called with the words behind it, a process a file: meshes of
                                every kind in turn, those by hand of 'stored', and files that are empty, full, far too long or
-                               written in parts. Output byte for byte, status and an empty standard error; meshes near the
-                               one exception are counted and compared by document 01's exact form; the lines used, range and
-                               sliver, and pieces, are by a plain reference; last line 'A agree, D differ'.
+                               written in parts. Output byte for byte, which is that of edition 1, status and an empty standard
+                               error; meshes near the one exception are counted and compared by document 01's exact form; the
+                               lines used, range and sliver, and pieces, are by a plain reference; last line 'A agree, D differ'.
                                MOWFROST_WORKERS: so many processes at a time, by default 2
   oracle file NUMBER           writes the file of that number as 'program' sends it
   oracle program-stl N BIN ..  the same for the program that reads STL files: N files of every kind in turn, every other one
@@ -80,22 +82,27 @@ MOWFROST_PORT names a folder with a libcapi.a and a libprobe.a of its kind when 
   oracle speed raster          milliseconds for the three footprints of a mesh, beside the original and beside a plain form in
                                Rust that counts covered and rim cells
   oracle compute N             the record on large meshes, on lengths about the limit and on N by chance of every kind in
-                               turn, over areas that are exact, one short, longer and far too short: refusals, all words
-                               of the record, every row and every place of the areas, and that the mesh is as it was; floats
-                               by their bits, with NaNs of all sorts wherever one has to stay, which are counted; meshes
-                               near the one exception are counted and compared by document 01's exact form; words 17 to 19,
-                               how many triangles are used, out of range and slivers, and 20 to 25, the cells of the three
-                               footprints of an open shell, are compared with plain references, and the meshes and
-                               footprints that have some of each are counted; last line 'A agree, D differ'
+                               turn, each under edition 1, under edition 2 and under editions that are not known, over areas
+                               that are exact, one short, longer and far too short: refusals, all words of the record, every
+                               row and every place of the areas, and that the mesh is as it was; floats by their bits, with
+                               NaNs of all sorts wherever one has to stay, which are counted; meshes near the one exception
+                               are counted and compared by document 01's exact form; words 17 to 19, how many triangles are
+                               used, out of range and slivers, and 20 to 25, the cells of the three footprints of an open
+                               shell, are compared with plain references, and the meshes and footprints that have some of
+                               each are counted; so are words 7 to 10 under edition 2, the areas by slope. Their plain form has
+                               to give the original's under edition 1, and under edition 2 those of the original with two
+                               numbers changed; what came under each edition is counted, and the facets that edition 2 moves,
+                               of which none may be top, bottom or side under edition 1; last line 'A agree, D differ'
   oracle moves N               demand 3 on N pairs of every kind in turn, a whole-number mesh and the same moved by whole
-                               numbers, over areas as for 'compute' that hold the same before both calls: the two answers,
+                               numbers, half of them under edition 2 and both meshes under one, over areas as for
+                               'compute' that hold the same before both calls: the two answers,
                                all words of the record, every place of the areas, that whatever has to stay did, and that
                                whatever has to be cleared is 0; of two open shells best volume, method, trust and bound
                                and the cells of the footprints may differ, and how often they do is counted; so are pairs
                                with an id out of range and with slivers; last line 'A agree, D differ'
   oracle glove N               02's A9 on large meshes, on lengths about the limit and on N by chance of every kind in turn:
-                               a mesh and the same with the last two ids of every triangle swapped, over areas as for
-                               'moves'. The volume is negated, top and bottom have changed places, the rows are turned over
+                               a mesh and the same with the last two ids of every triangle swapped, under editions and over
+                               areas as for 'moves'. The volume is negated, top and bottom have changed places, the rows are turned over
                                and in order, and all else is the same; of two open shells the same words may differ as for
                                'moves', and how often they do is counted; so are pairs with no volume, with a top and a
                                bottom above 0 that differ, and with rows of equal area in another order. Then each id
@@ -105,8 +112,8 @@ MOWFROST_PORT names a folder with a libcapi.a and a libprobe.a of its kind when 
                                files by chance of every kind in turn, every other one damaged, over areas that are exact,
                                longer, one float or id short, far too short and empty: answers, refusals, every place of both
                                areas and of the file; floats by their bits, but that a NaN that was read may have other
-                               digits. Then the record of the mesh that was read, without flags and at unit 0.001, as for
-                               'compute', beside the original's of the mesh that a plain reader has; what the files had and
+                               digits. Then the record of the mesh that was read, without flags, at unit 0.001 and under
+                               edition 1, as for 'compute', beside the original's of the mesh that a plain reader has; what the files had and
                                reached is counted; last line 'A agree, D differ'
   oracle mesh-file SEED COUNT  the writer and the reader of mesh files in bits, at every limit by name; then COUNT round trips each
                                way by chance: a mesh of any bits and lengths, with each pair of flags, to a file and back, and a
@@ -120,9 +127,11 @@ MOWFROST_PORT names a folder with a libcapi.a and a libprobe.a of its kind when 
   oracle speed stl             microseconds a file of up to 170 and of up to 10,922 triangles, beside a plain form in Rust that
                                tries the same and fills the same two slices
   oracle speed compute         milliseconds a record, at an eighth of the most triangles up to all; nanoseconds for small;
-                               beside the original alone and with the plain counts of triangles behind it
-  oracle speed                 compute and each id routine beside the original on the meshes whose ratios are bounded, with
-                               the bound; then how the time grows from a quarter of the most triangles to all
+                               under edition 1 beside the original alone and with the plain counts of triangles behind it;
+                               under edition 2 beside the original with two numbers changed, its thresholds of slope; and
+                               the port's time under 2 to that under 1
+  oracle speed                 compute under each edition and each id routine beside the original on the meshes whose ratios
+                               are bounded, with the bound; then how the time grows from a quarter of the most triangles to all
   oracle repeat ROUTINE MESH TRIANGLES TIMES
                                calls the port's 'compute' or id routine on a mesh or list that 'speed compute' or 'speed ids'
                                names, and nothing else: for a profiler

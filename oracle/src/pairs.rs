@@ -3,30 +3,54 @@
 //! to 0, so that both cannot spoil it alike. `moves` and `glove` have the meshes and the laws.
 
 use crate::compute::areas::{Left, Lending, Written, CELLS, ROWS, WORDS};
-use crate::compute::compare::{choices, is_zero_record, Call, Port, Tally, OPEN_SHELL, UNKNOWN_FLAGS};
+use crate::compute::compare::{choices, Call, Port, Tally, OPEN_SHELL, UNKNOWN_FLAGS};
+use crate::compute::editions::{self, unknown};
 use crate::compute::nans::{Nans, Stayed};
 use crate::counts::{Counts, Met};
 use crate::file::MeshFile;
+use crate::linked::bits;
 use crate::random::Random;
-use crate::record::Lent;
+use crate::record::{is_zero_record, Lent};
+use crate::slopes::{areas, FIRST, SECOND};
 
 pub struct Pair {
     pub here: MeshFile,
     pub there: MeshFile,
-    /// In the interface's numbers, where any number may be passed.
+    /// Of both calls. In the interface's numbers, where any number may be passed, as for the flags.
+    pub edition: u32,
     pub clip: u32,
     pub defect: u32,
     pub lent: Lent,
 }
 
 impl Pair {
-    /// Over areas that are mostly exact, with flags of all kinds, seldom unknown.
+    /// Over areas that are mostly exact, with flags of all kinds, seldom unknown; half of them under edition 2.
     pub fn new(here: MeshFile, there: MeshFile, random: &mut Random) -> Pair {
         let exact = Lent::exactly(here.vertices.len(), here.ids.len());
         let choices = choices(exact, true, random);
         let lent = if random.once_in(4) { random.pick(&choices) } else { exact };
         let (clip, defect) = flags(random);
-        Pair { here, there, clip, defect, lent }
+        Pair { here, there, edition: edition(random), clip, defect, lent }
+    }
+
+    /// What one of the two is asked.
+    fn call<'a>(&self, mesh: &'a MeshFile) -> Call<'a> {
+        Call { mesh, edition: self.edition, clip: self.clip, defect: self.defect }
+    }
+
+    /// Whether edition 2 moves some area by slope of the first, by the plain form.
+    fn is_moved(&self) -> bool {
+        let MeshFile { unit, vertices, ids, .. } = &self.here;
+        let [first, second] = [FIRST, SECOND].map(|thresholds| areas(vertices, ids, *unit, thresholds));
+        bits(&first) != bits(&second)
+    }
+}
+
+fn edition(random: &mut Random) -> u32 {
+    match random.below(20) {
+        0 => unknown(random),
+        1..=9 => 1,
+        _ => 2,
     }
 }
 
@@ -64,7 +88,7 @@ fn written(answer: u32, mesh: &MeshFile, record: &[u32; WORDS]) -> Written {
 impl Outcome {
     fn of(port: Port, mesh: &MeshFile, pair: &Pair, lending: &mut Lending) -> Outcome {
         let (areas, record) = lending.lend(mesh, pair.lent);
-        let answer = port(&Call { mesh, clip: pair.clip, defect: pair.defect }, areas, record);
+        let answer = port(&pair.call(mesh), areas, record);
         let written = written(answer, mesh, record);
         let nans = [lending.nans_behind(pair.lent, written.surfaces), lending.nans_passed()];
         Outcome { answer, left: lending.take(mesh, pair.lent, written), zero_record: is_zero_record(mesh), nans }
@@ -105,6 +129,9 @@ pub struct Count {
     /// What the pairs that agree came to, and the NaNs that they left.
     pub tally: Tally,
     pub stayed: Stayed,
+    /// Under which edition they were: 1, 2 and others. Of those under 2 with full records, the ones where it moves some area.
+    pub editions: [u64; 3],
+    pub moved: u64,
     /// What A1's counts are in the full records of the pairs that agree, by what came back.
     pub met: Met,
     /// Of the open pairs that agree: in how many each free word differs.
@@ -135,6 +162,8 @@ impl Count {
         self.agree += 1;
         let (one, other) = (here.left.record(), there.left.record());
         self.tally.add(here.answer, here.zero_record, one[0]);
+        self.editions[editions::place(pair.edition)] += 1;
+        self.moved += (here.is_full() && pair.edition == 2 && pair.is_moved()) as u64;
         if here.is_full() {
             self.met.add(Counts { used: one[17], range: one[18], sliver: one[19] });
         }
@@ -159,10 +188,10 @@ impl Count {
     fn show(&mut self, why: &str, pair: &Pair) {
         self.differ += 1;
         if self.shown.len() < SHOWN {
-            let Pair { here, there, clip, defect, lent } = pair;
+            let Pair { here, there, edition, clip, defect, lent } = pair;
             let (floats, ids) = (here.vertices.len(), here.ids.len());
             self.shown.push(format!(
-                "{why}; clip {clip:x}, defect {defect:x}, {lent:?}, unit {:?}, {floats} floats {:?} and {:?}, \
+                "{why}; edition {edition:x}, clip {clip:x}, defect {defect:x}, {lent:?}, unit {:?}, {floats} floats {:?} and {:?}, \
                  {ids} ids {:?} and {:?}",
                 here.unit,
                 &here.vertices[..floats.min(30)],
@@ -178,6 +207,8 @@ impl Count {
         (self.agree, self.differ) = (self.agree + other.agree, self.differ + other.differ);
         self.tally.join(&other.tally);
         self.stayed.join(&other.stayed);
+        (0..3).for_each(|i| self.editions[i] += other.editions[i]);
+        self.moved += other.moved;
         self.met.join(&other.met);
         (0..FREE.len()).for_each(|i| self.free[i] += other.free[i]);
         (self.covered, self.rim) = (self.covered + other.covered, self.rim + other.rim);
@@ -187,7 +218,12 @@ impl Count {
     /// What the pairs that agree came to, and what else there is to count behind it.
     pub fn reached(&self, also: &[(&str, u64)]) -> String {
         let [best, method, trust, bound, ..] = self.free;
+        let [first, second, unknown] = self.editions;
         let own = [
+            ("under edition 1", first),
+            ("under edition 2", second),
+            ("under an edition that is not known", unknown),
+            ("with other areas under edition 2", self.moved),
             ("open with another best volume", best),
             ("open with another method", method),
             ("open with another trust", trust),

@@ -135,7 +135,8 @@ mod linked {
         sum([(line, agree, differ, shown)].into_iter().chain(scenes))
     }
 
-    /// A line a kind, one for all kinds, the NaNs that stayed, what the counts and the cells were of, then the sums.
+    /// A line a kind, one for all kinds, the NaNs that stayed, what the counts and the cells were of, what came under each edition, then
+    /// the sums.
     pub fn compute(n: u64) -> io::Result<ExitCode> {
         use compute::compare::{all, Count, PORT};
         let line = |on: &str, count: &Count| reached(on, count.agree, count.differ, &count.reached());
@@ -144,8 +145,8 @@ mod linked {
             show(&mut out, &line(on, &count), &[&count.shown[..], &count.noted].concat())?;
             sums.join(&count);
         }
-        let [counts, cells] = sums.counted.told();
-        show(&mut out, &line("all kinds", &sums), &[sums.stayed.told(), counts, cells])?;
+        let told = [&[sums.stayed.told()][..], &sums.counted.told(), &sums.editions.told()].concat();
+        show(&mut out, &line("all kinds", &sums), &told)?;
         end(&mut out, sums.agree, sums.differ)
     }
 
@@ -344,19 +345,20 @@ mod linked {
         records("small mesh", "ns", 1e9, 0, compute::speed::small())
     }
 
-    /// The original alone, and with the plain counts behind it.
+    /// Under edition 1 the original alone, and with the plain counts behind it; under edition 2 the original with two numbers changed;
+    /// and the port's 2 to its 1.
     fn records(of: &str, unit: &str, by: f64, digits: usize, rows: impl Iterator<Item = Row>) -> io::Result<ExitCode> {
         let mut out = io::stdout().lock();
-        writeln!(
-            out,
-            "| {of} | triangles | port, {unit} | Rust, {unit} | ratio | Rust, then counts, {unit} | ratio |"
-        )?;
-        writeln!(out, "|---|---|---|---|---|---|---|")?;
+        write!(out, "| {of} | triangles | port, {unit} | Rust, {unit} | ratio | Rust, then counts, {unit} | ratio ")?;
+        writeln!(out, "| edition 2, {unit} | Rust with its thresholds, {unit} | ratio | 2 to 1 |")?;
+        writeln!(out, "|---|---|---|---|---|---|---|---|---|---|---|")?;
         for row in rows {
-            let (on, triangles, counted) = (row.on, row.triangles, row.rust + row.counts);
-            let [port, rust, both] = [row.port, row.rust, counted].map(|t| format!("{:.digits$}", by * t));
-            let (alone, with) = (row.port / row.rust, row.port / counted);
-            writeln!(out, "| {on} | {triangles} | {port} | {rust} | {alone:.2} | {both} | {with:.2} |")?;
+            let ([port, second], [rust, changed], counted) = (row.port, row.rust, row.rust[0] + row.counts);
+            let told = |seconds: f64| format!("{:.digits$}", by * seconds);
+            write!(out, "| {} | {} | {} ", row.on, row.triangles, told(port))?;
+            write!(out, "| {} | {:.2} | {} | {:.2} ", told(rust), port / rust, told(counted), port / counted)?;
+            write!(out, "| {} | {} | {:.2} ", told(second), told(changed), second / changed)?;
+            writeln!(out, "| {:.3} |", second / port)?;
         }
         Ok(ExitCode::SUCCESS)
     }

@@ -1,11 +1,13 @@
 //! The record as documents 01 and 02 promise it: the original's answer, with the refusals, the flags and the exact form of
-//! the one exception around it, and beside it A1's counts and A3's cells, which the original does not have.
+//! the one exception around it, and beside it A1's counts and A3's cells, which the original does not have. Under edition 2 the
+//! four areas by slope are those of the plain form (A6).
 
 use crate::counts::{counts, Counts};
 use crate::exception::{cube_exceeds, is_near};
 use crate::file::{Flags, MeshFile};
 use crate::mesh::{qto, ProductMesh};
 use crate::raster::cells::{footprints, Cells};
+use crate::slopes::{areas, thresholds};
 
 /// At most so many vertex floats, and so many ids.
 pub const MOST: usize = 98_304;
@@ -79,15 +81,23 @@ pub enum Answer {
     Record(Record, Exception),
 }
 
-/// Document 01's table, row by row; then the original.
+/// Under edition 1, which is the original's and the programs'.
 pub fn compute(mesh: &MeshFile, lent: Lent) -> Answer {
+    compute_under(mesh, 1, lent)
+}
+
+/// Document 01's table with 02's row, row by row; then the original.
+pub fn compute_under(mesh: &MeshFile, edition: u32, lent: Lent) -> Answer {
     let (floats, ids) = (mesh.vertices.len(), mesh.ids.len());
     if floats > MOST || ids > MOST {
         return Answer::Refused(1);
     }
-    if ids >= 3 && floats >= 9 {
+    if !is_zero_record(mesh) {
         if !(LEAST_UNIT..=GREATEST_UNIT).contains(&mesh.unit) {
             return Answer::Refused(2);
+        }
+        if thresholds(edition).is_none() {
+            return Answer::Refused(7);
         }
         if !lent.holds(Lent::exactly(floats, ids)) {
             return Answer::Refused(3);
@@ -100,12 +110,22 @@ pub fn compute(mesh: &MeshFile, lent: Lent) -> Answer {
     let exception = settle_exception(&mut answer);
     let product = ProductMesh { clip_unapplied: mesh.flags.clip, profile_invalid: mesh.flags.profile() };
     qto::apply_product_flags(&mut answer, &product);
-    Answer::Record(Record::of(answer, &mesh.vertices, &mesh.ids), exception)
+    let record = Record::of(answer, &mesh.vertices, &mesh.ids);
+    Answer::Record(record.under(edition, mesh), exception)
+}
+
+/// Whatever its unit, its floats and the edition.
+pub fn is_zero_record(mesh: &MeshFile) -> bool {
+    has_nothing(&mesh.vertices, &mesh.ids)
+}
+
+fn has_nothing(vertices: &[f32], ids: &[u32]) -> bool {
+    ids.len() < 3 || vertices.len() < 9
 }
 
 /// A zero record counts nothing.
 fn counted(vertices: &[f32], ids: &[u32]) -> Counts {
-    if ids.len() < 3 || vertices.len() < 9 {
+    if has_nothing(vertices, ids) {
         Counts::default()
     } else {
         counts(vertices, ids)
@@ -170,6 +190,31 @@ impl Record {
             counts: counted(vertices, ids),
             cells: celled(answer.mesh_quality, vertices, ids),
             rows: answer.surfaces.iter().map(|s| [s.area_m2, s.nx, s.ny, s.nz]).collect(),
+        }
+    }
+
+    /// Top, bottom, side and inclined.
+    pub fn slopes(&self) -> [f32; 4] {
+        [self.top, self.bottom, self.side, self.inclined]
+    }
+
+    /// The mesh's record under edition 1, under this edition: nothing but the areas by slope hangs on it, and those of a full record
+    /// alone. Under 1 they are the original's.
+    pub fn under(mut self, edition: u32, mesh: &MeshFile) -> Record {
+        if let (Some(thresholds), false) = (thresholds(edition), edition == 1 || is_zero_record(mesh)) {
+            let slopes = areas(&mesh.vertices, &mesh.ids, mesh.unit, thresholds);
+            [self.top, self.bottom, self.side, self.inclined] = slopes;
+        }
+        self
+    }
+}
+
+impl Answer {
+    /// Of a mesh under edition 1, over areas that are long enough: the same under an edition that is known.
+    pub fn under(&self, edition: u32, mesh: &MeshFile) -> Answer {
+        match self {
+            Answer::Refused(number) => Answer::Refused(*number),
+            Answer::Record(record, exception) => Answer::Record(record.clone().under(edition, mesh), *exception),
         }
     }
 }

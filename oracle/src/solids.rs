@@ -96,6 +96,12 @@ impl Shape {
         shape
     }
 
+    /// A triangle of whole numbers with a normal of this direction, and the same turned over.
+    pub fn facing([a, b, c]: [i32; 3]) -> Shape {
+        let corners = [[0, 0, 0], [b, -a, 0], [c, 0, -a]].map(|corner| corner.map(|k| k as f32));
+        Shape { vertices: corners.concat(), ids: vec![0, 1, 2, 0, 2, 1] }
+    }
+
     /// An upright prism over a regular polygon; its mantle of quads, its ends as fans.
     pub fn cylinder(radius: f64, height: f64, sides: u32) -> Shape {
         let mut shape = Shape::default();

@@ -65,16 +65,18 @@ fn distinct_ids(_: usize) -> Shape {
     shape
 }
 
-/// `compute` on each mesh, as the bounds have them.
+/// `compute` on each mesh under edition 1, as the bounds have them, and under edition 2, beside the original with two numbers changed.
 pub fn records() -> impl Iterator<Item = Row> {
     let closed = SPHERES.map(|size| ("closed sphere", ball(size), CLOSED));
     let separate = [1, 100, 2730].map(|n| ("boxes", boxes(12 * n), CLOSED));
     let welded = [720, 2976, APART].map(|n| ("soup that welds", unwelded(n), WELDED));
     let open = SPHERES.map(|size| ("open sphere", cut(ball(size)), OPEN));
     let distinct = [("soup of distinct ids", distinct_ids(0), OPEN)];
-    closed.into_iter().chain(separate).chain(welded).chain(open).chain(distinct).map(|(on, shape, most)| {
+    closed.into_iter().chain(separate).chain(welded).chain(open).chain(distinct).flat_map(|(on, shape, most)| {
         let row = race(on, shape);
-        Row { routine: "compute", on: on.into(), size: row.triangles, port: row.port, rust: row.rust, most }
+        let name = |edition: usize| if edition == 0 { on.into() } else { format!("{on}, edition 2") };
+        let (routine, size, port, rust) = ("compute", row.triangles, row.port, row.rust);
+        [0, 1].map(|i| Row { routine, on: name(i), size, port: port[i], rust: rust[i], most })
     })
 }
 
@@ -109,7 +111,7 @@ pub fn growth() -> impl Iterator<Item = Growth> {
     let records = MESHES.into_iter().map(|(on, make, most)| Growth {
         routine: "compute",
         on,
-        port: [4, 2, 1].map(|share| race(on, make(most / share)).port),
+        port: [4, 2, 1].map(|share| race(on, make(most / share)).port[0]),
     });
     let lists = ROUTINES.iter().flat_map(|routine| {
         LISTS.into_iter().map(|(on, make)| Growth {

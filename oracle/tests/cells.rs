@@ -2,14 +2,14 @@
 //! covered cells, and what has no footprint. Then that `oracle compute` finds a port whose cells are by another rule.
 
 use mowfrost_oracle::compute::areas::{Areas, CELLS, WORDS};
-use mowfrost_oracle::compute::compare::{is_zero_record, on_chance, on_kind, words, Call, Port};
+use mowfrost_oracle::compute::compare::{on_chance, on_kind, words, Call, Port};
 use mowfrost_oracle::compute::meshes::{by_chance, kinds, large};
 use mowfrost_oracle::file::{Flags, MeshFile};
 use mowfrost_oracle::mesh::qto::probe;
 use mowfrost_oracle::raster::cells::{
     by_values, footprints, grids, place, reach, values, Cells, Grid, Met, Place, Point, AXES,
 };
-use mowfrost_oracle::record::{compute, original, plain, Answer, Lent, Record, OPEN};
+use mowfrost_oracle::record::{compute, is_zero_record, original, plain, Answer, Lent, Record, OPEN};
 
 mod rules;
 mod ways;

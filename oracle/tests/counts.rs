@@ -1,11 +1,10 @@
 //! The plain reference for A1's counts, held to 02's sentences: the sum rule on every full record, each question by hand, and that
 //! what is used is what the original measures.
 
-use mowfrost_oracle::compute::compare::is_zero_record;
 use mowfrost_oracle::compute::meshes::{by_chance, kinds, large};
 use mowfrost_oracle::counts::{counts, lengths, Counts, Met, SHORTEST};
 use mowfrost_oracle::file::{Flags, MeshFile};
-use mowfrost_oracle::record::{compute, original, Answer, Lent, Record};
+use mowfrost_oracle::record::{compute, is_zero_record, original, Answer, Lent, Record};
 use mowfrost_oracle::solids::Shape;
 
 fn record(mesh: &MeshFile) -> Option<Record> {

@@ -12,14 +12,15 @@ use mowfrost_oracle::ids::routines::{Routine, ROUTINES};
 use mowfrost_oracle::pairs::Pair;
 use mowfrost_oracle::random::Random;
 use mowfrost_oracle::record::plain;
+use mowfrost_oracle::slopes::{Slope, EDITIONS, FIRST, SECOND};
 use mowfrost_oracle::stored::by_hand;
 
 mod pairs;
 mod ways;
 
 use pairs::{
-    along, assert_found_wherever_it_shows, differing, left, quieted, stored, with, Fault, BASE, BEST, BOUND, COVERED,
-    EXCEPTIONS, METHOD, ORIGINAL, RELIABLE, RIM,
+    along, assert_found_wherever_it_shows, by_slope, differing, left, quieted, stored, taken_for, with, Fault, BASE,
+    BEST, BOUND, COVERED, EXCEPTIONS, METHOD, ORIGINAL, RELIABLE, RIM,
 };
 use ways::{Way, RIGHT};
 
@@ -62,8 +63,10 @@ fn so_is_the_original_and_everything_is_reached() {
     let told = count.reached();
     let count = count.pairs;
     assert_eq!(count.differ, 0, "{:?}", count.shown);
-    let [one, two, three, four, five] = count.tally.refused;
-    assert!(one > 50 && two > 200 && three > 800 && four > 200 && five > 200, "{told}");
+    let [one, two, three, four, five, six, seven] = count.tally.refused;
+    assert!(one > 50 && two > 200 && three > 800 && four > 200 && five > 200 && six == 0 && seven > 200, "{told}");
+    let [first, second, unknown] = count.editions;
+    assert!(second.abs_diff(first + unknown) < second / 8 && unknown > seven && count.moved > 400, "{told}");
     assert!(count.tally.zero > 200 && count.tally.verdicts.iter().all(|&times| times > 300), "{told}");
     assert!(count.free.iter().all(|&times| times > 1), "{told}");
     assert!(count.covered > 20 && count.rim > 20 && count.rim_alone > 5, "{told}");
@@ -290,6 +293,33 @@ fn planted_faults_are_found_by_their_reasons() {
     assert!(!reasons(sorted).is_empty(), "the ids of each triangle put in order");
 }
 
+/// Both meshes are asked under one edition, and the two comparisons of top and bottom are each other's opposite under each.
+#[test]
+fn an_edition_of_one_way_round_is_found() {
+    let areas = |reason: &String| (TOP..TOP + 4).any(|word| reason.starts_with(&format!("record {word} is ")));
+    let one_way = |known: u32, other: u32| {
+        reasons(&taken_for(|call| if call.edition == known && is_turned(call.mesh) { other } else { call.edition }))
+    };
+    for (known, other) in [(1, 2), (2, 1)] {
+        let reasons = one_way(known, other);
+        assert!(!reasons.is_empty() && reasons.iter().all(areas), "{other} for {known}: {reasons:?}");
+    }
+    let refused = one_way(2, 3);
+    assert!(!refused.is_empty() && refused.iter().all(|why| why.starts_with("answer ")), "{refused:?}");
+    type Rule = fn(&MeshFile, f32) -> Slope;
+    assert!(reasons(&by_slope(|_, nz| SECOND.slope(nz))).is_empty(), "02's rule");
+    let rules: [(&str, Rule); 4] = [
+        ("0.866 itself is top", |_, nz| if nz == SECOND.top { Slope::Top } else { SECOND.slope(nz) }),
+        ("-0.866 itself is bottom", |_, nz| if nz == -SECOND.top { Slope::Bottom } else { SECOND.slope(nz) }),
+        ("bottom by edition 1's threshold", |_, nz| if nz < 0.0 { FIRST.slope(nz) } else { SECOND.slope(nz) }),
+        ("0.5 itself is side one way up", |_, nz| if nz == SECOND.side { Slope::Side } else { SECOND.slope(nz) }),
+    ];
+    for (what, rule) in rules {
+        let reasons = reasons(&by_slope(rule));
+        assert!(!reasons.is_empty() && reasons.iter().all(areas), "{what}: {reasons:?}");
+    }
+}
+
 /// For each 0 in a normal of a row.
 fn minus_zeros(given: &mut pairs::Given) {
     let rows = given.areas.surfaces.chunks_exact_mut(4).take(given.record[16] as usize);
@@ -305,7 +335,7 @@ fn backwards(given: &mut pairs::Given) {
 }
 
 /// What a call can come to, and a kind in which many do; of refusal 1 those at the limits.
-const CLASSES: [(&str, &str); 9] = [
+const CLASSES: [(&str, &str); 10] = [
     ("closed", "closed"),
     ("open", "hole"),
     ("degenerate", "double_sheet"),
@@ -315,6 +345,7 @@ const CLASSES: [(&str, &str); 9] = [
     ("refused 3", "closed"),
     ("refused 4", "coordinate_ends"),
     ("refused 5", "closed"),
+    ("refused 7", "closed"),
 ];
 
 #[test]
@@ -423,6 +454,9 @@ fn the_pairs_have_what_they_are_for() {
         assert!(some(&|pair| (pair.clip, pair.defect) == (clip, defect)), "{clip} {defect}");
     }
     assert!(some(&|pair| pair.clip > 1 || pair.defect > 4));
+    let half = pairs.iter().filter(|pair| pair.edition == 2).count();
+    assert!(half.abs_diff(pairs.len() / 2) < pairs.len() / 40, "{half} of {}", pairs.len());
+    assert!(some(&|pair| pair.edition == 1) && some(&|pair| !EDITIONS.contains(&pair.edition)));
     assert!(some(&|pair| pair.here.vertices.len() < 9) && some(&|pair| pair.here.ids.len() < 3));
     assert!(some(&|pair| pair.here.vertices.iter().any(|x| x.is_nan())));
     let past = |mesh: &MeshFile, id: u32| id as usize >= mesh.vertices.len() / 3;
@@ -453,7 +487,7 @@ fn the_stored_pairs_are_gloves() {
 /// What each pair of the law itself is there for.
 #[test]
 fn the_stored_pairs_show_the_law() {
-    let records = |name: &str| both(name).map(|mesh| left(BASE, &mesh));
+    let records = |name: &str| both(name).map(|mesh| left(BASE, 1, &mesh));
     let [here, there] = records("closed");
     let number = |record: &[u32], word: usize| f32::from_bits(record[word]);
     let measured = |record: &[u32]| [VOLUME, TOP, BOTTOM, 9].map(|word| number(record, word));
@@ -476,7 +510,7 @@ fn the_stored_pairs_show_the_law() {
 
 #[test]
 fn each_exception_is_needed_of_the_original() {
-    exceptions(ORIGINAL);
+    EDITIONS.into_iter().for_each(|edition| exceptions(ORIGINAL, edition));
 }
 
 #[test]
@@ -485,7 +519,7 @@ fn each_exception_is_needed_of_the_original() {
     ignore = "the port's libraries were not built: at the root, rt staticlib capi and rt staticlib probe"
 )]
 fn each_exception_is_needed_of_the_port() {
-    exceptions(PORT);
+    EDITIONS.into_iter().for_each(|edition| exceptions(PORT, edition));
 }
 
 /// A triangle with its corners at thirds.
@@ -496,7 +530,7 @@ fn third(k: [u8; 9]) -> MeshFile {
 /// In each pair so many of the four differ, and beside them nothing but cells, the volume's sign and the rows' normals: of
 /// two that are stored, of one of them with a clip not applied, where trust is the same, and of one whose volume is
 /// above both bounds. Then pairs in which of all that may differ only cells do.
-fn exceptions(port: Port) {
+fn exceptions(port: Port, edition: u32) {
     let clipped = |mesh: MeshFile| MeshFile { flags: Flags { clip: true, defect: 0 }, ..mesh };
     let above = third([2, 2, 1, 0, 1, 2, 3, 0, 3]);
     let (cells, bounds) = (1.0 / 65_536.0, [0.020_236_207, 0.019_766_236]);
@@ -513,7 +547,7 @@ fn exceptions(port: Port) {
         ("method", both("trust").map(clipped), &[METHOD, BEST, BOUND], bounds, [volume, bounds[1]]),
         ("trust", both("trust"), &[RELIABLE, METHOD, BEST, BOUND], bounds, [volume, bounds[1]]),
     ] {
-        let (one, other) = (left(port, &here), left(port, &there));
+        let (one, other) = (left(port, edition, &here), left(port, edition, &there));
         let mut words = [differ, &[VOLUME]].concat();
         words.sort_unstable();
         let differ = differing(&one.0, &other.0);
@@ -523,7 +557,7 @@ fn exceptions(port: Port) {
         let number = |word: usize| [one.0[word], other.0[word]].map(f32::from_bits);
         assert_eq!((number(BOUND), number(BEST)), (bound, best), "{name}");
     }
-    let [here, there] = both("rim").map(|mesh| left(port, &mesh).0);
+    let [here, there] = both("rim").map(|mesh| left(port, edition, &mesh).0);
     assert_eq!(differing(&here, &there), [VOLUME, RIM, RIM + 4]);
     assert_eq!(here[COVERED..], [32_811, 32, 32_896, 256, 22_016, 288]);
     assert_eq!(there[COVERED..], [32_811, 0, 32_896, 256, 22_016, 256]);
@@ -531,7 +565,7 @@ fn exceptions(port: Port) {
     for (axes, more) in [([0, 1, 2], 0), ([0, 2, 1], 2), ([2, 0, 1], 4)] {
         for (k, words) in [([3, 3, 3, 2, 0, 1, 0, 0, 0], &[RIM][..]), ([0, 3, 3, 3, 1, 0, 0, 0, 0], &[COVERED, RIM])] {
             let mesh = along(&third(k), axes);
-            let [one, other] = [&mesh, &reversed(&mesh)].map(|mesh| left(port, mesh).0);
+            let [one, other] = [&mesh, &reversed(&mesh)].map(|mesh| left(port, edition, mesh).0);
             let differ: Vec<_> = differing(&one, &other).into_iter().filter(|&word| word != VOLUME).collect();
             assert!(differ.iter().copied().eq(words.iter().map(|word| word + more)), "{k:?}: {differ:?}");
         }

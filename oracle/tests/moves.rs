@@ -8,13 +8,14 @@ use mowfrost_oracle::moves::compare::{on_chance, on_kind};
 use mowfrost_oracle::moves::meshes::{kinds, pair, LEAST_UNIT, LIMIT};
 use mowfrost_oracle::pairs::{Count, Pair};
 use mowfrost_oracle::record::MOST;
+use mowfrost_oracle::slopes::{Slope, EDITIONS, FIRST, SECOND};
 
 mod pairs;
 mod ways;
 
 use pairs::{
-    along, assert_found_wherever_it_shows, differing, left, quieted, stored, with, Fault, BASE, BEST, BOUND, COVERED,
-    EXCEPTIONS, METHOD, ORIGINAL, RELIABLE, RIM,
+    along, assert_found_wherever_it_shows, by_slope, differing, left, quieted, stored, taken_for, with, Fault, BASE,
+    BEST, BOUND, COVERED, EXCEPTIONS, METHOD, ORIGINAL, RELIABLE, RIM,
 };
 use ways::{Way, RIGHT};
 
@@ -43,8 +44,11 @@ fn nor_in_the_original_and_everything_is_reached() {
     // the last kind has those that are too large, seldom
     count.join(&on_kind(ORIGINAL, kinds().len() - 1, 20_000));
     assert_eq!(count.differ, 0);
-    let [one, two, three, four, five] = count.tally.refused;
-    assert!(one > 0 && two > 200 && three > 800 && four == 0 && five > 200, "{}", count.reached(&[]));
+    let [one, two, three, four, five, six, seven] = count.tally.refused;
+    assert!(one > 0 && two > 200 && three > 800 && four == 0 && five > 200 && six == 0, "{}", count.reached(&[]));
+    let [first, second, unknown] = count.editions;
+    assert!(second.abs_diff(first + unknown) < second / 8 && unknown > seven, "{}", count.reached(&[]));
+    assert!(seven > 200 && count.moved > 400, "{}", count.reached(&[]));
     assert!(count.tally.zero > 200 && count.tally.verdicts.iter().all(|&times| times > 300), "{}", count.reached(&[]));
     assert!(count.free.iter().all(|&times| times > 3), "{}", count.reached(&[]));
     assert!(count.covered > 100 && count.rim > 100 && count.rim_alone > 20, "{}", count.reached(&[]));
@@ -194,8 +198,35 @@ fn planted_faults_are_found() {
     assert!(found(&|call, areas, record| way.call(call, areas, record)), "coordinates that were rounded in metres");
 }
 
+/// Both meshes are asked under one edition, and slopes are by the corners rebased.
+#[test]
+fn an_edition_of_one_place_is_found() {
+    let one_place = |known: u32, other: u32| {
+        found(&taken_for(|call| if call.edition == known && is_far(call.mesh) { other } else { call.edition }))
+    };
+    assert!(!one_place(1, 1));
+    assert!(one_place(1, 2) && one_place(2, 1), "the other edition far out");
+    assert!(one_place(2, 3), "an edition that is not known far out");
+    assert!(
+        found(&taken_for(|call| if is_far(call.mesh) { call.edition.clamp(1, 2) } else { call.edition })),
+        "known far out"
+    );
+    assert!(!found(&by_slope(|_, nz| SECOND.slope(nz))), "02's rule");
+    let below = |mesh: &MeshFile, nz: f32| {
+        let on = nz == SECOND.top && first_x(mesh) < 0.0;
+        if on {
+            Slope::Top
+        } else {
+            SECOND.slope(nz)
+        }
+    };
+    assert!(found(&by_slope(below)), "0.866 itself is top below zero");
+    let far = |mesh: &MeshFile, nz: f32| if is_far(mesh) { FIRST.slope(nz) } else { SECOND.slope(nz) };
+    assert!(found(&by_slope(far)), "edition 1's thresholds under 2 far out");
+}
+
 /// What a call can come to, and a kind in which many do.
-const CLASSES: [(&str, &str); 8] = [
+const CLASSES: [(&str, &str); 9] = [
     ("closed", "boxes"),
     ("open", "open boxes"),
     ("degenerate", "flat"),
@@ -204,6 +235,7 @@ const CLASSES: [(&str, &str); 8] = [
     ("refused 2", "closed"),
     ("refused 3", "closed"),
     ("refused 5", "closed"),
+    ("refused 7", "closed"),
 ];
 
 /// 0 or 1, and the other one where the mesh is moved by an odd number in all.
@@ -294,6 +326,10 @@ fn the_pairs_have_what_they_are_for() {
         assert!(some(&|pair, _| (pair.clip, pair.defect) == (clip, defect)), "{clip} {defect}");
     }
     assert!(some(&|pair, _| pair.clip > 1 || pair.defect > 4));
+    let half = pairs.iter().filter(|pair| pair.edition == 2).count();
+    // each kind has the same turns, and so the same chance
+    assert!(half.abs_diff(pairs.len() / 2) < pairs.len() / 12, "{half} of {}", pairs.len());
+    assert!(some(&|pair, _| pair.edition == 1) && some(&|pair, _| !EDITIONS.contains(&pair.edition)));
     for rest in 0..3 {
         assert!(
             some(&|pair, _| pair.here.vertices.len() % 3 == rest) && some(&|pair, _| pair.here.ids.len() % 3 == rest)
@@ -316,7 +352,7 @@ fn the_pairs_have_what_they_are_for() {
 
 #[test]
 fn each_exception_is_needed_of_the_original() {
-    exceptions_of_the_stored_pairs(ORIGINAL);
+    EDITIONS.into_iter().for_each(|edition| exceptions_of_the_stored_pairs(ORIGINAL, edition));
 }
 
 #[test]
@@ -325,7 +361,7 @@ fn each_exception_is_needed_of_the_original() {
     ignore = "the port's libraries were not built: at the root, rt staticlib capi and rt staticlib probe"
 )]
 fn each_exception_is_needed_of_the_port() {
-    exceptions_of_the_stored_pairs(PORT);
+    EDITIONS.into_iter().for_each(|edition| exceptions_of_the_stored_pairs(PORT, edition));
 }
 
 fn both(name: &str) -> [MeshFile; 2] {
@@ -336,7 +372,7 @@ fn both(name: &str) -> [MeshFile; 2] {
 const RIMS: [usize; 3] = [RIM, RIM + 2, RIM + 4];
 
 /// In each pair of `stored::places` so many of the exceptions differ and nothing else.
-fn exceptions_of_the_stored_pairs(port: Port) {
+fn exceptions_of_the_stored_pairs(port: Port, edition: u32) {
     let (half, most) = (257.0 / 512.0, 0.75);
     for (name, differ, best) in [
         ("bound", &[BOUND][..], [0.5, 0.5]),
@@ -346,7 +382,7 @@ fn exceptions_of_the_stored_pairs(port: Port) {
     ] {
         let [here, there] = both(name);
         assert_eq!(moved(&here, &there), Some([1 << 23, 1 << 23, 0]));
-        let (one, other) = (left(port, &here), left(port, &there));
+        let (one, other) = (left(port, edition, &here), left(port, edition, &there));
         // from above another half of the square; from the other sides all of it, and the rim is all of it there
         assert_eq!(differing(&one.0, &other.0), [differ, &[COVERED], &RIMS].concat(), "{name}");
         assert!(one.1 == other.1 && one.2 == other.2, "{name}");
@@ -360,7 +396,7 @@ fn exceptions_of_the_stored_pairs(port: Port) {
     ] {
         let [here, there] = both(name);
         assert_eq!(moved(&here, &there), Some(by));
-        let (one, other) = (left(port, &here), left(port, &there));
+        let (one, other) = (left(port, edition, &here), left(port, edition, &there));
         assert_eq!(differing(&one.0, &other.0), differ, "{name}");
         assert!(one.1 == other.1 && one.2 == other.2, "{name}");
         assert!(differ.iter().all(|&word| [one.0[word], other.0[word]] == numbers), "{name}");
@@ -368,7 +404,7 @@ fn exceptions_of_the_stored_pairs(port: Port) {
     // with other axes for x and y it is the other footprints' numbers, each alone
     for (name, word) in [("rim", RIM), ("covered", COVERED)] {
         for (axes, more) in [([0, 2, 1], 2), ([2, 0, 1], 4)] {
-            let [one, other] = both(name).map(|mesh| left(port, &along(&mesh, axes)).0);
+            let [one, other] = both(name).map(|mesh| left(port, edition, &along(&mesh, axes)).0);
             assert_eq!(differing(&one, &other), [word + more], "{name}");
         }
     }

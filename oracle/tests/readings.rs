@@ -5,7 +5,7 @@ use mowfrost_oracle::file::{push_record, write, Flags, MeshFile};
 use mowfrost_oracle::listing::listing;
 use mowfrost_oracle::mesh::qto::probe;
 use mowfrost_oracle::pieces::pieces;
-use mowfrost_oracle::record::{compute, original, plain, Answer, Lent, Record, LEAST_UNIT};
+use mowfrost_oracle::record::{compute, compute_under, original, plain, Answer, Lent, Record, LEAST_UNIT};
 use mowfrost_oracle::solids::Shape;
 use mowfrost_oracle::stored::readings::shelf;
 use std::hint::black_box;
@@ -96,6 +96,55 @@ fn d2_slope_thresholds_read_alike_in_f32_and_decimal() {
     // No f32 stands between a threshold and its decimal, so the strict comparisons cannot tell them apart.
     assert!((0.940f32 as f64) < 0.940 && (0.940f32.next_up() as f64) > 0.940);
     assert!((0.342f32 as f64) > 0.342 && (0.342f32.next_down() as f64) < 0.342);
+}
+
+#[test]
+fn a6_the_thresholds_of_edition_2_read_alike_in_f32_and_decimal() {
+    // 0.866 is 3f5db22d, below the decimal, and the next f32 is above it; 0.5 is itself.
+    assert_eq!((bits(0.866), bits(0.5)), ("3f5db22d".into(), "3f000000".into()));
+    assert!((0.866f32 as f64) < 0.866 && (0.866f32.next_up() as f64) > 0.866);
+    assert_eq!((0.5f32 as f64, 0.5f32.next_down() as f64), (0.5, 0.5 - 2f64.powi(-25)));
+    for nz in [0.866f32.next_down(), 0.866, 0.866f32.next_up(), 0.5f32.next_down(), 0.5, 0.5f32.next_up()] {
+        let wide = nz as f64;
+        assert_eq!((nz > 0.866, -nz < -0.866f32, nz.abs() < 0.5), (wide > 0.866, -wide < -0.866, wide.abs() < 0.5));
+    }
+}
+
+#[test]
+fn a6_the_normal_is_narrowed_before_it_is_compared() {
+    // Above 0.866 in f64 and on its f32 once narrowed; under 0.5 in f64 and 0.5 once narrowed: inclined, both.
+    for (direction, at) in [([166.0, 310.0, 609.0], 0.866f32), ([1145.0, 3372.0, 2056.0], 0.5)] {
+        let [a, b, c]: [f64; 3] = direction;
+        let z = c * (1.0 / (a * a + b * b + c * c).sqrt());
+        assert!(z as f32 == at && if at == 0.866 { z > 0.866 } else { z < 0.5 });
+        let shape = Shape::facing(direction.map(|k| k as i32));
+        let mesh = plain(1.0, &shape.vertices, &shape.ids);
+        let lent = Lent::exactly(mesh.vertices.len(), mesh.ids.len());
+        let Answer::Record(record, _) = compute_under(&mesh, 2, lent) else { panic!("refused") };
+        assert_eq!(record.slopes().map(|area| area > 0.0), [false, false, false, true]);
+    }
+}
+
+#[test]
+fn a6_an_edition_that_is_not_known_is_nothing_to_a_zero_record() {
+    let nothing = plain(f32::NAN, &[f32::NAN; 8], &[0, 1, 2]);
+    let none = Lent { work: 0, raster: 0, surfaces: 0 };
+    let Answer::Record(record, _) = compute_under(&nothing, 3, none) else { panic!("refused") };
+    assert_eq!((record.quality, record.method, record.rows.len()), ("degenerate", "prism_fallback", 0));
+    let refusal = |unit: f32, x: f32, edition: u32, lent: Lent| {
+        let mesh = plain(unit, &[x, 0.0, 0.0, 0.0, 1.0, 0.0, 0.0, 0.0, 1.0], &[0, 1, 2]);
+        match compute_under(&mesh, edition, lent) {
+            Answer::Refused(number) => number,
+            Answer::Record(..) => 0,
+        }
+    };
+    let exact = Lent::exactly(9, 3);
+    assert_eq!(refusal(17.0, f32::NAN, 3, none), 2, "2 before 7");
+    assert_eq!(refusal(1.0, f32::NAN, 3, none), 7, "7 before 3");
+    assert_eq!(refusal(1.0, f32::NAN, 3, exact), 7, "7 before 4");
+    assert_eq!(refusal(1.0, f32::NAN, 2, none), 3);
+    assert_eq!(refusal(1.0, f32::NAN, 2, exact), 4);
+    assert_eq!([0, 1, 2, 3, u32::MAX].map(|edition| refusal(1.0, 1.0, edition, exact)), [7, 0, 0, 7, 7]);
 }
 
 #[test]

@@ -1,5 +1,6 @@
 //! The meshes that `replay` holds: they reach everything, say what they were made for, and are the ones that are stored.
 
+use mowfrost_oracle::compute::compare::words;
 use mowfrost_oracle::counts::Counts;
 use mowfrost_oracle::file::{read, MeshFile, MOST};
 use mowfrost_oracle::frames;
@@ -8,8 +9,9 @@ use mowfrost_oracle::meshfile::replayed::many;
 use mowfrost_oracle::pieces::pieces;
 use mowfrost_oracle::raster::cells::{grids, place, values, Cells, Place, Point};
 use mowfrost_oracle::reach::{Reach, WANTED};
-use mowfrost_oracle::record::{compute, Answer, Exception, Lent, Record};
+use mowfrost_oracle::record::{compute_under, Answer, Exception, Lent, Record};
 use mowfrost_oracle::sent::FULL;
+use mowfrost_oracle::slopes::{facets, SECOND};
 use mowfrost_oracle::stl;
 use mowfrost_oracle::stored::{all, Stored};
 use std::collections::HashSet;
@@ -100,8 +102,12 @@ fn mesh(name: &str) -> MeshFile {
 }
 
 fn record(name: &str) -> Record {
+    record_under(name, 1)
+}
+
+fn record_under(name: &str, edition: u32) -> Record {
     let mesh = mesh(name);
-    match compute(&mesh, Lent::exactly(mesh.vertices.len(), mesh.ids.len())) {
+    match compute_under(&mesh, edition, Lent::exactly(mesh.vertices.len(), mesh.ids.len())) {
         Answer::Record(record, _) => record,
         Answer::Refused(number) => panic!("{name}: refused {number}"),
     }
@@ -125,10 +131,7 @@ fn thresholds_are_met_exactly() {
     assert_eq!(record("a smallest surface of 1.0000001e-6").smallest, 1e-6f32.next_up());
     assert_eq!(record("edges through centres").prism, Some(2.0 * 101.0 * 101.0));
     assert_eq!(record("d4: a volume of -0").volume.to_bits(), 0x8000_0000);
-    let slopes = |name: &str| {
-        let record = record(name);
-        [record.top, record.bottom, record.side, record.inclined].map(|area| area > 0.0)
-    };
+    let slopes = |name: &str| record(name).slopes().map(|area| area > 0.0);
     assert_eq!(slopes("nz of 0.940 and of its opposite"), [false, false, false, true]);
     assert_eq!(slopes("nz a step above 0.940"), [true, true, false, false]);
     assert_eq!(slopes("nz of 0.342"), [false, false, false, true]);
@@ -136,6 +139,82 @@ fn thresholds_are_met_exactly() {
     let heights = |name: &str| record(name).rows.iter().map(|row| row[3]).collect::<Vec<_>>();
     assert_eq!(heights("nz of 0.25, a half in the key"), [-0.3, 0.3]);
     assert_eq!(heights("nz of 0.45, a half in the key once rounded"), [-0.5, 0.5]);
+}
+
+/// What A6 moves, by hand. Each of these is two facets that look up and down alike.
+#[test]
+fn thresholds_of_edition_2_are_met_exactly() {
+    let some = |name: &str, edition: u32| record_under(name, edition).slopes().map(|area| area > 0.0);
+    let (inclined, ends, side) = ([false, false, false, true], [true, true, false, false], [false, false, true, false]);
+    for (name, z, second) in [
+        ("a6: nz a step under 0.866", SECOND.top.next_down(), inclined),
+        ("a6: nz of 0.866 and of its opposite, from under the decimal", SECOND.top, inclined),
+        ("a6: nz of 0.866 and of its opposite, from above the decimal", SECOND.top, inclined),
+        ("a6: nz a step above 0.866", SECOND.top.next_up(), ends),
+        ("a6: nz a step under 0.5", SECOND.side.next_down(), side),
+        ("a6: nz of 0.5 and of its opposite, from under the decimal", SECOND.side, inclined),
+        ("a6: nz of 0.5 and of its opposite, from above the decimal", SECOND.side, inclined),
+        ("a6: nz a step above 0.5", SECOND.side.next_up(), inclined),
+    ] {
+        let MeshFile { vertices, ids, .. } = mesh(name);
+        assert_eq!(facets(&vertices, &ids).map(|facet| facet.nz).collect::<Vec<_>>(), [z, -z], "{name}");
+        assert_eq!((some(name, 1), some(name, 2)), (inclined, second), "{name}");
+    }
+    assert_eq!(some("nz of 0.940 and of its opposite", 2), ends);
+    assert_eq!(some("nz of 0.342", 2), side);
+}
+
+/// A roof is two slopes of one area with gables and a floor; a keel is the same upside down.
+#[test]
+fn roofs_are_moved_by_edition_2() {
+    const FLOOR: f32 = 72.0;
+    for (name, moved_to) in [
+        ("roof of 25", Some(0)),
+        ("roof of 28", Some(0)),
+        ("roof of 30", Some(0)),
+        ("roof of 32", None),
+        ("roof of 60", None),
+        ("roof of 62", Some(2)),
+        ("roof of 65", Some(2)),
+        ("keel of 28", Some(1)),
+        ("keel of 62", Some(2)),
+    ] {
+        let [first, second] = [1, 2].map(|edition| record_under(&format!("a6: a {name} degrees"), edition).slopes());
+        let [top, bottom, gables, slopes] = first;
+        let level = if name.starts_with("keel") { [FLOOR, 0.0] } else { [0.0, FLOOR] };
+        assert!([top, bottom].iter().zip(level).all(|(area, level)| (area - level).abs() < 1e-4), "{name}: {first:?}");
+        assert!(gables > 14.0 && slopes > FLOOR, "{name}: {first:?}");
+        match moved_to {
+            None => assert_eq!(second, first, "{name}"),
+            Some(to) => {
+                assert!(second[3] == 0.0 && (second[to] - first[to] - slopes).abs() < 1e-4, "{name}: {second:?}");
+                assert!((0..3).all(|i| i == to || second[i] == first[i]), "{name}: {second:?}");
+            }
+        }
+    }
+}
+
+/// Of all that is stored: what edition 2 moves, and that nothing else of a record hangs on it.
+#[test]
+fn edition_2_moves_areas_by_slope_alone() {
+    let mut moved = [0; 4];
+    for stored in STORED.iter().filter(|stored| read(&stored.bytes).is_ok()) {
+        let answers = [1, 2].map(|edition| {
+            let mesh = read(&stored.bytes).expect("it can be read");
+            compute_under(&mesh, edition, Lent::exactly(mesh.vertices.len(), mesh.ids.len()))
+        });
+        match answers {
+            [Answer::Record(first, _), Answer::Record(second, _)] => {
+                let (one, mut other) = (words(&first), words(&second));
+                (0..4).for_each(|i| moved[i] += (one[7 + i] != other[7 + i]) as u32);
+                other[7..11].copy_from_slice(&one[7..11]);
+                assert!(one == other && first.rows == second.rows, "{}", stored.name);
+            }
+            [Answer::Refused(one), Answer::Refused(other)] => assert_eq!(one, other, "{}", stored.name),
+            _ => panic!("{}: one is refused", stored.name),
+        }
+    }
+    assert!(moved.iter().all(|&times| times > 15), "{moved:?}");
 }
 
 /// What A1 counts, by hand: used, out of range, sliver.
@@ -288,23 +367,36 @@ fn behind(name: &str) -> Vec<String> {
     text.strip_prefix(&listing).expect("the listing is first").lines().map(String::from).collect()
 }
 
-/// What the routines on ids say of document 01's examples, and what a work area one word short is told.
+/// What the routines on ids say of document 01's examples, what a work area one word short is told, under edition 1 and under one that
+/// is not known, and the areas by slope under edition 2.
 #[test]
 fn a_line_has_the_answers() {
     let line = |name: &str| behind(name)[0].clone();
-    let front = |name: &str| line(name).split(" pairs ").next().unwrap_or("").to_string();
-    assert_eq!(line("the cube"), "chain 1 0 net 1 0 manifold 1 winding 1 short 3 pairs 0 0 0 0 0 0");
+    let front = |name: &str| line(name).split(" unknown ").next().unwrap_or("").to_string();
+    // a level face of 2 by 2 is top, one bottom, and four of them side
+    let [level, sides] = [4f32, 16.0].map(f32::to_bits);
+    assert_eq!(
+        line("the cube"),
+        format!(
+            "chain 1 0 net 1 0 manifold 1 winding 1 short 3 unknown 7 pairs 0 0 0 0 0 0 second {level} {level} {sides} 0"
+        )
+    );
     assert_eq!(front("faces that cancel: 012 210 333"), "chain 1 0 net 0 1 manifold 1 winding 1 short 3");
     assert_eq!(front("nine zeros"), "chain 0 0 net 0 1 manifold 1 winding 0 short 3");
     assert_eq!(front("each face twice"), "chain 1 1 net 2 0 manifold 0 winding 0 short 3");
     assert_eq!(front("one bad edge of 50"), "chain 0 0 net 1 0 manifold 0 winding 1 short 3");
     assert_eq!(front("one bad edge of 49"), "chain 0 0 net 1 0 manifold 0 winding 0 short 3");
     assert_eq!(front("1,536 ids, one triangle over and over"), "chain 0 1 net 512 0 manifold 0 winding 0 short 3");
-    // cells where there is a record
-    assert!(line("the cube without 457").ends_with(" short 3 pairs 65536 256 65536 256 65536 256"));
-    assert!(line("2 ids").ends_with(" short 0 pairs 0 0 0 0 0 0"));
-    assert_eq!(line("a closed shell, unit and float bad"), "chain 1 0 net 1 0 manifold 1 winding 1 short 2");
-    assert_eq!(line("a closed shell, float bad"), "chain 1 0 net 1 0 manifold 1 winding 1 short 3");
+    // cells and areas where there is a record
+    let open = " short 3 unknown 7 pairs 65536 256 65536 256 65536 256 second ";
+    assert!(line("the cube without 457").contains(open));
+    assert!(line("2 ids").ends_with(" short 0 unknown 0 pairs 0 0 0 0 0 0 second 0 0 0 0"));
+    assert_eq!(line("a closed shell, unit and float bad"), "chain 1 0 net 1 0 manifold 1 winding 1 short 2 unknown 2");
+    assert_eq!(line("a closed shell, float bad"), "chain 1 0 net 1 0 manifold 1 winding 1 short 3 unknown 7");
+    let areas = |name: &str| line(name).split(" second ").nth(1).unwrap_or("").to_string();
+    let (second, bits) =
+        (record_under("a6: a roof of 28 degrees", 2).slopes(), |area: &f32| area.to_bits().to_string());
+    assert_eq!(areas("a6: a roof of 28"), second.iter().map(bits).collect::<Vec<_>>().join(" "));
     // a file that could not be read has no ids
     assert!(behind("1,537 ids").is_empty() && behind("cut to 0 bytes").is_empty());
 }

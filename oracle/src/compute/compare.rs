@@ -1,19 +1,23 @@
 //! `oracle compute N`: refusals, every word of the record, every row, every place of the three lent areas, and that the mesh that was
-//! passed is as it was. Floats are compared by their bits, a NaN's too, and the NaNs that had to stay are counted. The last nine
-//! words, A1's counts and A3's cells, are held to the plain references; all others are the original's.
+//! passed is as it was; under edition 1, under edition 2, and under editions that are not known. Floats are compared by their bits, a
+//! NaN's too, and the NaNs that had to stay are counted. The last nine words, A1's counts and A3's cells, are held to the plain
+//! references, and so are the four areas by slope under edition 2 (A6); all others are the original's.
 
 use super::areas::{Areas, Fronts, Lending, WORDS};
 use super::capi;
 use super::counted::Counted;
+use super::editions::{self, Editions, UNKNOWN};
 use super::meshes::{by_chance, kinds, large, limits};
 use super::nans::Stayed;
 use crate::file::{MeshFile, DEFECTS};
 use crate::random::Random;
-use crate::record::{compute, Answer, Exception, Lent, Record};
+use crate::record::{compute, compute_under, is_zero_record, Answer, Exception, Lent, Record};
+use crate::slopes::EDITIONS;
 
-/// What a call is asked: the mesh, and its flags in the interface's numbers, where any number may be passed.
+/// What a call is asked: the mesh, the edition, and its flags in the interface's numbers, where any number may be passed.
 pub struct Call<'a> {
     pub mesh: &'a MeshFile,
+    pub edition: u32,
     pub clip: u32,
     pub defect: u32,
 }
@@ -22,10 +26,18 @@ pub type Port<'a> = &'a dyn Fn(&Call, Areas, &mut [u32; WORDS]) -> u32;
 
 pub const PORT: Port<'static> = &capi::compute;
 
-/// What calls came to: refusals 1 to 5, zero records, and full records that are closed, open and degenerate.
+impl<'a> Call<'a> {
+    /// A mesh with its own flags.
+    pub fn of(mesh: &'a MeshFile, edition: u32) -> Call<'a> {
+        Call { mesh, edition, clip: mesh.flags.clip as u32, defect: mesh.flags.defect as u32 }
+    }
+}
+
+/// What calls came to: refusals 1 to 7, of which `compute` has no 6, zero records, and full records that are closed, open and
+/// degenerate.
 #[derive(Default)]
 pub struct Tally {
-    pub refused: [u64; 5],
+    pub refused: [u64; 7],
     pub zero: u64,
     pub verdicts: [u64; 3],
 }
@@ -41,9 +53,13 @@ impl Tally {
     }
 
     pub fn join(&mut self, other: &Tally) {
-        (0..5).for_each(|i| self.refused[i] += other.refused[i]);
+        (0..7).for_each(|i| self.refused[i] += other.refused[i]);
         (0..3).for_each(|i| self.verdicts[i] += other.verdicts[i]);
         self.zero += other.zero;
+    }
+
+    pub fn sum(&self) -> u64 {
+        self.refused.iter().chain(&self.verdicts).sum::<u64>() + self.zero
     }
 
     /// In words, and what else there is to count behind it; what never came is left out.
@@ -67,6 +83,7 @@ pub struct Count {
     pub tally: Tally,
     pub stayed: Stayed,
     pub counted: Counted,
+    pub editions: Editions,
     /// Meshes near the one exception, and those of them where `powf` answers otherwise.
     pub near: u64,
     pub otherwise: u64,
@@ -125,11 +142,7 @@ pub fn words(record: &Record) -> [u32; WORDS] {
     ]
 }
 
-pub fn is_zero_record(mesh: &MeshFile) -> bool {
-    mesh.ids.len() < 3 || mesh.vertices.len() < 9
-}
-
-/// All that document 01 promises of one call.
+/// All that documents 01 and 02 promise of one call.
 struct Promise {
     answer: u32,
     /// Nothing with a refusal, else its words.
@@ -179,6 +192,12 @@ pub const UNKNOWN_FLAGS: [(u32, u32); 10] = [
     (0, 0x1_0000),
 ];
 
+/// Known or not.
+fn any_edition(random: &mut Random) -> u32 {
+    let unknown = editions::unknown(random);
+    random.pick(&[1, 2, unknown])
+}
+
 /// The areas to lend: exact, each one short by one, all longer; then, always or now and then, several too short or longer,
 /// and none at all.
 pub fn choices(exact: Lent, all: bool, random: &mut Random) -> Vec<Lent> {
@@ -216,47 +235,88 @@ pub fn choices(exact: Lent, all: bool, random: &mut Random) -> Vec<Lent> {
 }
 
 impl Count {
-    /// One mesh over a choice of areas, and now and then with unknown flags; `all`: over every choice and every flag.
+    /// One mesh over a choice of areas under each edition, then under some that are not known, and now and then with unknown flags;
+    /// `all`: over every choice, every edition and every flag.
     fn add(&mut self, port: Port, mesh: &MeshFile, all: bool, random: &mut Random, lending: &mut Lending) {
         let (exact, answer) = self.right(mesh);
-        let promise = Promise::of(mesh, &answer);
         lending.elsewhere(random);
-        let call = Call { mesh, clip: mesh.flags.clip as u32, defect: mesh.flags.defect as u32 };
         let choices = choices(exact, all, random);
-        for &lent in &choices {
-            if lent.holds(exact) {
-                self.compare(port, &call, lent, &promise, lending);
-            } else {
-                // A refusal or the zero record: no second run of the original.
-                let short = Promise::of(mesh, &compute(mesh, lent));
-                self.compare(port, &call, lent, &short, lending);
-            }
+        for edition in EDITIONS {
+            let promise = Promise::of(mesh, &answer.under(edition, mesh));
+            self.under(port, &Call::of(mesh, edition), &promise, exact, &choices, lending);
         }
+        self.under_unknown(port, mesh, all, &choices, random, lending);
         for (clip, defect) in UNKNOWN_FLAGS {
             if all || random.once_in(4 * UNKNOWN_FLAGS.len()) {
                 let lent = choices[random.below(choices.len())];
-                self.compare(port, &Call { mesh, clip, defect }, lent, &Promise::refused(5), lending);
+                let edition = any_edition(random);
+                self.compare(port, &Call { mesh, edition, clip, defect }, lent, &Promise::refused(5), lending);
             }
         }
     }
 
-    /// The answer over exact areas, with what there is to count of it.
+    /// A call under an edition that is known, over each of these areas; the promise is that over areas that are long enough.
+    fn under(
+        &mut self,
+        port: Port,
+        call: &Call,
+        promise: &Promise,
+        exact: Lent,
+        choices: &[Lent],
+        lending: &mut Lending,
+    ) {
+        for &lent in choices {
+            if lent.holds(exact) {
+                self.compare(port, call, lent, promise, lending);
+            } else {
+                // A refusal or the zero record: no second run of the original.
+                let short = Promise::of(call.mesh, &compute_under(call.mesh, call.edition, lent));
+                self.compare(port, call, lent, &short, lending);
+            }
+        }
+    }
+
+    /// Over areas that are exact and over some others, or under each that is not known over all: refusals alone, and zero records.
+    fn under_unknown(
+        &mut self,
+        port: Port,
+        mesh: &MeshFile,
+        all: bool,
+        choices: &[Lent],
+        random: &mut Random,
+        lending: &mut Lending,
+    ) {
+        let some = [choices[0], random.pick(choices)];
+        let (editions, lent) =
+            if all { (UNKNOWN.to_vec(), choices) } else { (vec![editions::unknown(random)], &some[..]) };
+        for edition in editions {
+            for &lent in lent {
+                let promise = Promise::of(mesh, &compute_under(mesh, edition, lent));
+                self.compare(port, &Call::of(mesh, edition), lent, &promise, lending);
+            }
+        }
+    }
+
+    /// The answer under edition 1 over exact areas, with what there is to count of it.
     fn right(&mut self, mesh: &MeshFile) -> (Lent, Answer) {
         let exact = Lent::exactly(mesh.vertices.len(), mesh.ids.len());
         let answer = compute(mesh, exact);
         self.note(mesh, &answer);
         if let (Answer::Record(record, _), false) = (&answer, is_zero_record(mesh)) {
             self.counted.meet(mesh, record);
+            for wrong in self.editions.meet(mesh, record) {
+                self.show(&wrong, &Call::of(mesh, 1), exact);
+            }
         }
         (exact, answer)
     }
 
-    /// A mesh without flags that was read from a file, held to the record of the mesh that should have been read: over exact areas, and now
-    /// and then over others.
+    /// A mesh without flags that was read from a file, held to the record of the mesh that should have been read, under edition 1: over
+    /// exact areas, and now and then over others.
     pub fn hold(&mut self, port: Port, read: &MeshFile, right: &MeshFile, random: &mut Random, lending: &mut Lending) {
         let (exact, answer) = self.right(right);
         lending.elsewhere(random);
-        let call = Call { mesh: read, clip: 0, defect: 0 };
+        let call = Call { mesh: read, edition: 1, clip: 0, defect: 0 };
         self.compare(port, &call, exact, &Promise::of(right, &answer), lending);
         if random.once_in(4) {
             let choices = choices(exact, true, random);
@@ -277,7 +337,9 @@ impl Count {
             return self.show(&wrong.join("; "), call, lent);
         }
         self.agree += 1;
-        self.tally.add(right.answer, right.zero_record, right.record.first().copied().unwrap_or(0));
+        for tally in [&mut self.tally, &mut self.editions.tallies[editions::place(call.edition)]] {
+            tally.add(right.answer, right.zero_record, right.record.first().copied().unwrap_or(0));
+        }
         match right.answer {
             0 if right.zero_record => self.counted.zero += 1,
             0 => {
@@ -307,8 +369,7 @@ impl Count {
             }
             Exception::Outside => {
                 let exact = Lent::exactly(mesh.vertices.len(), mesh.ids.len());
-                let call = Call { mesh, clip: mesh.flags.clip as u32, defect: mesh.flags.defect as u32 };
-                self.show("powf answers otherwise, and it is not near the one exception", &call, exact);
+                self.show("powf answers otherwise, and it is not near the one exception", &Call::of(mesh, 1), exact);
             }
         }
     }
@@ -319,7 +380,8 @@ impl Count {
             let MeshFile { unit, vertices, ids, .. } = call.mesh;
             let (floats, count) = (vertices.len(), ids.len());
             self.shown.push(format!(
-                "{why}; clip {:x}, defect {:x}, {lent:?}, unit {unit:?}, {floats} floats {:?}, {count} ids {:?}",
+                "{why}; edition {:x}, clip {:x}, defect {:x}, {lent:?}, unit {unit:?}, {floats} floats {:?}, {count} ids {:?}",
+                call.edition,
                 call.clip,
                 call.defect,
                 &vertices[..floats.min(30)],
@@ -335,6 +397,7 @@ impl Count {
         self.tally.join(&other.tally);
         self.stayed.join(&other.stayed);
         self.counted.join(&other.counted);
+        self.editions.join(&other.editions);
     }
 
     /// What the calls that agree came to, how the meshes stand to the one exception, how many leave triangles out, and how many
@@ -346,6 +409,7 @@ impl Count {
             ("meshes with an id out of range", self.counted.met.range),
             ("meshes with a sliver", self.counted.met.sliver),
             ("footprints with a rim", self.counted.cells.rim),
+            ("meshes with other areas under edition 2", self.editions.other),
         ])
     }
 }

@@ -4,17 +4,18 @@ use super::nans::nan;
 use super::shapes::{self, boxes, sphere, SHAPES};
 use super::split::split_badly;
 use crate::file::{read, Flags, MeshFile};
-use crate::kinds::KINDS;
+use crate::kinds::{self, KINDS};
 use crate::mesh::qto::probe;
 use crate::random::Random;
 use crate::raster::rims;
 use crate::record::{plain, FARTHEST, GREATEST_UNIT, LEAST_UNIT, MOST};
+use crate::slopes::NEAR;
 use crate::solids::{reverse, Shape};
 
 type Own = (&'static str, fn(&mut Random) -> MeshFile);
 
 /// Beside the program's: what its files cannot hold, or hold too seldom for a look at the order of the checks.
-const OWN: [Own; 11] = [
+const OWN: [Own; 13] = [
     ("wild_ids", wild_ids),
     ("ragged", ragged),
     ("unit_ends", unit_ends),
@@ -26,6 +27,8 @@ const OWN: [Own; 11] = [
     ("few", few),
     ("medium", medium),
     ("rims", rims),
+    ("second_slopes", second_slopes),
+    ("at_thresholds", at_thresholds),
 ];
 
 /// The names of all kinds.
@@ -331,6 +334,46 @@ fn rims(random: &mut Random) -> MeshFile {
     let shape = rims::shape(random).scaled([by; 3]);
     let unit = random.pick(&[1.0, 0.001, 0.3048]);
     MeshFile { unit, vertices: shape.vertices, ids: shape.ids, flags: flags(random) }
+}
+
+/// Mostly with a vertex far off that no triangle names: the box is wide, so that few cells of a raster are tried, and no slope is
+/// another, as it would be once the mesh is drawn out.
+fn in_wide_box(mut shape: Shape, random: &mut Random) -> Shape {
+    if !random.once_in(8) {
+        let [x, y, z] = [0; 3].map(|_| random.pick(&[0x10_0000, 0x20_0000, 0x1f_fff9]) as f32);
+        shape.vertex(x, y, z);
+    }
+    shape
+}
+
+/// What edition 2 moves (02, A6), and what it just leaves.
+fn second_slopes(random: &mut Random) -> MeshFile {
+    let shape = in_wide_box(kinds::second_slopes(random), random);
+    let unit = random.pick(&[1.0, 0.001, 0.3048, 0.7, LEAST_UNIT, GREATEST_UNIT]);
+    MeshFile { unit, vertices: shape.vertices, ids: shape.ids, flags: flags(random) }
+}
+
+/// Facets that have a threshold's z, or a neighbour's. By powers of two, so that they keep it; seldom by a factor that rounds.
+fn at_thresholds(random: &mut Random) -> MeshFile {
+    let by = random.pick(&[1.0, 1.0, 2.0, 1.0 / 256.0, 4096.0, 0.1]);
+    let shape = thresholds(random).scaled([by; 3]);
+    let unit = random.pick(&[1.0, 0.001, 0.3048]);
+    MeshFile { unit, vertices: shape.vertices, ids: shape.ids, flags: flags(random) }
+}
+
+/// Whole numbers: some triangles each with the z of a threshold or a neighbour, one way up or both, begun at any corner.
+pub fn thresholds(random: &mut Random) -> Shape {
+    let mut shape = Shape::default();
+    for _ in 0..random.within(1, 12) {
+        let near = &NEAR[random.pick(&[0, 1, 2, 2, 3, 3])];
+        let (_, [a, b, c]) = random.pick(&near.all());
+        let mut facet = Shape::facing(if random.once_in(2) { [a, b, c] } else { [a, -b, c] });
+        if !random.once_in(3) {
+            facet.remove(random.below(2));
+        }
+        shape = shape.with(facet.moved([0; 3].map(|_| random.within(0, 500) as f32)));
+    }
+    in_wide_box(shape.shuffled(random), random)
 }
 
 // ---- large

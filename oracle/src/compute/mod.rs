@@ -5,6 +5,7 @@ pub mod areas;
 mod capi;
 pub mod compare;
 pub mod counted;
+pub mod editions;
 pub mod meshes;
 pub mod nans;
 pub mod shapes;

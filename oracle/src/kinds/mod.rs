@@ -11,6 +11,7 @@ use crate::record::{GREATEST_UNIT, LEAST_UNIT};
 use crate::solids::Shape;
 use files::*;
 use numbers::*;
+pub use shells::second_slopes;
 use shells::*;
 use topology::*;
 

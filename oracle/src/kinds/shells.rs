@@ -7,12 +7,33 @@ use crate::solids::Shape;
 
 // ---- areas and surfaces
 
+/// Heights of a normal: the thresholds of slope, and halves of the key's grid.
+const HEIGHTS: [f64; 14] = [0.940, 0.342, -0.940, -0.342, 0.05, 0.15, 0.25, 0.35, 0.45, 0.75, 0.85, 0.95, -0.05, -0.25];
+
+/// The thresholds of edition 2 (02, A6), those of edition 1, and between them.
+const SECOND_HEIGHTS: [f64; 16] =
+    [0.866, 0.866, -0.866, -0.866, 0.5, 0.5, -0.5, -0.5, 0.940, -0.940, 0.342, -0.342, 0.9, -0.9, 0.42, -0.42];
+
 /// Roofs whose normal's z is about a threshold of slope, or a component about a half of the key's grid.
 pub fn slopes(random: &mut Random) -> Vec<u8> {
+    let mut shape = roofs(random, &HEIGHTS);
+    // exact normals too: whole-number legs with 0.6 and 0.8
+    let (a, b, c) = (shape.vertex(0.0, 0.0, 0.0), shape.vertex(4.0, 0.0, 3.0), shape.vertex(0.0, 5.0, 0.0));
+    shape.triangle(a, b, c);
+    let unit = unit(random);
+    filed_at(random, unit, shape)
+}
+
+/// Roofs about the thresholds of edition 2. The programs name edition 1, so it is none of their kinds: `compute` has it.
+pub fn second_slopes(random: &mut Random) -> Shape {
+    roofs(random, &SECOND_HEIGHTS)
+}
+
+/// Some roofs, the z of each normal about one of these.
+fn roofs(random: &mut Random, heights: &[f64]) -> Shape {
     let mut shape = Shape::default();
     for _ in 0..random.within(2, 20) {
-        let about = random
-            .pick(&[0.940f64, 0.342, -0.940, -0.342, 0.05, 0.15, 0.25, 0.35, 0.45, 0.75, 0.85, 0.95, -0.05, -0.25]);
+        let about = random.pick(heights);
         let z = (about + random.pick(&[0.0, 1e-8, -1e-8, 6e-8, -6e-8, 1e-6, -1e-6])).clamp(-1.0, 1.0);
         let (turn, level) = (random.between(0.0, 7.0), (1.0 - z * z).sqrt());
         let normal = [level * turn.cos(), level * turn.sin(), z];
@@ -28,11 +49,7 @@ pub fn slopes(random: &mut Random) -> Vec<u8> {
         let c = shape.vertex((big * up[0]) as f32, (big * up[1]) as f32, (big * up[2]) as f32);
         shape.triangle(a, b, c);
     }
-    // exact normals too: whole-number legs with 0.6 and 0.8
-    let (a, b, c) = (shape.vertex(0.0, 0.0, 0.0), shape.vertex(4.0, 0.0, 3.0), shape.vertex(0.0, 5.0, 0.0));
-    shape.triangle(a, b, c);
-    let unit = unit(random);
-    filed_at(random, unit, shape)
+    shape
 }
 
 /// More than 64 keys, where the original changes its container.

@@ -17,7 +17,7 @@ pub const LIMIT: i64 = 1 << 24;
 pub const LEAST_UNIT: f32 = f32::from_bits(0x3a83_126f);
 
 /// Kinds of `compute`, their coordinates made whole.
-const SHARED: [&str; 30] = [
+const SHARED: [&str; 31] = [
     "closed",
     "several",
     "hole",
@@ -48,11 +48,12 @@ const SHARED: [&str; 30] = [
     "few",
     "medium",
     "rims",
+    "second_slopes",
 ];
 
 type Own = (&'static str, fn(&mut Random) -> Shape);
 
-const OWN: [Own; 11] = [
+const OWN: [Own; 12] = [
     ("boxes", boxes),
     ("tetrahedra", tetrahedra),
     ("open boxes", open_boxes),
@@ -63,6 +64,7 @@ const OWN: [Own; 11] = [
     ("flat", flat),
     ("wide", wide),
     ("on edges", on_edges),
+    ("thresholds", meshes::thresholds),
     ("large", large),
 ];
 

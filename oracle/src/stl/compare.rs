@@ -242,8 +242,8 @@ impl Count {
             "NaNs that stayed bit for bit in areas of vertices, signalling and quiet: {refused} on refusals, {behind} behind what \
              was read. NaNs that were read: {same} with the digits that they have in the file, {others} with others"
         );
-        let [counts, cells] = self.records.counted.told();
-        vec![self.files.told(), nans, self.records.stayed.told(), counts, cells]
+        let ([counts, cells], [first, ..]) = (self.records.counted.told(), self.records.editions.told());
+        vec![self.files.told(), nans, self.records.stayed.told(), counts, cells, first]
     }
 }
 

@@ -1,7 +1,8 @@
 //! The meshes that the crate `replay` holds, so that the gate has some of the Rust's answers without the Rust: those made
-//! by hand for document 01's examples, limits and orders, for what A1 and A3 count, A2 joins and A5 writes back and for A9's pairs, then
-//! of each kind the smallest and the one that reaches most.
+//! by hand for document 01's examples, limits and orders, for what A1 and A3 count, A2 joins, A5 writes back and A6 moves and for A9's
+//! pairs, then of each kind the smallest and the one that reaches most.
 
+mod editions;
 pub mod examples;
 mod faults;
 mod gloves;
@@ -64,6 +65,7 @@ pub fn by_hand() -> Vec<Stored> {
     touching::touches(&mut list);
     rims::rims(&mut list);
     patterns::patterns(&mut list);
+    editions::editions(&mut list);
     list.0
 }
 

@@ -54,12 +54,6 @@ fn near(depth: f32) -> Shape {
     plates
 }
 
-/// A triangle of whole numbers with a normal of this direction, and the same turned over.
-fn facing([a, b, c]: [i32; 3]) -> Shape {
-    let corners = [[0, 0, 0], [b, -a, 0], [c, 0, -a]].map(|corner| corner.map(|k| k as f32));
-    shape(&corners, "012 021")
-}
-
 /// A tetrahedron of separate corners, moved by so many cells of the weld, and one of the three corners at its right angle
 /// by another number. At the unit of `CELL` a cell is 2^-13.
 fn parted(cells: f32, one: f32) -> Shape {
@@ -95,7 +89,7 @@ pub fn thresholds(list: &mut List) {
         ("nz of 0.25, a half in the key", [540, 3929, 1024]),
         ("nz of 0.45, a half in the key once rounded", [580, 2524, 1305]),
     ] {
-        list.mesh("open_shell", name, &of(1.0, &facing(direction)));
+        list.mesh("open_shell", name, &of(1.0, &Shape::facing(direction)));
     }
 
     for (says, cells, one) in [

@@ -3,10 +3,11 @@
 
 use crate::ways::RIGHT;
 use mowfrost_oracle::compute::areas::{Areas, WORDS};
-use mowfrost_oracle::compute::compare::{is_zero_record, Call, Port, PORT, REFUSED};
-use mowfrost_oracle::file::{read, Flags, MeshFile};
+use mowfrost_oracle::compute::compare::{Call, Port, PORT, REFUSED};
+use mowfrost_oracle::file::{read, MeshFile};
 use mowfrost_oracle::linked::bits;
-use mowfrost_oracle::record::Lent;
+use mowfrost_oracle::record::{is_zero_record, Lent};
+use mowfrost_oracle::slopes::{areas_by, Slope};
 use mowfrost_oracle::stored::by_hand;
 
 pub const ORIGINAL: Port<'static> = &|call, areas, record| RIGHT.call(call, areas, record);
@@ -34,14 +35,15 @@ pub struct Given<'a> {
     pub record: &'a mut [u32; WORDS],
 }
 
+/// By their numbers; `compute` has no 6.
+const REFUSALS: [&str; 7] = ["refused 1", "refused 2", "refused 3", "refused 4", "refused 5", "refused 6", "refused 7"];
+
 impl Given<'_> {
     pub fn came_to(&self, mesh: &MeshFile) -> &'static str {
         match self.answer {
             0 if is_zero_record(mesh) => "zero record",
             0 => ["closed", "open", "degenerate"][self.record[0] as usize],
-            _ => {
-                ["refused 1", "refused 2", "refused 3", "refused 4", "refused 5"][(self.answer & !REFUSED) as usize - 1]
-            }
+            _ => REFUSALS[(self.answer & !REFUSED) as usize - 1],
         }
     }
 
@@ -61,6 +63,23 @@ pub fn with(fault: Fault<'_>) -> impl Fn(&Call, Areas, &mut [u32; WORDS]) -> u32
         let mut given = Given { answer, areas: Areas { vertices, ids, work, raster, surfaces }, record };
         fault(call.mesh, &mut given);
         given.answer
+    }
+}
+
+/// The port under another edition than the one that is named.
+pub fn taken_for(edition: impl Fn(&Call) -> u32) -> impl Fn(&Call, Areas, &mut [u32; WORDS]) -> u32 {
+    move |call, areas, record| BASE(&Call { edition: edition(call), ..*call }, areas, record)
+}
+
+/// The port with slopes by another rule under edition 2.
+pub fn by_slope(rule: fn(&MeshFile, f32) -> Slope) -> impl Fn(&Call, Areas, &mut [u32; WORDS]) -> u32 {
+    move |call, areas, record| {
+        let answer = BASE(call, areas, record);
+        if answer == 0 && call.edition == 2 && !is_zero_record(call.mesh) {
+            let MeshFile { unit, vertices, ids, .. } = call.mesh;
+            record[7..11].copy_from_slice(&bits(&areas_by(vertices, ids, *unit, |nz| rule(call.mesh, nz))));
+        }
+        answer
     }
 }
 
@@ -132,15 +151,14 @@ pub fn stored(name: &str) -> MeshFile {
     read(&stored.unwrap_or_else(|| panic!("none is named {name}")).bytes).expect("it can be read")
 }
 
-/// The record and the areas that a port leaves, over areas that held nothing: work, surfaces and raster.
-pub fn left(port: Port, mesh: &MeshFile) -> ([u32; WORDS], [Vec<u32>; 2], Vec<u8>) {
+/// The record and the areas that a port leaves under an edition, over areas that held nothing: work, surfaces and raster.
+pub fn left(port: Port, edition: u32, mesh: &MeshFile) -> ([u32; WORDS], [Vec<u32>; 2], Vec<u8>) {
     let exact = Lent::exactly(mesh.vertices.len(), mesh.ids.len());
     let (mut work, mut raster, mut surfaces) = (vec![0; exact.work], vec![0; exact.raster], vec![0; exact.surfaces]);
-    let (mut record, Flags { clip, defect }) = ([0; WORDS], mesh.flags);
-    let (mut vertices, mut ids) = (bits(&mesh.vertices), mesh.ids.clone());
+    let (mut record, mut vertices, mut ids) = ([0; WORDS], bits(&mesh.vertices), mesh.ids.clone());
     let (vertices, ids) = (&mut vertices[..], &mut ids[..]);
     let areas = Areas { vertices, ids, work: &mut work, raster: &mut raster, surfaces: &mut surfaces };
-    let answer = port(&Call { mesh, clip: clip as u32, defect: defect as u32 }, areas, &mut record);
+    let answer = port(&Call::of(mesh, edition), areas, &mut record);
     assert_eq!(answer, 0);
     (record, [work, surfaces], raster)
 }

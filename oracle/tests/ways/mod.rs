@@ -1,9 +1,9 @@
-//! Ports written for the tests: document 01 over the original, right or with one mistake.
+//! Ports written for the tests: documents 01 and 02 over the original, right or with one mistake.
 
 use mowfrost_oracle::compute::areas::{Areas, WORDS};
-use mowfrost_oracle::compute::compare::{is_zero_record, words, Call, REFUSED};
+use mowfrost_oracle::compute::compare::{words, Call, REFUSED};
 use mowfrost_oracle::file::{Flags, MeshFile};
-use mowfrost_oracle::record::{compute, Answer, Lent, Record};
+use mowfrost_oracle::record::{compute_under, is_zero_record, Answer, Lent, Record};
 
 /// A port in document 01's words over the original, with one thing of it open.
 pub struct Way {
@@ -48,7 +48,7 @@ impl Way {
         if let Some(refusal) = (self.first)(&mesh, lent) {
             return REFUSED | refusal;
         }
-        let mut right = match compute(&mesh, (self.asked)(&mesh, lent)) {
+        let mut right = match compute_under(&mesh, call.edition, (self.asked)(&mesh, lent)) {
             Answer::Refused(refusal) => return REFUSED | refusal,
             Answer::Record(right, _) => right,
         };

@@ -34,7 +34,7 @@ STORES = {
 NAMED = {
     ("qto", "compute", "surfaces"): [
         "surfaces.len(),",
-        "let t = full(vertices, indices, unit_scale, edition, work, raster, surfaces);",
+        "surfaces,",
     ],
     ("meshfile", "read", "vertices"): [
         "let found = read_ids(bytes, vertices.len(), ids);",

@@ -227,7 +227,7 @@ pub fn compute(
         Check::Refuse(n) => Answer::Refused(n),
         Check::Zero => Answer::Record(zero_takeoff()),
         Check::Full => {
-            let t = full(
+            Answer::Record(full(
                 vertices,
                 indices,
                 unit_scale,
@@ -235,8 +235,7 @@ pub fn compute(
                 work,
                 raster,
                 surfaces,
-            );
-            Answer::Record(t)
+            ))
         }
     }
 }

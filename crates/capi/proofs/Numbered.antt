@@ -48,6 +48,9 @@ words-of-answer Check.Full clip defect t words = refl
 -- ---- the contract of mf_compute
 
 module _ (vs : List Float) (ids : List ℕ) (u : Float) (e clip defect : ℕ) (w r : List ℕ) (s : List Float) (words : List ℕ) where
+  abbrev made-of : Takeoff
+  made-of = takeoffOf vs ids u (thresholdsOf e)
+
   abbrev said : Check
   said = checkOf vs ids u e (length w) (length r) (length s)
 
@@ -58,14 +61,14 @@ module _ (vs : List Float) (ids : List ℕ) (u : Float) (e clip defect : ℕ) (w
 
   -- by what the flags and the table of refusals say
   by-check : (c : Check) (n : ℕ) (w′ r′ : List ℕ) (s′ : List Float) (words′ : List ℕ) → c ≡ checkFlags clip defect said
-      → n ≡ numberAt c → words′ ≡ wordsAt c clip defect (takeoffOf vs ids u (thresholdsOf e)) words
+      → n ≡ numberAt c → words′ ≡ wordsAt c clip defect made-of words
       → w′ ≡ areaAt c (cleared (workWords (length vs) (length ids)) w) w → r′ ≡ areaAt c (cleared rasterBytes r) r
       → s′ ≡ areaAt c (surfacesAfter vs ids u s) s
       → ComputesNumbered vs ids u e clip defect w r s words n w′ r′ s′ words′
   by-check c n w′ r′ s′ words′ is hn hwords hw hr hs =
       record {
         number = hn ∙ ap numberAt is;
-        record-words = hwords ∙ ap (λ (d : Check). wordsAt d clip defect (takeoffOf vs ids u (thresholdsOf e)) words) is;
+        record-words = hwords ∙ ap (λ (d : Check). wordsAt d clip defect made-of words) is;
         work = hw ∙ ap (λ (d : Check). areaAt d (cleared (workWords (length vs) (length ids)) w) w) is;
         raster = hr ∙ ap (λ (d : Check). areaAt d (cleared rasterBytes r) r) is;
         surfaces = hs ∙ ap (λ (d : Check). areaAt d (surfacesAfter vs ids u s) s) is;
@@ -84,8 +87,8 @@ module _ (vs : List Float) (ids : List ℕ) (u : Float) (e clip defect : ℕ) (w
         → ComputesNumbered vs ids u e clip defect w r s words n w′ r′ s′ words′
     numbered n words′ hn hwords =
         by-check said n w′ r′ s′ words′ (fit false t is h)
-        (hn ∙ ap answerNumber (made .answers) ∙ number-of-answer said (takeoffOf vs ids u (thresholdsOf e)))
-        (hwords ∙ ap (answerWords clip defect words) (made .answers) ∙ words-of-answer said clip defect (takeoffOf vs ids u (thresholdsOf e)) words)
+        (hn ∙ ap answerNumber (made .answers) ∙ number-of-answer said made-of)
+        (hwords ∙ ap (answerWords clip defect words) (made .answers) ∙ words-of-answer said clip defect made-of words)
         (made .work) (made .raster) (made .surfaces)
 
     -- a record fills the words

@@ -53,17 +53,14 @@ module _ (y : Float) (p : T (plus y)) where
       → AreasMove (onSlope s y a) (onSlope s′ y a′)
   unfolding MayBecome onSlope
   facet-moves Slope.Top s′ e a a′ g g′ m =
-      rw e (record { top = rises (a .top) (a′ .top) (g .top) (g′ .top) (m .top); bottom = m .bottom; side = m .side; inclined = m .inclined })
+      let risen = rises (a .top) (a′ .top) (g .top) (g′ .top) (m .top) in
+      rw e (record { top = risen; bottom = m .bottom; side = m .side; inclined = m .inclined })
   facet-moves Slope.Bottom s′ e a a′ g g′ m =
-      rw e
-      (record {
-        top = m .top;
-        bottom = rises (a .bottom) (a′ .bottom) (g .bottom) (g′ .bottom) (m .bottom);
-        side = m .side;
-        inclined = m .inclined;
-      })
+      let risen = rises (a .bottom) (a′ .bottom) (g .bottom) (g′ .bottom) (m .bottom) in
+      rw e (record { top = m .top; bottom = risen; side = m .side; inclined = m .inclined })
   facet-moves Slope.Side s′ e a a′ g g′ m =
-      rw e (record { top = m .top; bottom = m .bottom; side = rises (a .side) (a′ .side) (g .side) (g′ .side) (m .side); inclined = m .inclined })
+      let risen = rises (a .side) (a′ .side) (g .side) (g′ .side) (m .side) in
+      rw e (record { top = m .top; bottom = m .bottom; side = risen; inclined = m .inclined })
   facet-moves Slope.Inclined s′ e a a′ g g′ m = go s′
     where
       less : T (le (a′ .inclined) (a .inclined ⊕ y))

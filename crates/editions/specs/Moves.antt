@@ -1,5 +1,5 @@
--- What the edition does to the four areas: from 1 to 2 the inclined area never grows, and top, bottom and side never shrink, in the record's
--- own f32 numbers.
+-- What the edition does to the four areas: from 1 to 2 the inclined area never grows, and top, bottom and side never shrink, in the
+-- record's own f32 numbers.
 use mathlib.Core.List.{List}
 use Prim.Native.Nat.{ℕ}
 use lib.Dec.{T}

@@ -20,7 +20,8 @@ use Rattle.place.specs.Numbered.{SameOwed, NumberedDoesNotShow}
 use Rattle.place.proofs.Record.{surfaces-stay}
 use Rattle.place.proofs.Place.{check-stays, takeoffs-agree}
 
-module _ (dx dy dz : ℤ) (vs vs′ : List Float) (ids : List ℕ) (u : Float) (e : ℕ) (m : Moved dx dy dz vs vs′) (enough : T (unitEnough u)) where
+module _ (dx dy dz : ℤ) (vs vs′ : List Float) (ids : List ℕ) (u : Float) (e : ℕ) (m : Moved dx dy dz vs vs′)
+    (enough : T (unitEnough u)) where
   -- with the same flags
   flagged-agree : (clip defect : ℕ) → Passes vs ids u e → (p : Thresholds)
       → Beside AgreeRecords (withFlags clip defect (takeoffOf vs ids u p)) (withFlags clip defect (takeoffOf vs′ ids u p))

@@ -28,7 +28,8 @@ module _ (dx dy dz : ℤ) (vs vs′ : List Float) (m : Moved dx dy dz vs vs′) 
       ≡ cleared (workWords (length vs) (length ids)) area
   work-stays ids area = rw (m .lengths)
 
-module _ (dx dy dz : ℤ) (vs vs′ : List Float) (ids : List ℕ) (u : Float) (e : ℕ) (m : Moved dx dy dz vs vs′) (enough : T (unitEnough u)) where
+module _ (dx dy dz : ℤ) (vs vs′ : List Float) (ids : List ℕ) (u : Float) (e : ℕ) (m : Moved dx dy dz vs vs′)
+    (enough : T (unitEnough u)) where
   -- whatever the edition's thresholds are
   pub takeoffs-agree : Passes vs ids u e → (p : Thresholds) → Beside AgreeRecords (takeoffOf vs ids u p) (takeoffOf vs′ ids u p)
   takeoffs-agree h p =
@@ -50,4 +51,5 @@ module _ (dx dy dz : ℤ) (vs vs′ : List Float) (ids : List ℕ) (u : Float) (
 
 pub place-does-not-show : PlaceDoesNotShow
 place-does-not-show dx dy dz vs vs′ ids u e w r s a a′ w₁ w₂ r₁ r₂ s₁ s₂ m enough c c′ =
-    outcomes-agree (Beside AgreeRecords) SameArea vs vs′ ids ids u e e s (alike dx dy dz vs vs′ ids u e m enough s) w r a a′ w₁ w₂ r₁ r₂ s₁ s₂ c c′
+    outcomes-agree (Beside AgreeRecords) SameArea vs vs′ ids ids u e e s (alike dx dy dz vs vs′ ids u e m enough s) w r a a′ w₁ w₂ r₁ r₂
+    s₁ s₂ c c′

@@ -27,7 +27,8 @@ use Rattle.program.specs.Program.{namedEdition, listed, textAt, meshText
 
 -- ---- a record counts its rows, and they stand first
 
-counts-rows : (vs : List Float) (ids : List ℕ) (u : Float) (p : Thresholds) → recordOf vs ids u p .«surface_count» ≡ length (surfaceRows vs ids u)
+counts-rows : (vs : List Float) (ids : List ℕ) (u : Float) (p : Thresholds)
+    → recordOf vs ids u p .«surface_count» ≡ length (surfaceRows vs ids u)
 unfolding recordOf recordBy recordFrom measures measuresFrom
 counts-rows vs ids u p = refl
 
@@ -46,14 +47,19 @@ answerRows (Answer.Record t) = t .qto .«surface_count»
 answerRows (Answer.Refused n) = 0
 
 module _ (vs : List Float) (ids : List ℕ) (u : Float) (clip : Bool) (profile : Profile) (s : List Float) where
-  text-by : (c : Check) → answerText ids clip profile (areaAt c (surfacesAfter vs ids u s) s) (answerAt c (takeoffOf vs ids u (thresholdsOf namedEdition)))
+  abbrev made-of : Takeoff
+  made-of = takeoffOf vs ids u (thresholdsOf namedEdition)
+
+  text-by : (c : Check) → answerText ids clip profile (areaAt c (surfacesAfter vs ids u s) s) (answerAt c made-of)
       ≡ textAt c vs ids u clip profile
   unfolding answerText answerAt areaAt surfacesAfter takeoffOf textAt listed rowsOf
   text-by (Check.Refuse n) = refl
   text-by Check.Zero = refl
-  text-by Check.Full = rw (counts-rows vs ids u (thresholdsOf namedEdition), rows-first (surfaceRows vs ids u) (drop (4 * length (surfaceRows vs ids u)) s))
+  text-by Check.Full =
+      let rows = surfaceRows vs ids u in
+      rw (counts-rows vs ids u (thresholdsOf namedEdition), rows-first rows (drop (4 * length rows) s))
 
-  rows-by : (c : Check) → 4 * answerRows (answerAt c (takeoffOf vs ids u (thresholdsOf namedEdition))) ≤ length (areaAt c (surfacesAfter vs ids u s) s)
+  rows-by : (c : Check) → 4 * answerRows (answerAt c made-of) ≤ length (areaAt c (surfacesAfter vs ids u s) s)
   unfolding answerRows answerAt areaAt surfacesAfter takeoffOf
   rows-by (Check.Refuse n) = omega arith
   rows-by Check.Zero = omega arith

@@ -43,12 +43,15 @@ cube-file : fileOf (plainFile cubeFile) ≡ File.Holds cubeFile
 unfolding cubeFile plainFile chunkOf allBytes bytesOf fileOf frontOf u16At u32At wordsIn lengthFits unitIn verticesIn idsIn ended endingOf
 cube-file = refl
 
-cube-passes : checkOf (floatsOf (cubeFile .vertices)) (cubeFile .ids) (ofBits binary32 (cubeFile .unit)) namedEdition 13824 65536 2048 ≡ Check.Full
+cube-passes : checkOf (floatsOf (cubeFile .vertices)) (cubeFile .ids) (ofBits binary32 (cubeFile .unit)) namedEdition 13824 65536 2048
+    ≡ Check.Full
 unfolding cubeFile floatsOf checkOf unitFits editionKnown allFine magnitude le lt eq ofBits ofFields
 cube-passes = refl
 
-cube-record : recordOf (floatsOf (cubeFile .vertices)) (cubeFile .ids) (ofBits binary32 (cubeFile .unit)) (thresholdsOf namedEdition) ≡ cubeRecord
-unfolding cubeFile thresholdsOf floatsOf cubeRecord recordOf recordBy recordFrom verdict measures measuresFrom volumeOf surfaceOf totals totalsTo
+cube-record : recordOf (floatsOf (cubeFile .vertices)) (cubeFile .ids) (ofBits binary32 (cubeFile .unit)) (thresholdsOf namedEdition)
+    ≡ cubeRecord
+unfolding thresholdsOf
+    cubeFile floatsOf cubeRecord recordOf recordBy recordFrom verdict measures measuresFrom volumeOf surfaceOf totals totalsTo
     withPart withFacet onSlope slopeOf part partOf cornersInRange inRange rebased normal size tetra facetOf triangle boxTo lowest
     highest boxVolume extent quality tooLarge nearZero byChain byFaces boundaryFree overIncident enough chain step around sameEdge
     present unbalanced crowded keysThat keys counting uses signedSum bit sumBy maxBy distinct overTriangles best bestOf buckets

@@ -55,8 +55,8 @@ module _ (m : Contents) (vertices : List ℕ) where
       records =
           flags-keep (eqb (m .clip) 1) (profileAt (m .defect)) (recordOf (meshFloats m) (m .ids) (meshUnit m) (thresholdsOf namedEdition))
           (recordOf (meshFloats m′) (m .ids) (meshUnit m) (thresholdsOf namedEdition))
-          (records-agree dx dy dz (meshFloats m) (meshFloats m′) moved (mesh .floats-least) (m .ids) (meshUnit m) (thresholdsOf namedEdition)
-          enough (mesh .unit))
+          (records-agree dx dy dz (meshFloats m) (meshFloats m′) moved (mesh .floats-least) (m .ids) (meshUnit m)
+          (thresholdsOf namedEdition) enough (mesh .unit))
 
     abbrev textBy : Check → Contents → List ℕ
     textBy k c = textAt k (meshFloats c) (c .ids) (meshUnit c) (eqb (c .clip) 1) (profileAt (c .defect))

@@ -55,7 +55,8 @@ unfolding answerAt
 of-record P vs ids u e w r s zero-has full-has {a} {w′} {r′} {s′} {t} c is =
     go (checkOf vs ids u e (length w) (length r) (length s)) refl (sym (c .answers) ∙ is)
   where
-    go : (k : Check) → k ≡ checkOf vs ids u e (length w) (length r) (length s) → answerAt k (takeoffOf vs ids u (thresholdsOf e)) ≡ Answer.Record t → P t
+    go : (k : Check) → k ≡ checkOf vs ids u e (length w) (length r) (length s)
+        → answerAt k (takeoffOf vs ids u (thresholdsOf e)) ≡ Answer.Record t → P t
     go (Check.Refuse n) k h = let no : _≡_ {A = ℕ} 0 1 = cc in absurd (omega arith)
     go Check.Zero k h = let same : zeroTakeoff ≡ t = cc in subst P same zero-has
     go Check.Full k h =

@@ -1,5 +1,5 @@
-// `compute`: the takeoff of one mesh under an edition of the slope rule. It answers or refuses by the documents' table. The record comes by value, and beside it the pairs of
-// its footprints; the surface rows stand in the lent surface area.
+// `compute`: the takeoff of one mesh under an edition of the slope rule. It answers or refuses by the documents' table. The record comes by
+// value, and beside it the pairs of its footprints; the surface rows stand in the lent surface area.
 ghost use mathlib.Core.Path.{_≡_};
 ghost use lib.ListN.{length};
 ghost use Rattle.refusals.specs.inner.Admitted.{Admitted};
@@ -156,7 +156,8 @@ fn full(
     raster: &mut [u8],
     surfaces: &mut [f32],
 ) -> Takeoff
-    requires { ⌜ Admitted (now vertices) (now indices) «unit_scale» edition (length (now work)) (length (now raster)) (length (now surfaces)) ⌝ }
+    requires { ⌜ Admitted (now vertices) (now indices) «unit_scale» edition
+        (length (now work)) (length (now raster)) (length (now surfaces)) ⌝ }
     ensures { λ r. ⌜ Recorded (now (vertices .entry)) (now (indices .entry)) «unit_scale» edition
         (now (work .entry)) (now (raster .entry)) (now (surfaces .entry))
         r (now (work .exit)) (now (raster .exit)) (now (surfaces .exit)) ⌝ }

@@ -1,8 +1,9 @@
 // Runs the meshes of data/meshes, each a u32 length and so many bytes of the program's format, and prints for each what
 // `takeoff` prints, and a line with what the routines on ids say of its ids, what `compute` says to a work area that is one word
-// short, under edition 1 and under one that is unknown, the pairs of its footprints, and its areas by slope under edition 2; and a line with what `write` makes of what was read. Then what `write` says to too much, and
-// the files of data/mounts, in the same framing, each a binary STL: what `takeoff_stl` prints. The gate holds this to `stdout`: the
-// unchanged Rust's answers, and a plain reference's where the Rust has none (docs/DIFFERENCES.md says how).
+// short, under edition 1 and under one that is unknown, the pairs of its footprints, and its areas by slope under edition 2; and a
+// line with what `write` makes of what was read. Then what `write` says to too much, and the files of data/mounts, in the same
+// framing, each a binary STL: what `takeoff_stl` prints. The gate holds this to `stdout`: the unchanged Rust's answers, and a plain
+// reference's where the Rust has none (docs/DIFFERENCES.md says how).
 ghost use Prim.Native.Nat.{_≤_};
 ghost use lib.ListN.{length};
 use chain::EdgeChain;
@@ -100,6 +101,23 @@ fn print_short(label: &[u8], vertices: &[f32], ids: &[u32], unit: f32, edition: 
     }
 }
 
+// ---- in areas that suffice, under an edition
+
+fn answer_under(edition: u32, vertices: &[f32], ids: &[u32], unit: f32) -> Answer {
+    let mut work = [0u32; 13824];
+    let mut raster = [0u8; 65536];
+    let mut surfaces = [0f32; 2048];
+    qto::compute(
+        vertices,
+        ids,
+        unit,
+        edition,
+        &mut work,
+        &mut raster,
+        &mut surfaces,
+    )
+}
+
 // ---- the pairs
 
 fn print_pair(p: Pair) {
@@ -109,18 +127,7 @@ fn print_pair(p: Pair) {
 
 // Of the z, y and x footprints; a refusal has none.
 fn print_pairs(vertices: &[f32], ids: &[u32], unit: f32) {
-    let mut work = [0u32; 13824];
-    let mut raster = [0u8; 65536];
-    let mut surfaces = [0f32; 2048];
-    let answer = qto::compute(
-        vertices,
-        ids,
-        unit,
-        1,
-        &mut work,
-        &mut raster,
-        &mut surfaces,
-    );
+    let answer = answer_under(1, vertices, ids, unit);
     match answer {
         Answer::Record(t) => {
             let pairs = t.pairs;
@@ -141,18 +148,7 @@ fn print_area(area: f32) {
 
 // Their bits: top, bottom, side, inclined; a refusal has none.
 fn print_second(vertices: &[f32], ids: &[u32], unit: f32) {
-    let mut work = [0u32; 13824];
-    let mut raster = [0u8; 65536];
-    let mut surfaces = [0f32; 2048];
-    let answer = qto::compute(
-        vertices,
-        ids,
-        unit,
-        2,
-        &mut work,
-        &mut raster,
-        &mut surfaces,
-    );
+    let answer = answer_under(2, vertices, ids, unit);
     match answer {
         Answer::Record(t) => {
             let q = t.qto;

@@ -31,7 +31,8 @@ pub record Alike (R : Takeoff → Takeoff → Type 0) (S : Answer → List Float
   pub zero-record : R zeroTakeoff zeroTakeoff
   pub zero-rows : S (Answer.Record zeroTakeoff) s s
   pub full : Passes vs ids u e → R (takeoffOf vs ids u (thresholdsOf e)) (takeoffOf vs′ ids′ u (thresholdsOf e′))
-  pub full-rows : Passes vs ids u e → S (Answer.Record (takeoffOf vs ids u (thresholdsOf e))) (surfacesAfter vs ids u s) (surfacesAfter vs′ ids′ u s)
+  pub full-rows : Passes vs ids u e
+      → S (Answer.Record (takeoffOf vs ids u (thresholdsOf e))) (surfacesAfter vs ids u s) (surfacesAfter vs′ ids′ u s)
 
 -- with one verdict the pairs agree, whatever the prisms' are
 pub same-verdict-pairs : (q q′ : Quality) (p p′ : Pairs) → q′ ≡ q → AgreePairs q (pairsOf q p) (pairsOf q′ p′)

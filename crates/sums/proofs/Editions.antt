@@ -1,5 +1,6 @@
--- The pair of thresholds of an edition, by its number; and from a pair to one that leaves less inclined only what is inclined moves: what was
--- above the higher first threshold is above the lower, and a side by the lower second one is below the first in magnitude. Assumes nothing.
+-- The pair of thresholds of an edition, by its number; and from a pair to one that leaves less inclined only what is inclined moves: what
+-- was above the higher first threshold is above the lower, and a side by the lower second one is below the first in magnitude. Assumes
+-- nothing.
 use mathlib.Core.Path.{_≡_, refl, sym, subst, _∙_}
 use mathlib.Core.Bool.{Bool, true, false, _&&_, cond, false≢true}
 use mathlib.Core.Logic.{_≢_}
@@ -78,8 +79,8 @@ unfolding slopeOf le lt eq neg magnitude ofBits
 edition-moves =
     record {
       less = record { top = tt; side = tt; apart = tt; from-zero = tt };
-      to-top = (refl, refl);
-      to-bottom = (refl, refl);
-      to-side = (refl, refl);
-      stays = (refl, refl);
+      to-top = record { first = refl; second = refl };
+      to-bottom = record { first = refl; second = refl };
+      to-side = record { first = refl; second = refl };
+      stays = record { first = refl; second = refl };
     }

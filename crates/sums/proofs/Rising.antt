@@ -1,5 +1,5 @@
--- Sums of numbers from zero up rise: with a larger summand, and above each summand of its own format; so do products by a number above zero.
--- Assumes nothing.
+-- Sums of numbers from zero up rise: with a larger summand, and above each summand of its own format; so do products by a number above
+-- zero. Assumes nothing.
 use mathlib.Core.Path.{refl, subst}
 use mathlib.Core.Bool.{true, false}
 use Prim.Native.Nat.{ℕ, zero, suc, _+_, _*_, _≤_}

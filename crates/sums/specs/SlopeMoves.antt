@@ -27,11 +27,15 @@ MayBecome Slope.Inclined s = Unit {0}
 abbrev pub SlopesMove : Type 0
 SlopesMove = (p p′ : Thresholds) → LessInclined p p′ → (z : Float) → MayBecome (slopeOf p z) (slopeOf p′ z)
 
+-- under edition 1 and under edition 2
+pub record Becomes (z : Float) (from to : Slope) : Type 0 where
+  pub first : slopeOf edition1 z ≡ from
+  pub second : slopeOf edition2 z ≡ to
+
 -- the editions are such pairs, and each move does occur: a z of 0.9 becomes top, -0.9 bottom, 0.4 side, and 0.6 stays (`edition-moves`)
 pub record EditionMoves : Type 0 where
   pub less : LessInclined edition1 edition2
-  pub to-top : (slopeOf edition1 (ofBits binary32 0x3f66_6666) ≡ Slope.Inclined) × (slopeOf edition2 (ofBits binary32 0x3f66_6666) ≡ Slope.Top)
-  pub to-bottom : (slopeOf edition1 (ofBits binary32 0xbf66_6666) ≡ Slope.Inclined)
-      × (slopeOf edition2 (ofBits binary32 0xbf66_6666) ≡ Slope.Bottom)
-  pub to-side : (slopeOf edition1 (ofBits binary32 0x3ecc_cccd) ≡ Slope.Inclined) × (slopeOf edition2 (ofBits binary32 0x3ecc_cccd) ≡ Slope.Side)
-  pub stays : (slopeOf edition1 (ofBits binary32 0x3f19_999a) ≡ Slope.Inclined) × (slopeOf edition2 (ofBits binary32 0x3f19_999a) ≡ Slope.Inclined)
+  pub to-top : Becomes (ofBits binary32 0x3f66_6666) Slope.Inclined Slope.Top
+  pub to-bottom : Becomes (ofBits binary32 0xbf66_6666) Slope.Inclined Slope.Bottom
+  pub to-side : Becomes (ofBits binary32 0x3ecc_cccd) Slope.Inclined Slope.Side
+  pub stays : Becomes (ofBits binary32 0x3f19_999a) Slope.Inclined Slope.Inclined

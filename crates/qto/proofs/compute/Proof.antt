@@ -25,15 +25,15 @@ returns : tie.Need-returns
 returns c =
     let k = c .before .before .before in
     let a = start k .args in
-    refused (a .vertices .now) (a .indices .now) (a .unit-scale) (a .edition) (a .work .now) (a .raster .now) (a .surfaces .now) (k .checked .result)
-    (k .checked .ensures) _ (c .before .c .given .1)
+    refused (a .vertices .now) (a .indices .now) (a .unit-scale) (a .edition) (a .work .now) (a .raster .now) (a .surfaces .now)
+    (k .checked .result) (k .checked .ensures) _ (c .before .c .given .1)
 
 returns-2 : tie.Need-returns-2
 returns-2 c =
     let k = c .before .before .before in
     let a = start k .args in
-    zero (a .vertices .now) (a .indices .now) (a .unit-scale) (a .edition) (a .work .now) (a .raster .now) (a .surfaces .now) (k .checked .result)
-    (k .checked .ensures) _ (c .before .enum-told .given .1) (c .zero-takeoff .ensures)
+    zero (a .vertices .now) (a .indices .now) (a .unit-scale) (a .edition) (a .work .now) (a .raster .now) (a .surfaces .now)
+    (k .checked .result) (k .checked .ensures) _ (c .before .enum-told .given .1) (c .zero-takeoff .ensures)
 
 returns-3 : tie.Need-returns-3
 returns-3 c =
@@ -41,8 +41,8 @@ returns-3 c =
     let told = done .before .before .before .before in
     let k = told .before .before in
     let a = start k .args in
-    full (a .vertices .now) (a .indices .now) (a .unit-scale) (a .edition) (a .work .now) (a .raster .now) (a .surfaces .now) (k .checked .result)
-    (k .checked .ensures) (told .enum-told2 .given .1) (done .full .ensures)
+    full (a .vertices .now) (a .indices .now) (a .unit-scale) (a .edition) (a .work .now) (a .raster .now) (a .surfaces .now)
+    (k .checked .result) (k .checked .ensures) (told .enum-told2 .given .1) (done .full .ensures)
 
 pub compute-spec : {M : Type 1} → statement M
 compute-spec =

@@ -103,8 +103,8 @@ returns c =
     let q = done .record-by in
     let r = m .measure in
     record {
-      is = of-mesh (a .vertices .now) (a .indices .now) (a .unit-scale) (thresholdsOf (a .edition)) (r .result) (q .result) (r .ensures .is) (q .ensures .is)
-          (q .ensures .pairs-are);
+      is = of-mesh (a .vertices .now) (a .indices .now) (a .unit-scale) (thresholdsOf (a .edition)) (r .result) (q .result) (r .ensures .is)
+          (q .ensures .is) (q .ensures .pairs-are);
       work =
           front-cleared (words b) _ (measured m) (q .last .1 .1 .1 .1 .1 .0) (sized k .work-words .ensures) (q .ensures .work)
           ∙ cleared-back (words b) (index b) (a .work .now) (r .last .1 .1 .1 .1 .1 .0) (index-within b)

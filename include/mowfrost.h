@@ -104,8 +104,8 @@ uint32_t mf_pieces(const uint32_t *ids, size_t ids_len, uint32_t *work, size_t w
  * edition's first number it is top, below its negative bottom, with a magnitude under the second side, else inclined.
  * Just on a number it is inclined. The numbers are the f32 nearest to these:
  *
- *   edition 1  0.940 and 0.342: up to about 19.9 degrees from level, 20.0 from upright. Old contracts keep it
- *   edition 2  0.866 and 0.5: up to about 30.0 degrees from level, 30 from upright. The rule of 2027, for new contracts
+ *   edition 1  0.940 and 0.342: within 19.95 degrees of level, 20.00 of upright. Old contracts keep it
+ *   edition 2  0.866 and 0.5: within 30.00 degrees of level, 30.00 of upright. The rule of 2027, for new contracts
  *
  * What is top, bottom or side under edition 1 is the same under 2: only what is inclined can move. So under 2 word 10 is
  * no greater than under 1, and words 7 to 9 are no less. All other words and the rows are the same under both.

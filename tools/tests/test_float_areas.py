@@ -34,7 +34,7 @@ STORES = {
 NAMED = {
     ("qto", "compute", "surfaces"): [
         "surfaces.len(),",
-        "surfaces,",
+        "surfaces,",  # of the call that the next test holds
     ],
     ("meshfile", "read", "vertices"): [
         "let found = read_ids(bytes, vertices.len(), ids);",
@@ -82,6 +82,11 @@ class Stores(unittest.TestCase):
             _, body = functions()[crate, function]
             lines = [line.strip() for line in body.splitlines() if re.search(rf"\b{area}\b", line)]
             self.assertEqual(lines, named)
+
+    def test_only_a_full_record_lends_the_surface_area_on(self) -> None:
+        _, body = functions()["qto", "compute"]
+        arm = "Check::Full=>{Answer::Record(full(vertices,indices,unit_scale,edition,work,raster,surfaces,))}"
+        self.assertIn(arm, re.sub(r"\s", "", body))
 
     def test_the_centres_are_no_callers(self) -> None:
         calls = [

@@ -1,5 +1,5 @@
--- From a pair of thresholds to one that leaves less inclined: facet by facet the inclined area is no larger and the other three are no
--- smaller, since a sum of numbers from zero up rises with each summand and is above what it was. Assumes nothing.
+-- From a pair of thresholds to one that leaves no more inclined: facet by facet the inclined area is no larger and the other three are no
+-- smaller, since a sum of areas falls neither with a larger summand nor with one more. Assumes nothing.
 use mathlib.Core.Path.{_≡_, refl}
 use mathlib.Core.List.{List}
 use Prim.Native.Nat.{ℕ, zero, suc}
@@ -15,7 +15,7 @@ use Rattle.sums.specs.declared.totals.Slope.{Slope}
 use Rattle.sums.specs.declared.totals.Thresholds.{Thresholds}
 use Rattle.sums.specs.declared.totals.Totals.{Totals}
 use Rattle.sums.specs.Box.{box, origin}
-use Rattle.sums.specs.SlopeMoves.{LessInclined, MayBecome}
+use Rattle.sums.specs.SlopeMoves.{NoMoreInclined, MayBecome}
 use Rattle.sums.specs.Facet.{Part, outOfRange, sliver, used, part}
 use Rattle.sums.specs.Fine.{allFine}
 use Rattle.sums.specs.Totals.{noTotals, onSlope, slopeOf, totalsTo, withFacet, withPart}
@@ -28,7 +28,7 @@ use Rattle.walk.specs.Domain.{EachArea}
 use Rattle.walk.proofs.Finite.{each-next}
 use Rattle.editions.specs.Moves.{AreasMove}
 
--- ---- what every area is: a number of f32 from zero up
+-- ---- what every area is: of f32, and not below zero, nor -0
 
 pub record Area (x : Float) : Type 0 where
   pub from : T (plus x)
@@ -99,7 +99,7 @@ none-gathered =
       moves = record { top = zero-least; bottom = zero-least; side = zero-least; inclined = zero-least };
     }
 
-module _ (p p′ : Thresholds) (h : LessInclined p p′) where
+module _ (p p′ : Thresholds) (h : NoMoreInclined p p′) where
   facet-gathered : (t t′ : Totals) (f : Facet) → T (plus (f .area32)) → Gathered t t′ → Gathered (withFacet p t f) (withFacet p′ t′ f)
   unfolding withFacet
   facet-gathered t t′ f from g =

@@ -1,5 +1,5 @@
--- So volume, surface, verdict, best volume and pairs are the same by any two pairs of thresholds, and what the surfaces and the counts are
--- made of never asked for one. Assumes nothing.
+-- Volume, surface, verdict, best volume and pairs are the same by any two pairs of thresholds, since both sums are; what the surfaces and
+-- the counts are made of never asks for one. Assumes nothing.
 use mathlib.Core.Path.{_≡_}
 use mathlib.Core.List.{List}
 use Prim.Native.Nat.{ℕ}

@@ -11,7 +11,7 @@ use Rattle.ieee.specs.Single.{nought}
 use Rattle.ids.specs.Reversed.{reversed}
 use Rattle.ids.proofs.Reversed.{reversed-is}
 use Rattle.sums.specs.declared.totals.Thresholds.{Thresholds}
-use Rattle.sums.specs.Editions.{edition1, edition2, thresholdsOf}
+use Rattle.sums.specs.Editions.{thresholds1, thresholds2, thresholdsOf}
 use Rattle.rows.specs.Rows.{rowsOf, sorted}
 use Rattle.rows.specs.Opposite.{oppositeRows, areasOf}
 use Rattle.record.specs.Record.{zeroRecord}
@@ -51,7 +51,7 @@ top-enough : (e : ℕ) → T (le nought (thresholdsOf e .top))
 unfolding thresholdsOf
 top-enough e = go (eqb e 2)
   where
-    go : (b : Bool) → T (le nought (cond b edition2 edition1 .top))
+    go : (b : Bool) → T (le nought (cond b thresholds2 thresholds1 .top))
     go true = unfold le ofBits in tt
     go false = unfold le ofBits in tt
 

@@ -1,10 +1,8 @@
 -- The glove for the C interface, from that for the record: the words are made of the record. Assumes nothing.
 use mathlib.Core.Path.{_≡_, refl}
-use mathlib.Core.Bool.{Bool, false}
+use mathlib.Core.Bool.{Bool}
 use mathlib.Core.List.{List}
-use Prim.Native.Nat.{ℕ, _+_}
-use native.Mathlib.Omega.{arith}
-use borrow.Author.Tests.{ne-eqb}
+use Prim.Native.Nat.{ℕ}
 use lib.Dec.{T, eqb}
 use lib.Ieee.{Float, binary32, fits, ofBits}
 use lib.Ieee.Bits.{ofBits-toBits}
@@ -25,7 +23,7 @@ use Rattle.qto.specs.Numbers.{wordsOf, withFlags}
 use Rattle.road.specs.Agree.{Beside}
 use Rattle.road.specs.Replaced.{replaced}
 use Rattle.road.proofs.Outcomes.{zero-beside}
-use Rattle.road.proofs.Numbered.{AlikeNumbered, words-agree, flagged-pairs, numbered-agree}
+use Rattle.road.proofs.Numbered.{AlikeNumbered, words-agree, flagged-pairs, numbered-agree, refused-at}
 use Rattle.glove.specs.Turned.{turnedOver, volumeAsNumber, TurnedRecords, TurnedRows}
 use Rattle.glove.specs.Numbered.{volumeWordAsNumber, turnedWords, TurnedWordsBy, TurnedWords, TurnedAreaBy, TurnedNumberedArea}
 use Rattle.glove.specs.Numbered.{GloveNumbered}
@@ -89,9 +87,6 @@ module _ (clip defect : ℕ) where
   rows-for : (t : Takeoff) (s s′ : List Float) → TurnedRows (t .qto .«surface_count») s s′ → TurnedNumberedArea 0 (wordsOf (with t)) s s′
   unfolding TurnedAreaBy wordsOf
   rows-for t s s′ h = rw (flagged-count (eqb clip 1) (profileAt defect) (t .qto)) h
-
-refused-at : (n : ℕ) → eqb (0x8000_0000 + n) 0 ≡ false
-refused-at n = ne-eqb (0x8000_0000 + n) 0 (λ e. omega arith)
 
 full-fits : (vs : List Float) (ids : List ℕ) (u : Float) (p : Thresholds) → T (fits binary32 (takeoffOf vs ids u p .qto .«volume_m3»))
 unfolding takeoffOf

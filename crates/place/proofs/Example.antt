@@ -22,7 +22,7 @@ use Rattle.ids.specs.Triangles.{distinct, overTriangles, triangle}
 use Rattle.ids.specs.Uses.{bit, counting, keys, keysThat, largestSum, maxBy, signedSum, sumBy, uses}
 use Rattle.ieee.specs.Single.{extent}
 use Rattle.vertices.specs.Vertices.{cornersInRange, inRange}
-use Rattle.sums.specs.Editions.{edition1}
+use Rattle.sums.specs.Editions.{thresholds1}
 use Rattle.sums.specs.Box.{box, boxTo, boxVolume, highest, lowest}
 use Rattle.sums.specs.Facet.{facetOf, normal, part, partOf, rebased, size, tetra}
 use Rattle.sums.specs.Totals.{onSlope, slopeOf, totalsTo, withFacet, withPart}
@@ -113,7 +113,7 @@ moved-there : Moved (pos 16777214) (negsuc 16777215) (negsuc 6) (floats here) (f
 unfolding integersFit integers shift
 moved-there = integers-meet (pos 16777214) (negsuc 16777215) (negsuc 6) cornerPoints (pos 1 ∷ []) (negsuc 4 ∷ []) (lit≤ tt) refl tt tt
 
-closed-here : recordOf (floats here) tetrahedron millimetre edition1 .«mesh_quality» ≡ Quality.Closed
+closed-here : recordOf (floats here) tetrahedron millimetre thresholds1 .«mesh_quality» ≡ Quality.Closed
 unfolding integers floats tetrahedron recordOf recordBy recordFrom verdict measures measuresFrom volumeOf totals totalsTo withPart
     withFacet onSlope slopeOf part partOf cornersInRange inRange rebased normal size tetra facetOf triangle boxTo lowest highest
     boxVolume extent quality tooLarge nearZero byChain byFaces boundaryFree overIncident enough chain step around sameEdge present

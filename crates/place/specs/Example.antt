@@ -10,7 +10,7 @@ use lib.ListN.{length}
 use lib.Ieee.{Float, binary32, ofInt}
 use Rattle.ids.specs.Examples.{tetrahedron}
 use Rattle.sums.specs.Box.{box}
-use Rattle.sums.specs.Editions.{edition1}
+use Rattle.sums.specs.Editions.{thresholds1}
 use Rattle.cells.specs.Cells.{cellAt}
 use Rattle.weld.specs.Weld.{epsilonOf, inverse}
 use Rattle.verdict.specs.declared.Quality.{Quality}
@@ -68,7 +68,7 @@ there = integers (shift (pos 16777214) (negsuc 16777215) (negsuc 6) cornerPoints
 pub record RealMove : Type 0 where
   pub moved : Moved (pos 16777214) (negsuc 16777215) (negsuc 6) (floats here) (floats there)
   pub unit : T (unitEnough millimetre)
-  pub closed : recordOf (floats here) tetrahedron millimetre edition1 .«mesh_quality» ≡ Quality.Closed
+  pub closed : recordOf (floats here) tetrahedron millimetre thresholds1 .«mesh_quality» ≡ Quality.Closed
   -- what does show: a corner of the box, and the weld's cell of a vertex. So neither may come into the record or stay in an area
   pub corner-shows : box (floats there) .xmin ≢ box (floats here) .xmin
   pub cell-shows : cellAt (floats there) (inverse (epsilonOf distance millimetre)) 0 ≢ cellAt (floats here)

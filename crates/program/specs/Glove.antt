@@ -12,7 +12,7 @@ use Rattle.listing.specs.Listing.{listingOf}
 use Rattle.program.specs.Program.{checkMesh, textOf}
 use Rattle.program.specs.Place.{meshFloats, meshUnit, meshRecord, meshRows}
 
--- 01's table lets the mesh pass
+-- the table of checks lets the mesh pass
 abbrev pub IsFull : Contents → Type 0
 IsFull m = checkMesh (meshFloats m) (m .ids) (meshUnit m) ≡ Check.Full
 

@@ -40,7 +40,7 @@ meshRecord m = flagged (eqb (m .clip) 1) (profileAt (m .defect)) (recordOf (mesh
 abbrev pub meshRows : Contents → List PlanarSurface
 meshRows m = surfaceRows (meshFloats m) (m .ids) (meshUnit m)
 
--- 01's table lets it pass, and its verdict is open
+-- the table of checks lets it pass, and its verdict is open
 pub record IsOpen (m : Contents) : Type 0 where
   pub passes : checkMesh (meshFloats m) (m .ids) (meshUnit m) ≡ Check.Full
   pub verdict : meshRecord m .«mesh_quality» ≡ Quality.OpenShell

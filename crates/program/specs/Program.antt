@@ -37,8 +37,8 @@ textAt (Check.Refuse n) vs ids u clip profile = refusedLine n
 textAt Check.Zero vs ids u clip profile = listed ids clip profile zeroRecord []
 textAt Check.Full vs ids u clip profile = listed ids clip profile (recordOf vs ids u (thresholdsOf namedEdition)) (surfaceRows vs ids u)
 
--- The program lends 13,824 work words, 65,536 raster bytes and 2,048 surface floats: enough for every file (`areas-suffice`), so it never
--- prints 1, 3 or 7.
+-- The program lends 13,824 work words, 65,536 raster bytes and 2,048 surface floats, enough for every file, and names an edition that is
+-- known: so it never prints 1, 3 or 7 (`areas-suffice`).
 abbrev pub checkMesh : List Float → List ℕ → Float → Check
 checkMesh vs ids u = checkOf vs ids u namedEdition 13824 65536 2048
 
@@ -47,7 +47,7 @@ meshText vs ids u clip profile = textAt (checkMesh vs ids u) vs ids u clip profi
 
 -- ---- a file
 
--- faults of the file come before 01's table
+-- faults of the file come before the table
 unfoldable pub textFor : File → List ℕ
 textFor (File.Refused n) = refusedLine n
 textFor (File.Holds m) = meshText (floatsOf (m .vertices)) (m .ids) (ofBits binary32 (m .unit)) (eqb (m .clip) 1) (profileAt (m .defect))

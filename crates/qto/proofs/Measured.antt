@@ -9,7 +9,6 @@ use lib.Seq.{take-at, drop-at}
 use lib.Ieee.{Float, binary32, binary64, le, ofBits}
 use lib.Ieee.Positive.{positive}
 use Rattle.ieee.specs.Rounded.{rounded}
-use Rattle.ieee.specs.Single.{_⊗_}
 use Rattle.ieee.specs.Double.{_⊠_, _⧄_}
 use Rattle.ids.specs.Lent.{mostEntries}
 use Rattle.ids.specs.Triangles.{triangleCount}

@@ -158,8 +158,9 @@ zero-only false false behind behind′ h e = absurd (false≢true (sym h ∙ ap 
 
 pub zero-whatever : ZeroWhatever
 unfolding checkOf isZero
-zero-whatever vs ids u u′ e e′ w w′ r r′ s s′ =
-    zero-only (ltb mostEntries (length vs) || ltb mostEntries (length ids)) (ltb (length ids) 3 || ltb (length vs) 9) _ _
+zero-whatever vs vs′ ids ids′ u u′ e e′ w w′ r r′ s s′ floats same =
+    rw (floats, same)
+    (zero-only (ltb mostEntries (length vs) || ltb mostEntries (length ids)) (ltb (length ids) 3 || ltb (length vs) 9) _ _
     (never (not (unitFits u)) _ _ refl
     (never (not (editionKnown e)) _ _ refl
-    (never (areasShort (length vs) (length ids) w r s) _ _ refl (never (not (allFine vs)) (Check.Refuse 4) Check.Full refl refl))))
+    (never (areasShort (length vs) (length ids) w r s) _ _ refl (never (not (allFine vs)) (Check.Refuse 4) Check.Full refl refl)))))

@@ -20,7 +20,7 @@ unitFits u = le (ofBits binary32 0x3580_0000) u && le u (ofBits binary32 0x4180_
 abbrev pub areasShort : ℕ → ℕ → ℕ → ℕ → ℕ → Bool
 areasShort f i w r s = ltb w (workWords f i) || (ltb r rasterBytes || ltb s (surfaceFloats i))
 
--- what a mesh that gets a full record has
+-- what a mesh, a unit and an edition have that get a full record
 pub record Passes (vs : List Float) (ids : List ℕ) (u : Float) (e : ℕ) : Type 0 where
   pub floats-most : length vs ≤ mostEntries
   pub ids-most : length ids ≤ mostEntries
@@ -41,8 +41,9 @@ checkOf vs ids u e w r s =
     (cond (not (allFine vs)) (Check.Refuse 4)
     Check.Full)))))
 
--- the zero record hangs on the numbers of floats and ids alone: whatever unit, edition and areas are, it is given (`zero-whatever`)
+-- the zero record hangs on the numbers of floats and ids alone: whatever these are, and unit, edition and areas, it is given
+-- (`zero-whatever`)
 abbrev pub ZeroWhatever : Type 0
 ZeroWhatever =
-    (vs : List Float) (ids : List ℕ) (u u′ : Float) (e e′ w w′ r r′ s s′ : ℕ) → checkOf vs ids u e w r s ≡ Check.Zero
-    → checkOf vs ids u′ e′ w′ r′ s′ ≡ Check.Zero
+    (vs vs′ : List Float) (ids ids′ : List ℕ) (u u′ : Float) (e e′ w w′ r r′ s s′ : ℕ) → length vs′ ≡ length vs → length ids′ ≡ length ids
+    → checkOf vs ids u e w r s ≡ Check.Zero → checkOf vs′ ids′ u′ e′ w′ r′ s′ ≡ Check.Zero

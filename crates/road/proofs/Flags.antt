@@ -1,12 +1,16 @@
--- The same flags on two records that agree: they still do. Assumes nothing.
+-- The same flags on two records that agree: they still do; and flags pass over volume and areas. Assumes nothing.
 use mathlib.Core.Path.{_≡_, refl, sym, _∙_, ap, subst}
 use mathlib.Core.Bool.{Bool, true, false}
+use lib.Ieee.{Float}
+use Rattle.sums.specs.declared.totals.Areas.{Areas}
 use Rattle.verdict.specs.declared.Quality.{Quality}
 use Rattle.volume.specs.declared.Method.{Method}
 use Rattle.record.specs.declared.MeshQto.{MeshQto}
 use Rattle.record.specs.declared.Profile.{Profile}
-use Rattle.record.specs.Flags.{marked, clipUnapplied, profileInvalid, ifClip, ifInvalid}
+use Rattle.record.specs.Flags.{marked, clipUnapplied, profileInvalid, ifClip, ifInvalid, flagged}
+use Rattle.record.proofs.Kept.{flags-leave}
 use Rattle.road.specs.Agree.{AgreeBy, AgreeButBest, AgreeRecords, FlagsKeep}
+use Rattle.road.specs.Replaced.{areasIn, replaced}
 
 -- what leaves the verdict alone and keeps agreement but for the four keeps agreement
 keeps : (mark : MeshQto → MeshQto) → ((q : MeshQto) → mark q .«mesh_quality» ≡ q .«mesh_quality»)
@@ -60,3 +64,23 @@ profile-keeps (Profile.Invalid d) q q′ r =
 
 pub flags-keep : FlagsKeep
 flags-keep clip profile q q′ r = profile-keeps profile (ifClip clip q) (ifClip clip q′) (clip-keeps clip q q′ r)
+
+-- flags neither look at the volume and the areas by slope nor write them
+pub flags-pass : (clip : Bool) (profile : Profile) (volume : Float) (areas : Areas) (q : MeshQto)
+    → flagged clip profile (replaced volume areas q) ≡ replaced volume areas (flagged clip profile q)
+unfolding ifClip ifInvalid marked replaced
+flags-pass true Profile.Valid volume areas q = refl
+flags-pass true (Profile.Invalid d) volume areas q = refl
+flags-pass false Profile.Valid volume areas q = refl
+flags-pass false (Profile.Invalid d) volume areas q = refl
+
+-- so what is made of these two is made of them behind the flags as well
+pub flags-replace : (volume : Float → Float) (areas : Areas → Areas) (clip : Bool) (profile : Profile) (q : MeshQto)
+    → flagged clip profile (replaced (volume (q .«volume_m3»)) (areas (areasIn q)) q)
+    ≡ replaced (volume (flagged clip profile q .«volume_m3»)) (areas (areasIn (flagged clip profile q))) (flagged clip profile q)
+unfolding marked
+flags-replace volume areas clip profile q =
+    let v = flags-leave (λ x. x .«volume_m3») (λ to p x. refl) clip profile q in
+    let a = flags-leave areasIn (λ to p x. refl) clip profile q in
+    flags-pass clip profile (volume (q .«volume_m3»)) (areas (areasIn q)) q
+    ∙ (λ i. replaced (volume (sym v i)) (areas (sym a i)) (flagged clip profile q))

@@ -1,4 +1,4 @@
--- What holds of any two meshes on the road: from records that agree to outcomes, flags, words and the C form.
+-- What holds of any two calls on the road: from records that agree to outcomes, flags, words and the C form.
 pub mod Agree
 pub mod Best
 pub mod Outcomes

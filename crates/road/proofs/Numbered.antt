@@ -5,6 +5,7 @@ use mathlib.Core.Bool.{Bool, true, false, not, cond}
 use native.Mathlib.Omega.{arith}
 use mathlib.Core.List.{List}
 use Prim.Native.Nat.{ℕ, _+_}
+use borrow.Author.Tests.{ne-eqb}
 use lib.Dec.{eqb}
 use lib.ListN.{length}
 use lib.Ieee.{Float}
@@ -63,6 +64,10 @@ flagged-pairs clip defect t t′ a =
     rw (flags-leave (λ q. q .«mesh_quality») (λ to p q. refl) (eqb clip 1) (profileAt defect) (t .qto)) a
 
 -- ---- two outcomes
+
+-- a refusal is no answer
+pub refused-at : (n : ℕ) → eqb (0x8000_0000 + n) 0 ≡ false
+refused-at n = ne-eqb (0x8000_0000 + n) 0 (λ e. omega arith)
 
 -- what has to hold of a relation of words and one of surface areas, for two meshes, two editions, one area and one record's words before
 pub record AlikeNumbered (W : ℕ → List ℕ → List ℕ → Type 0) (S : ℕ → List ℕ → List Float → List Float → Type 0) (vs vs′ : List Float)

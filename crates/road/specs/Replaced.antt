@@ -1,4 +1,4 @@
--- A record with another volume and other areas by slope: what the glove turns, and what an edition can change.
+-- A record with another volume and other areas by slope: the glove turns both, an edition can change the areas.
 use lib.Ieee.{Float}
 use Rattle.sums.specs.declared.totals.Areas.{Areas}
 use Rattle.record.specs.declared.MeshQto.{MeshQto}

@@ -1,8 +1,8 @@
 -- The pair of thresholds of an edition, by its number; and from a pair to one that leaves less inclined only what is inclined moves: what
 -- was above the higher first threshold is above the lower, and a side by the lower second one is below the first in magnitude. Assumes
 -- nothing.
-use mathlib.Core.Path.{_≡_, refl, sym, subst, _∙_}
-use mathlib.Core.Bool.{Bool, true, false, _&&_, cond, false≢true}
+use mathlib.Core.Path.{_≡_, refl, sym, subst}
+use mathlib.Core.Bool.{Bool, true, false, _&&_, cond}
 use mathlib.Core.Logic.{_≢_}
 use Prim.Native.Nat.{ℕ}
 use borrow.Author.Tests.{eq-eqb, ne-eqb}
@@ -15,17 +15,16 @@ use Rattle.ieee.proofs.Order.Magnitudes.{magnitude-below}
 use Rattle.ieee.proofs.Values.Negation.{le-neg, lt-neg, neg-neg}
 use Rattle.sums.specs.declared.totals.Slope.{Slope}
 use Rattle.sums.specs.declared.totals.Thresholds.{Thresholds}
-use Rattle.sums.specs.Editions.{edition1, edition2, thresholdsOf}
-use Rattle.sums.specs.SlopeMoves.{LessInclined, MayBecome, SlopesMove, EditionMoves}
+use Rattle.sums.specs.Editions.{thresholds1, thresholds2, thresholdsOf}
+use Rattle.sums.specs.SlopeMoves.{NoMoreInclined, MayBecome, SlopesMove, EditionMoves}
 use Rattle.sums.specs.Totals.{slopeOf}
 use Rattle.sums.proofs.Slopes.{slope-bottom, slope-side, slope-top}
-use Rattle.sums.proofs.TurnedTotals.{not-both}
 
-pub pair-of-2 : (e : ℕ) → e ≡ 2 → edition2 ≡ thresholdsOf e
+pub pair-of-2 : (e : ℕ) → e ≡ 2 → thresholds2 ≡ thresholdsOf e
 unfolding thresholdsOf
 pair-of-2 e h = rw (eq-eqb e 2 h)
 
-pub pair-of-others : (e : ℕ) → e ≢ 2 → edition1 ≡ thresholdsOf e
+pub pair-of-others : (e : ℕ) → e ≢ 2 → thresholds1 ≡ thresholdsOf e
 unfolding thresholdsOf
 pair-of-others e h = rw (ne-eqb e 2 h)
 
@@ -38,7 +37,7 @@ so : (b : Bool) → T b → b ≡ true
 so true t = refl
 so false t = absurd t
 
-module _ (p p′ : Thresholds) (h : LessInclined p p′) (z : Float) where
+module _ (p p′ : Thresholds) (h : NoMoreInclined p p′) (z : Float) where
   top-stays : lt (p .top) z ≡ true → slopeOf p′ z ≡ Slope.Top
   top-stays above = sym (slope-top p′ z (so _ (le-lt-trans (p′ .top) (p .top) z (h .top) (is above))))
 
@@ -46,17 +45,14 @@ module _ (p p′ : Thresholds) (h : LessInclined p p′) (z : Float) where
   bottom-stays below =
       let low : T (le (neg (p .top)) (neg (p′ .top))) = subst T (sym (le-neg (p .top) (p′ .top))) (h .top) in
       let under = so _ (lt-le-trans z (neg (p .top)) (neg (p′ .top)) (is below) low) in
-      sym (slope-bottom p′ z (not-above (lt (p′ .top) z) refl under) under)
-    where
-      not-above : (b : Bool) → lt (p′ .top) z ≡ b → lt z (neg (p′ .top)) ≡ true → lt (p′ .top) z ≡ false
-      not-above false e under = e
-      not-above true e under = absurd (false≢true (sym (not-both (p′ .top) z (h .from-zero) e) ∙ under))
+      let not-above = lt-asym z (p′ .top) (so _ (lt-le-trans z (neg (p .top)) (p′ .top) (is below) (h .above-bottoms))) in
+      sym (slope-bottom p′ z not-above under)
 
   side-stays : lt (magnitude z) (p .side) ≡ true → slopeOf p′ z ≡ Slope.Side
   side-stays small =
       let both : T (lt z (p .side) && lt (neg z) (p .side)) = subst T (magnitude-below z (p .side)) (is small) in
-      let right = lt-le-trans z (p .side) (p′ .top) (and-l (lt z (p .side)) (lt (neg z) (p .side)) both) (h .apart) in
-      let left = lt-le-trans (neg z) (p .side) (p′ .top) (and-r (lt z (p .side)) (lt (neg z) (p .side)) both) (h .apart) in
+      let right = lt-le-trans z (p .side) (p′ .top) (and-l (lt z (p .side)) (lt (neg z) (p .side)) both) (h .above-sides) in
+      let left = lt-le-trans (neg z) (p .side) (p′ .top) (and-r (lt z (p .side)) (lt (neg z) (p .side)) both) (h .above-sides) in
       let across : T (lt (neg (p′ .top)) z) =
       subst T (lt-neg z (neg (p′ .top))) (subst (λ (x : Float). T (lt (neg z) x)) (sym (neg-neg (p′ .top))) left) in
       sym
@@ -78,7 +74,7 @@ pub edition-moves : EditionMoves
 unfolding slopeOf le lt eq neg magnitude ofBits
 edition-moves =
     record {
-      less = record { top = tt; side = tt; apart = tt; from-zero = tt };
+      less = record { top = tt; side = tt; above-sides = tt; above-bottoms = tt };
       to-top = record { first = refl; second = refl };
       to-bottom = record { first = refl; second = refl };
       to-side = record { first = refl; second = refl };

@@ -1,6 +1,7 @@
 -- The laws behind the sums: the box vertex by vertex, a triangle's part by its corners, and of a mesh that passes the refusals that its
 -- box is finite, its areas are numbers from zero up, what a triangle adds is bounded, no component of a unit normal is above 2, and the
--- unit's powers are above zero and bounded. And what a triangle adds when it is turned over.
+-- unit's powers are above zero and bounded. What a triangle adds when it is turned over; what an edition's thresholds are, what can move to
+-- others, and that sums of areas rise.
 mod Boxes
 pub mod Parts
 mod Slopes

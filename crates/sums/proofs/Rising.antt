@@ -1,5 +1,5 @@
--- Sums of numbers from zero up rise: with a larger summand, and above each summand of its own format; so do products by a number above
--- zero. Assumes nothing.
+-- Sums of what is not below zero, nor -0, do not fall: neither with a larger summand, nor below the one that they begin with if the format
+-- has it; so do products by a number above zero. It stands beside `Plus`, whose numbers it speaks of. Assumes nothing.
 use mathlib.Core.Path.{refl, subst}
 use mathlib.Core.Bool.{true, false}
 use Prim.Native.Nat.{ℕ, zero, suc, _+_, _*_, _≤_}

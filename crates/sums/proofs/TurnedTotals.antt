@@ -34,7 +34,7 @@ turnedSlope Slope.Side = Slope.Side
 turnedSlope Slope.Inclined = Slope.Inclined
 
 -- no z is above a threshold from 0 up and below its negative too
-pub not-both : (m z : Float) → T (le nought m) → lt m z ≡ true → lt z (neg m) ≡ false
+not-both : (m z : Float) → T (le nought m) → lt m z ≡ true → lt z (neg m) ≡ false
 not-both m z h above = go (lt z (neg m)) refl
   where
     zero-least : T (lt nought (neg nought)) → ⊥

@@ -1,4 +1,4 @@
-// The slope of a facet, and the running sums that take it.
+// The thresholds of an edition, the slope of a facet by them, and the running sums that take it.
 ghost use mathlib.Core.Path.{_≡_};
 ghost use Rattle.sums.specs.Editions.{thresholdsOf};
 ghost use Rattle.sums.specs.Totals.{onSlope, scaledAreas, slopeOf, noTotals, withFacet};
@@ -17,7 +17,7 @@ pub struct Thresholds {
     pub side: f32,
 }
 
-// The pair of an edition: 01's, and that of 2027.
+// The pair of an edition: 2 has that of 2027, 1 has 01's. Any other number gets 01's too; it is refused before it comes here.
 pub fn thresholds_of(edition: u32) -> Thresholds
     ensures { λ r. ⌜ r ≡ thresholdsOf edition ⌝ }
 {

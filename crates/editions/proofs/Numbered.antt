@@ -39,8 +39,9 @@ flagged-same : (clip defect : ℕ) (t t′ : Takeoff) → ButAreas t t′
     → SameButSlopes 0 (wordsOf (withFlags clip defect t)) (wordsOf (withFlags clip defect t′))
 flagged-same clip defect t t′ b =
     let areas = areasIn (t′ .qto) in
+    let profile = profileAt defect in
     words-same (withFlags clip defect t) (withFlags clip defect t′) areas
-    (ap (flagged (eqb clip 1) (profileAt defect)) (b .rest) ∙ flags-replace (λ v. v) (λ a. areas) (eqb clip 1) (profileAt defect) (t .qto)) (b .pairs)
+    (ap (flagged (eqb clip 1) profile) (b .rest) ∙ flags-replace (λ v. v) (λ a. areas) (eqb clip 1) profile (t .qto)) (b .pairs)
 
 alike : (vs : List Float) (ids : List ℕ) (u : Float) (e e′ clip defect : ℕ) (s : List Float) (words : List ℕ) → T (editionKnown e)
     → T (editionKnown e′) → AlikeNumbered SameButSlopes SameNumberedArea vs vs ids ids u e e′ clip defect s words

@@ -41,8 +41,7 @@ checkOf vs ids u e w r s =
     (cond (not (allFine vs)) (Check.Refuse 4)
     Check.Full)))))
 
--- the zero record hangs on the numbers of floats and ids alone: whatever these are, and unit, edition and areas, it is given
--- (`zero-whatever`)
+-- the zero record hangs on how many floats and ids there are, and on nothing else: not on unit, edition or areas (`zero-whatever`)
 abbrev pub ZeroWhatever : Type 0
 ZeroWhatever =
     (vs vs′ : List Float) (ids ids′ : List ℕ) (u u′ : Float) (e e′ w w′ r r′ s s′ : ℕ) → length vs′ ≡ length vs → length ids′ ≡ length ids

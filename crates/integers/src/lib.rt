@@ -2,6 +2,7 @@
 // fit, 5.8 leaves the answer open. Here, as in Rust, it is the end of the range that is nearer, and 0 for a NaN:
 // the model's `to_signed h`, of h bits and a sign, and `to_unsigned w`, of w bits. Internal: `floats` passes on
 // what has no `requires`.
+#![tactic(auto)]
 ghost use Rattle.std.specs.Prelude.{◌≡◌, ◌-◌, ◌/◌, ◌^◌, ◌<◌, ◌≤◌, false, T, pos, neg_ℤ, from_bits};
 ghost use Rattle.std.specs.Float.{binary32, binary64, fin};
 ghost use Rattle.std.specs.Float.Ieee.{le, lt, to_signed, to_unsigned};

@@ -4,6 +4,7 @@
 // line with what `write` makes of what was read. Then what `write` says to too much, and the files of data/mounts, in the same
 // framing, each a binary STL: what `takeoff_stl` prints. The gate holds this to `stdout`: the unchanged Rust's answers, and a plain
 // reference's where the Rust has none (docs/DIFFERENCES.md says how).
+#![tactic(auto)]
 ghost use Rattle.std.specs.Prelude.{◌≤◌, length};
 
 use chain::{EdgeChain, FaceNet, Verdict};

@@ -1,4 +1,5 @@
 // What the programs that read one file and print one text share: reading standard input to its end, and writing standard output.
+#![tactic(auto)]
 ghost use Rattle.std.specs.Prelude.{◌+◌, ◌≤◌, ◌≡◌, cond, length, take};
 
 use libc::{STDIN_FILENO, STDOUT_FILENO};

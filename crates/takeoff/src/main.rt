@@ -1,5 +1,6 @@
 // The program `takeoff`: reads a mesh file from standard input to its end and prints its listing, or `refused N`.
 // What it prints is `program::run_front`'s.
+#![tactic(auto)]
 
 // Prints what the first n bytes of an input are worth.
 fn print(bytes: &[u8; program::KEPT], n: usize) {

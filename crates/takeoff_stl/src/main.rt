@@ -1,5 +1,6 @@
 // The program `takeoff_stl`: reads a binary STL in millimetres from standard input to its end and prints its listing, or `refused N`.
 // What it prints is `program::run_stl_front`'s.
+#![tactic(auto)]
 
 // Prints what the first n bytes of an input are worth.
 fn print(bytes: &[u8; program::STL_KEPT], n: usize) {

@@ -15,21 +15,21 @@ ghost use Rattle.chain.specs.inner.Questions.{question_of};
 pub use tally::{Incidence, Net};
 
 // What the edge chain answers: boundary-free and over-incident, by name.
-#[derive(Drop)]
+#[derive(Clone, Copy)]
 pub enum EdgeChain {
     Answer(Incidence),
     Refused(u8),
 }
 
 // What the face net answers: the largest magnitude of a face's sum, and whether all sums are 0.
-#[derive(Drop)]
+#[derive(Clone, Copy)]
 pub enum FaceNet {
     Answer(Net),
     Refused(u8),
 }
 
 // What the routines answer that say yes or no.
-#[derive(Drop)]
+#[derive(Clone, Copy)]
 pub enum Verdict {
     Answer(bool),
     Refused(u8),

@@ -187,7 +187,7 @@ pub fn count(work: &[u32], n: usize, test: u8) -> u32
 }
 
 // How many edges pass each of three tests, in one pass over the rows.
-#[derive(Drop)]
+#[derive(Clone, Copy)]
 pub struct Survey {
     pub present: u32,
     pub unbalanced: u32,

@@ -20,7 +20,7 @@ use Rattle.sums.specs.Facet.{Part, out_of_range, sliver, used, part}
 use Rattle.sums.specs.Fine.{all_fine}
 use Rattle.sums.specs.Totals.{no_totals, on_slope, slope_of, totals_to, with_facet, with_part}
 use Rattle.sums.specs.inner.Plus.{plus}
-use Rattle.sums.proofs.Areas.{part_plus}
+use Rattle.sums.proofs.AreaLaws.{part_plus}
 use Rattle.sums.proofs.Editions.{slopes_move}
 use Rattle.sums.proofs.Plus.{plus_add, plus_zero}
 use Rattle.sums.proofs.Rising.{add_above, add_rises, from_zero}

@@ -12,7 +12,7 @@ ghost use Rattle.faces.specs.inner.Rows.{face_at, face_word, face_uses, put_face
 ghost use Rattle.faces.specs.inner.Rows.{FaceSearch, FaceToAdd, FacesToCome, FacesAdded, row_off, row_size};
 
 // Three ids sorted.
-#[derive(Drop)]
+#[derive(Clone, Copy)]
 pub struct Sorted {
     pub low: u32,
     pub mid: u32,
@@ -213,7 +213,7 @@ fn size(word: u32) -> u32
 }
 
 // The largest magnitude of a row's sum, and the number of rows whose sum is not 0.
-#[derive(Drop)]
+#[derive(Clone, Copy)]
 pub struct Sums {
     pub max_abs: u32,
     pub off: u32,

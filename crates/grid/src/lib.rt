@@ -8,7 +8,7 @@ ghost use Rattle.grid.specs.inner.Edges.{edge_if};
 ghost use Rattle.grid.specs.inner.Sized.{GridSized};
 
 // A triangle in the plane.
-#[derive(Drop)]
+#[derive(Clone, Copy)]
 pub struct Flat {
     pub ax: f32,
     pub ay: f32,
@@ -19,7 +19,7 @@ pub struct Flat {
 }
 
 // nx by ny cells of w by h from (x, y) on.
-#[derive(Drop)]
+#[derive(Clone, Copy)]
 pub struct Grid {
     pub x: f32,
     pub y: f32,
@@ -30,7 +30,7 @@ pub struct Grid {
 }
 
 // Where a point lies by a triangle.
-#[derive(Drop)]
+#[derive(Clone, Copy)]
 pub enum Place {
     Inside,
     OnEdge,

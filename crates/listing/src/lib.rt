@@ -16,7 +16,7 @@ use volume::PrismBound;
 const HEAD: usize = 352;
 
 // How long the text is, or the number of the refusal.
-#[derive(Drop)]
+#[derive(Clone, Copy)]
 pub enum Listed {
     Length(usize),
     Refused(u8),

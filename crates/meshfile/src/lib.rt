@@ -13,7 +13,7 @@ use record::Profile;
 pub use writing::{Writing, write};
 
 // What a file holds beside its floats and ids: their numbers, the unit's pattern and the flags.
-#[derive(Drop)]
+#[derive(Clone, Copy)]
 pub struct MeshBits {
     pub unit: u32,
     pub floats: usize,
@@ -22,14 +22,14 @@ pub struct MeshBits {
     pub profile: Profile,
 }
 
-#[derive(Drop)]
+#[derive(Clone, Copy)]
 pub enum ReadingBits {
     File(MeshBits),
     Refused(u8),
 }
 
 // The same with the unit as a float.
-#[derive(Drop)]
+#[derive(Clone, Copy)]
 pub struct MeshFile {
     pub unit: f32,
     pub floats: usize,
@@ -38,7 +38,7 @@ pub struct MeshFile {
     pub profile: Profile,
 }
 
-#[derive(Drop)]
+#[derive(Clone, Copy)]
 pub enum Reading {
     File(MeshFile),
     Refused(u8),
@@ -47,7 +47,7 @@ pub enum Reading {
 // ---- one record
 
 // What stands in front of the bytes: a payload so long, or the fault met first.
-#[derive(Drop)]
+#[derive(Clone, Copy)]
 pub enum Front {
     Fault(u8),
     Payload(usize),
@@ -91,28 +91,28 @@ fn front_of(bytes: &[u8], kind: u32) -> Front
 // ---- the records in their order
 
 // The values of the flags, as kind 4 has them.
-#[derive(Drop)]
+#[derive(Clone, Copy)]
 pub struct FlagValues {
     pub clip: u32,
     pub defect: u32,
 }
 
 // What stands behind the ids.
-#[derive(Drop)]
+#[derive(Clone, Copy)]
 pub enum Ending {
     Fault(u8),
     Flags(FlagValues),
 }
 
 // Where everything stands: how many floats and ids, and the values of the flags.
-#[derive(Drop)]
+#[derive(Clone, Copy)]
 pub struct Parts {
     pub floats: usize,
     pub ids: usize,
     pub flags: FlagValues,
 }
 
-#[derive(Drop)]
+#[derive(Clone, Copy)]
 pub enum Layout {
     Fault(u8),
     Whole(Parts),

@@ -9,7 +9,7 @@ ghost use Rattle.meshfile.specs.Writing.{contents_of, Writes};
 use record::Profile;
 
 // The file's length, or a refusal.
-#[derive(Drop)]
+#[derive(Clone, Copy)]
 pub enum Writing {
     Length(usize),
     Refused(u8),

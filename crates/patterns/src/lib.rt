@@ -1,5 +1,6 @@
 // A float's bit pattern, and what needs no rounding. Internal: `floats` passes it on, and what works on patterns uses it.
 #![tactic(auto)]
+
 mod bits; // a float's bit pattern, and back
 mod order; // magnitude, least and greatest
 

@@ -16,7 +16,7 @@ ghost use Rattle.pieces.specs.inner.Joined.{Tied, Whole, is_root};
 ghost use Rattle.pieces.specs.Answer.{PiecesGiven};
 
 // The number of pieces, or the number of the refusal.
-#[derive(Drop)]
+#[derive(Clone, Copy)]
 pub enum PieceCount {
     Answer(u32),
     Refused(u8),

@@ -17,7 +17,7 @@ use walk::TriangleCounts;
 
 // ---- what is measured
 
-#[derive(Drop)]
+#[derive(Clone, Copy)]
 pub struct Extremes {
     pub largest: f32,
     pub smallest: f32,
@@ -35,7 +35,7 @@ fn arrange(rows: &mut [f32], n: usize, by: f32) -> Extremes
     Extremes { largest, smallest }
 }
 
-#[derive(Drop)]
+#[derive(Clone, Copy)]
 pub struct Measures {
     pub volume: f32,
     pub surface: f32,
@@ -89,7 +89,7 @@ fn measure(
 // ---- the record
 
 // The record of a mesh, and beside it the pairs of the z, y and x footprints: six zeros unless it is an open shell.
-#[derive(Drop)]
+#[derive(Clone, Copy)]
 pub struct Takeoff {
     pub qto: MeshQto,
     pub pairs: Pairs,
@@ -196,7 +196,7 @@ fn zero_takeoff() -> Takeoff
     }
 }
 
-#[derive(Drop)]
+#[derive(Clone, Copy)]
 pub enum Answer {
     Record(Takeoff),
     Refused(u8),

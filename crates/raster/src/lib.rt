@@ -10,7 +10,7 @@ ghost use Rattle.raster.specs.inner.Counts.{Counts};
 
 use grid::Grid;
 
-#[derive(Drop)]
+#[derive(Clone, Copy)]
 pub enum Axis {
     X,
     Y,
@@ -18,7 +18,7 @@ pub enum Axis {
 }
 
 // What is looked at: the axes u and v, from xmin to xmax on the first and from ymin to ymax on the second.
-#[derive(Drop)]
+#[derive(Clone, Copy)]
 pub struct Window {
     pub u: Axis,
     pub v: Axis,
@@ -29,13 +29,13 @@ pub struct Window {
 }
 
 // A footprint's cells: how many are covered, and how many of these are on the rim.
-#[derive(Drop)]
+#[derive(Clone, Copy)]
 pub struct Pair {
     pub covered: u32,
     pub rim: u32,
 }
 
-#[derive(Drop)]
+#[derive(Clone, Copy)]
 pub struct Footprint {
     pub area: f32,
     pub cells: Pair,

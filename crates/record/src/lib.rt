@@ -11,7 +11,7 @@ use verdict::Quality;
 use volume::{Method, PrismBound};
 
 // Why a profile is no valid region.
-#[derive(Drop)]
+#[derive(Clone, Copy)]
 pub enum ProfileDefect {
     SelfIntersecting,
     Degenerate,
@@ -19,14 +19,14 @@ pub enum ProfileDefect {
     Overlapping,
 }
 
-#[derive(Drop)]
+#[derive(Clone, Copy)]
 pub enum Profile {
     Valid,
     Invalid(ProfileDefect),
 }
 
 // All numbers of a mesh but its surface rows, which are in the lent surface area.
-#[derive(Drop)]
+#[derive(Clone, Copy)]
 pub struct MeshQto {
     pub volume_m3: f32,
     pub aabb_volume_m3: f32,

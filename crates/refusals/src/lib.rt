@@ -9,7 +9,7 @@ ghost use Rattle.vertices.specs.Areas.{work_words, raster_bytes};
 
 use ids::MOST_ENTRIES;
 
-#[derive(Drop)]
+#[derive(Clone, Copy)]
 pub enum Check {
     Refuse(u8),
     Zero,

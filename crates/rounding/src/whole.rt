@@ -9,7 +9,7 @@ use crate::ties_away::nearest_shift;
 use patterns::{FIELD, SIGN, bits32, bits64, f32_of, f64_of};
 
 // What becomes of a size's fraction: it is dropped, it counts as one more, or it does so from a half on.
-#[derive(Drop)]
+#[derive(Clone, Copy)]
 enum Way {
     Cut,
     Away,

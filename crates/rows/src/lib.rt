@@ -9,7 +9,7 @@ ghost use Rattle.rows.specs.Sorting.{row_at};
 ghost use Rattle.rows.specs.inner.Passes.{Inside, Few, swapped, Keeps, Rising, AfterPass};
 
 // One planar surface: the summed area of the triangles with one key, and the key's direction.
-#[derive(Drop)]
+#[derive(Clone, Copy)]
 pub struct PlanarSurface {
     pub area: f32,
     pub nx: f32,

@@ -70,7 +70,7 @@ pub fn share_edge(ids: &[u32], s: usize, t: usize) -> bool
 // ---- a pass and its hash
 
 // The class of edges that a pass takes, the two factors of its hash, and how many rows a search looks at.
-#[derive(Drop)]
+#[derive(Clone, Copy)]
 struct Plan {
     class: u64,
     low: u32,
@@ -144,7 +144,7 @@ fn find(ids: &[u32], work: &[u32], low: u32, high: u32, at: usize, limit: usize)
 // ---- entering sides
 
 // What entering gave: whether all is entered, and how many more slots may be filled.
-#[derive(Drop)]
+#[derive(Clone, Copy)]
 struct Entry {
     entered: bool,
     spare: usize,

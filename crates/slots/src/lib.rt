@@ -8,7 +8,7 @@ ghost use Rattle.slots.specs.inner.Slots.{key_from, key_into, KeyFits, entry_key
 ghost use Rattle.slots.specs.inner.Slots.{HasWords, Searchable, Claimable, Claimed};
 
 // A key as three numbers.
-#[derive(Drop)]
+#[derive(Clone, Copy)]
 pub struct Code {
     pub x: u64,
     pub y: u64,

@@ -5,14 +5,14 @@ ghost use Rattle.std.specs.Prelude.{◌+◌, ◌≤◌, ◌≡◌, cond, length,
 use libc::{STDIN_FILENO, STDOUT_FILENO};
 
 // What one read did: whether it failed, and how many bytes came, 0 at the end of the input.
-#[derive(Drop)]
+#[derive(Clone, Copy)]
 struct Turn {
     failed: bool,
     came: usize,
 }
 
 // What was read: whether a read failed, and how many bytes there are.
-#[derive(Drop)]
+#[derive(Clone, Copy)]
 pub struct Input {
     pub failed: bool,
     pub n: usize,

@@ -7,7 +7,7 @@ ghost use Rattle.stl.specs.Reading.{ReadsStl, most_triangles, most_large};
 ghost use Rattle.stl.specs.inner.Filled.{RoomFor, Filled};
 
 // How many triangles there are, or the refusal.
-#[derive(Drop)]
+#[derive(Clone, Copy)]
 pub enum Stl {
     Triangles(usize),
     Refused(u8),

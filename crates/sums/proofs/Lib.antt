@@ -12,7 +12,7 @@ pub mod Sides
 mod VolumeTerm
 pub mod FineBoxes
 mod Small
-pub mod Areas
+pub mod AreaLaws
 pub mod Units
 pub mod TurnedFacets
 pub mod TurnedTotals

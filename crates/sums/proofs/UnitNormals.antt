@@ -23,7 +23,7 @@ use Rattle.ids.specs.Triangles.{Triangle}
 use Rattle.sums.proofs.Fractions.{Has, has_powers, not_over, root_least, more_sum, more_square, finite_above, positive_num, num_some}
 use Rattle.sums.proofs.Fractions.{power_below, power}
 use Rattle.sums.proofs.Plus.{plus_add, plus_square}
-use Rattle.sums.proofs.Areas.{dot_plus, size_within}
+use Rattle.sums.proofs.AreaLaws.{dot_plus, size_within}
 use Rattle.sums.proofs.Small.{Three, Small, dot_three, normal_three, part_has}
 use Rattle.sums.proofs.Within.{Within, power_value, within_both, within_most, within_mul, within_number, within_rounded}
 use Rattle.sums.proofs.Within.{within_value}

@@ -5,7 +5,7 @@ ghost use Rattle.ieee.specs.Single.{extent as extent_of};
 ghost use Rattle.vertices.specs.Vertices.{vertex_count};
 ghost use Rattle.sums.specs.Box.{box_to, box, origin as origin_of, box_volume};
 
-#[derive(Drop)]
+#[derive(Clone, Copy)]
 pub struct Bounds {
     pub xmin: f32,
     pub ymin: f32,

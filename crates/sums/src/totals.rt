@@ -5,7 +5,7 @@ ghost use Rattle.sums.specs.Totals.{on_slope, scaled_areas, slope_of, no_totals,
 
 use crate::triangle::Facet;
 
-#[derive(Drop)]
+#[derive(Clone, Copy)]
 pub enum Slope {
     Top,
     Bottom,
@@ -14,7 +14,7 @@ pub enum Slope {
 }
 
 // Above the first, or below its negative, a unit normal's z is steep enough for top and bottom; its magnitude under the second is side.
-#[derive(Drop)]
+#[derive(Clone, Copy)]
 pub struct Thresholds {
     pub top: f32,
     pub side: f32,
@@ -53,7 +53,7 @@ fn slope_of(pair: Thresholds, z: f32) -> Slope
 }
 
 // The areas of the facets, by slope.
-#[derive(Drop)]
+#[derive(Clone, Copy)]
 pub struct Areas {
     pub top: f32,
     pub bottom: f32,
@@ -89,7 +89,7 @@ impl Areas {
 }
 
 // The running sums: two in f64, the areas by slope in f32.
-#[derive(Drop)]
+#[derive(Clone, Copy)]
 pub struct Totals {
     pub surface: f64,
     pub volume6: f64,

@@ -63,7 +63,7 @@ fn tetra(t: [[f64; 3]; 3]) -> f64
 }
 
 // What a used triangle adds: its area, also as f32, its volume term, and its unit normal.
-#[derive(Drop)]
+#[derive(Clone, Copy)]
 pub struct Facet {
     pub area: f64,
     pub area32: f32,
@@ -77,7 +77,7 @@ pub struct Facet {
 // triangle before it gets its length, and behind them the one before that is taken, so that a processor works at all three.
 
 // The cross product n, its square and its length, which is 0 until the second stage, and the volume term.
-#[derive(Drop)]
+#[derive(Clone, Copy)]
 pub struct Prepared {
     pub in_range: bool,
     pub square: f64,

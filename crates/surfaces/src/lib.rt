@@ -11,7 +11,7 @@ ghost use Rattle.surfaces.specs.inner.Index.{key_code, with_row, Ready, AddsArea
 use slots::Code;
 
 // A unit normal in tenths.
-#[derive(Drop)]
+#[derive(Clone, Copy)]
 pub struct Key {
     pub x: i32,
     pub y: i32,

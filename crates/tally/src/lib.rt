@@ -13,13 +13,13 @@ ghost use Rattle.edges.specs.inner.Gather.{EdgesToCome};
 ghost use Rattle.faces.specs.inner.Rows.{FaceTable, FaceRows};
 
 // What the edge chain and the face net say of ids.
-#[derive(Drop)]
+#[derive(Clone, Copy)]
 pub struct Incidence {
     pub boundary_free: bool,
     pub over_incident: bool,
 }
 
-#[derive(Drop)]
+#[derive(Clone, Copy)]
 pub struct Net {
     pub max_abs: u32,
     pub all_cancel: bool,

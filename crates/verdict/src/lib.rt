@@ -7,7 +7,7 @@ ghost use Rattle.weld.specs.Weld.{welded};
 ghost use Rattle.verdict.specs.Verdict.{by_faces, by_chain, quality as quality_of};
 ghost use Rattle.verdict.specs.inner.Steps.{chained, is_free, open_unless_free, PartsFit, FacesFit};
 
-#[derive(Drop)]
+#[derive(Clone, Copy)]
 pub enum Quality {
     Closed,
     OpenShell,
@@ -15,7 +15,7 @@ pub enum Quality {
 }
 
 // What a list of ids says: that it is not boundary-free, or a quality.
-#[derive(Drop)]
+#[derive(Clone, Copy)]
 pub enum Chained {
     Boundary,
     Free(Quality),
@@ -105,7 +105,7 @@ fn by_chain(vertices: &[f32], indices: &[u32], eps: f32, near: bool, work: &mut 
 // ---- the whole
 
 // What is known of a mesh besides its ids: the signed volume, the surface area and the box's volume, after the unit.
-#[derive(Drop)]
+#[derive(Clone, Copy)]
 pub struct Sizes {
     pub volume: f32,
     pub surface: f32,

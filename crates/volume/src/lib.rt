@@ -14,7 +14,7 @@ use sums::Bounds;
 use verdict::{Quality, Sizes};
 
 // The volume that is carried, by which definition, whether it is to be relied on, and what bounds it.
-#[derive(Drop)]
+#[derive(Clone, Copy)]
 pub struct Best {
     pub volume: f32,
     pub method: Method,
@@ -23,7 +23,7 @@ pub struct Best {
 }
 
 // Which definition the best volume has.
-#[derive(Drop)]
+#[derive(Clone, Copy)]
 pub enum Method {
     Mesh,
     MeshOpen,
@@ -32,14 +32,14 @@ pub enum Method {
     MeshProfileInvalid,
 }
 
-#[derive(Drop)]
+#[derive(Clone, Copy)]
 pub enum PrismBound {
     NotComputed,
     Bound(f32),
 }
 
 // The cells of the z, y and x footprints, each named by the axis that it is seen along.
-#[derive(Drop)]
+#[derive(Clone, Copy)]
 pub struct Pairs {
     pub z: Pair,
     pub y: Pair,
@@ -59,7 +59,7 @@ pub fn no_pairs() -> Pairs
 // ---- the prism
 
 // What one axis gives: the prism along it, and the cells of its footprint.
-#[derive(Drop)]
+#[derive(Clone, Copy)]
 pub struct Across {
     pub prism: f32,
     pub cells: Pair,
@@ -115,7 +115,7 @@ fn pairs_on(on_z: Across, on_y: Across, on_x: Across) -> Pairs
 }
 
 // The prism of a mesh, and the cells of its footprints.
-#[derive(Drop)]
+#[derive(Clone, Copy)]
 pub struct PrismAndPairs {
     pub prism: f32,
     pub pairs: Pairs,
@@ -228,7 +228,7 @@ fn degenerate_best() -> Best
 }
 
 // The best volume, and beside it the pairs.
-#[derive(Drop)]
+#[derive(Clone, Copy)]
 pub struct Carried {
     pub best: Best,
     pub pairs: Pairs,

@@ -14,7 +14,7 @@ use Rattle.sums.specs.Box.{box, origin}
 use Rattle.sums.specs.Facet.{part, part_of, shortest}
 use Rattle.sums.specs.Fine.{all_fine}
 use Rattle.sums.specs.Totals.{with_part}
-use Rattle.sums.proofs.Areas.{size_number}
+use Rattle.sums.proofs.AreaLaws.{size_number}
 use Rattle.walk.specs.Walk.{with_surface}
 use Rattle.walk.specs.Counts.{is_out_of_range, is_sliver, is_used, cross_length, how_many, counts_of}
 use Rattle.walk.specs.Counted.{CountsAddUp, CountedAsItAdds, UsedWhereItAdds}

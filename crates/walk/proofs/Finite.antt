@@ -21,7 +21,7 @@ use Rattle.sums.specs.Box.{box, origin}
 use Rattle.sums.specs.Facet.{Part, out_of_range, sliver, used, part}
 use Rattle.sums.specs.Fine.{all_fine}
 use Rattle.sums.specs.Totals.{no_totals, on_slope, slope_of, with_facet, with_part, totals_to}
-use Rattle.sums.proofs.Areas.{Adds, part_within}
+use Rattle.sums.proofs.AreaLaws.{Adds, part_within}
 use Rattle.sums.proofs.Within.{Within, within_add, within_most}
 use Rattle.surfaces.specs.Surfaces.{Bucket, normal_key}
 use Rattle.surfaces.specs.Keys.{AllAreas}

@@ -16,7 +16,7 @@ use Rattle.sums.specs.Box.{box, origin}
 use Rattle.sums.specs.Facet.{Part, out_of_range, sliver, used, part}
 use Rattle.sums.specs.inner.Plus.{plus}
 use Rattle.sums.specs.Fine.{all_fine}
-use Rattle.sums.proofs.Areas.{part_plus}
+use Rattle.sums.proofs.AreaLaws.{part_plus}
 use Rattle.sums.proofs.Plus.{plus_add, plus_mul, plus_zero}
 use Rattle.rows.specs.Rows.{scaled}
 use Rattle.rows.specs.Plain.{plain_float, plain_row, all_plain}

@@ -8,7 +8,7 @@ ghost use Rattle.walk.specs.inner.Walks.{Walkable, Walks};
 use sums::{Prepared, Thresholds, Totals};
 
 // What the triangles done so far add up to, how many rows they have, and how many were used and were slivers.
-#[derive(Drop)]
+#[derive(Clone, Copy)]
 pub struct Sums {
     pub totals: Totals,
     pub rows: usize,
@@ -17,7 +17,7 @@ pub struct Sums {
 }
 
 // How many triangles were used, and how many left out and why.
-#[derive(Drop)]
+#[derive(Clone, Copy)]
 pub struct TriangleCounts {
     pub used: u32,
     pub out_of_range: u32,
@@ -25,7 +25,7 @@ pub struct TriangleCounts {
 }
 
 // What all triangles add up to.
-#[derive(Drop)]
+#[derive(Clone, Copy)]
 pub struct Walked {
     pub totals: Totals,
     pub rows: usize,

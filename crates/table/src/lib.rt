@@ -1,5 +1,6 @@
 // Triangles, lent areas and tables in them: what the routines on ids, the weld's cells and the surface rows share. Internal.
 #![tactic(auto)]
+
 ghost use Rattle.std.specs.Prelude.{◌≡◌, ◌≤◌, ◌<◌, min, max, length};
 ghost use Rattle.ids.specs.Triangles.{distinct as is_distinct, triangle};
 ghost use Rattle.ids.specs.Lent.{cleared, refusal as refusal_of};

@@ -3,20 +3,16 @@
 use mathlib.Core.Path.{◌≡◌, refl}
 use mathlib.Core.Bool.{Bool, true, false}
 use mathlib.Core.Logic.{◌⊎◌, inl, inr}
-use Rattle.patterns.proofs.order.second.Statement.{statement}
-use Rattle.patterns.proofs.order.second.Tie as tie
+use Rattle.patterns.proofs.order.second.Goals as goal
 
 known : (b : Bool) → (b ≡ true) ⊎ (b ≡ false)
 known true = inl refl
 known false = inr refl
 
-returns : tie.Need-returns
+pub returns : goal.returns
 returns c =
     let past = known c.args.past in
     elim (known c.args.nan) [
       | inl n ↦ elim past [ inl p ↦ simp (n, p) | inr p ↦ simp (n, p) ]
       | inr n ↦ elim past [ inl p ↦ simp (n, p) | inr p ↦ simp (n, p) ]
     ]
-
-pub second_spec : {M : Type 1} → statement M
-second_spec = tie.close (tie.spec returns)

@@ -5,14 +5,10 @@ use native.Mathlib.Omega.{arith}
 use lib.Ieee.{binary64}
 use Rattle.ieee.specs.Magnitude.{SignCleared}
 use Rattle.ieee.proofs.Patterns.Signs.{sign_cleared}
-use Rattle.patterns.proofs.order.magnitude64_bits.Statement.{statement}
-use Rattle.patterns.proofs.order.magnitude64_bits.Tie as tie
+use Rattle.patterns.proofs.order.magnitude64_bits.Goals as goal
 
 cleared : (b r : ℕ) → r ≡ b % 2 ^ 63 → SignCleared binary64 b r
 cleared b r e = subst (SignCleared binary64 b) (sym e) (sign_cleared binary64 b)
 
-returns : tie.Need-returns
+pub returns : goal.returns
 returns c = cleared c.args.b _ (omega arith)
-
-pub magnitude64-bits-spec : {M : Type 1} → statement M
-magnitude64-bits-spec = tie.close (tie.spec returns)

@@ -4,20 +4,15 @@ use Prim.Native.Nat.{◌*◌, ◌≤◌}
 use native.Mathlib.Omega.{arith}
 use native.Mathlib.Nat.{mul-le-mul_right}
 use Rattle.table.specs.inner.Rows.{home_row}
-use Rattle.table.proofs.home.Statement.{statement}
-use Rattle.table.proofs.home.Tie as tie
+use Rattle.table.proofs.home.Goals as goal
 
-mul-result : tie.Need-overflow-mul-result
-mul-result c =
+pub overflow_mul-result : goal.overflow_mul-result
+overflow_mul-result c =
     let m : c.args.hash * c.args.n ≤ 4294967295 * c.args.n =
     mul-le-mul_right c.args.n (omega (arith, c.ranges.hash.fits)) in omega (arith, m, c.requires.1)
 
-returns : tie.Need-returns
+pub returns : goal.returns
 unfolding home_row
 returns c =
     let m : c.args.hash * c.args.n ≤ 4294967295 * c.args.n =
     mul-le-mul_right c.args.n (omega (arith, c.ranges.hash.fits)) in (refl, omega (arith, m, c.requires.0))
-
-pub home-spec : {M : Type 1} → statement M
-home-spec =
-    tie.close (tie.spec mul-result returns)

@@ -6,8 +6,7 @@ use Prim.Native.Nat.{ℕ}
 use native.Mathlib.Decide.{ℕ_discrete}
 use borrow.Author.Tests.{eq-eqb, ne_eqb}
 use Rattle.ids.specs.Triangles.{distinct}
-use Rattle.table.proofs.distinct.Statement.{statement}
-use Rattle.table.proofs.distinct.Tie as tie
+use Rattle.table.proofs.distinct.Goals as goal
 
 -- two ids are equal or not, whichever of them comes first
 data Pair (x y : ℕ) : Type 0 where
@@ -20,7 +19,7 @@ pair x y = elim (ℕ_discrete x y) [ yes p ↦ same p (sym p) | no p ↦ other p
 ruleset tests = (eq-eqb, ne_eqb)
 
 -- with all three known both sides compute
-returns : tie.Need-returns
+pub returns : goal.returns
 unfolding distinct
 returns c =
     let bc = pair c.args.b c.args.c in
@@ -35,7 +34,3 @@ returns c =
         | other r s ↦ elim ca [ same t u ↦ simp tests | other t u ↦ simp tests ]
       ]
     ]
-
-pub distinct-spec : {M : Type 1} → statement M
-distinct-spec =
-    tie.close (tie.spec returns)

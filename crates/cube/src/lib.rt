@@ -1,5 +1,6 @@
 // Whether 8 * s^3 > p^2 for two `f32`, exactly, by integer arithmetic on the patterns. Internal: `floats` passes it on.
 #![tactic(auto)]
+
 ghost use Rattle.std.specs.Prelude.{ltb, ◌≡◌, ◌+◌, ◌*◌, ◌/◌, ◌%◌, ◌<◌, ◌^◌};
 ghost use Rattle.std.specs.Float.{binary32};
 ghost use Rattle.std.specs.Float.Ieee.{of_bits};

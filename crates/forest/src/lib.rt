@@ -1,6 +1,7 @@
 // A forest of parents and a row of slots in lent words, one word a triangle: 32768 times what its slot holds, and the
 // triangle that it hangs on. Internal: what the piece count stands on.
 #![tactic(auto)]
+
 ghost use Rattle.std.specs.Prelude.{◌≡◌, ◌≤◌, ◌<◌, length};
 ghost use Rattle.forest.specs.inner.Words.{parent_in, held_in, with_parent, with_slot, Planted, Freed};
 ghost use Rattle.forest.specs.inner.Labels.{Forest, RootOf, Joined};

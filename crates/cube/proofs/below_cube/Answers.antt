@@ -11,12 +11,8 @@ use lib.Dec.{ltb}
 use lib.Pow.{pow-add, pow_pos, shl_exact}
 use Rattle.ieee.proofs.Numbers.Basic.{square_below}
 use Rattle.ieee.proofs.Numbers.Scales.{lt_multiple}
-use Rattle.cube.proofs.below_cube.Statement.{statement}
-use Rattle.cube.proofs.below_cube.Tie as tie
-
-record Turn (a b e q rest i : ℕ) : Type 0 where
-  taken : (q * a + rest) * 2 ^ (16 * i) ≡ b * 2 ^ e
-  small : rest < a
+use Rattle.cube.proofs.below_cube.Goals as goal
+use Rattle.cube.proofs.below_cube.Invariants.{Turn}
 
 first : (a b e : ℕ) → 0 < a → b < 2 ^ 48 → let n = b * 2 ^ (e % 16) % 2 ^ 64 in Turn a b e (n / a) (n % a) (e / 16)
 first a b e A l =
@@ -52,53 +48,61 @@ module _ {a b e q rest i : ℕ} (t : Turn a b e q rest i) where
   digits_lt : 0 < a → d / a < 65536
   digits_lt A = (div-lt_iff_lt-mul A).1 (let x = t.small in omega arith)
 
-abbrev invariant-loop : tie.invariant-loop
-invariant-loop a b e square n q₀ rest₀ i₀ q rest i = Turn a b e q rest i
+pub returns-then-a-eq0 : goal.returns-then-a-eq0
+returns-then-a-eq0 c = rw c.if-a-eq0.true (sym (le-ltb (c.args.b * 2 ^ c.args.e) 0 (omega arith)))
 
-abbrev decreases-loop : tie.decreases-loop
-decreases-loop a b e square n q₀ rest₀ i₀ q rest i = i
+pub overflow_mul-square : goal.overflow_mul-square
+overflow_mul-square c = omega (arith, square_below c.args.a 24 c.requires.0)
 
-returns : tie.Need-returns invariant-loop decreases-loop
-returns c = let start = c.before in rw c.if1.true (sym (le-ltb (start.args.b * 2 ^ start.args.e) 0 (omega arith)))
+pub loop-i-init : goal.loop-i-init
+loop-i-init c = first c.args.a c.args.b c.args.e (omega arith) c.requires.1
 
-mul-square : tie.Need-overflow-mul-square invariant-loop decreases-loop
-mul-square c = let start = c.before in omega (arith, square_below start.args.a 24 start.requires.0)
+pub returns-then-square-q : goal.returns-then-square-q
+returns-then-square-q c = sym (le-ltb _ _ (reached c.loop-i.invariant c.if-square-q.true))
 
-loop-holds : tie.Need-loop-init invariant-loop decreases-loop
-loop-holds c = let start = c.before in first start.args.a start.args.b start.args.e (omega arith) start.requires.1
+pub overflow_mul-d : goal.overflow_mul-d
+overflow_mul-d c = let small = c.loop-i.invariant.small in omega arith
 
-returns-2 : tie.Need-returns-2 invariant-loop decreases-loop
-returns-2 c = sym (le-ltb _ _ (reached c.before.before.loop.invariant c.if2.true))
+pub overflow_mul-q : goal.overflow_mul-q
+overflow_mul-q c = omega (arith, square_below c.args.a 24 c.requires.0)
 
-mul-d : tie.Need-overflow-mul-d invariant-loop decreases-loop
-mul-d c = let small = c.before.before.loop.invariant.small in omega arith
+pub overflow_add-q : goal.overflow_add-q
+overflow_add-q c =
+    omega (arith, square_below c.args.a 24 c.requires.0, digits_lt c.loop-i.invariant (omega arith))
 
-mul-q : tie.Need-overflow-mul-q invariant-loop decreases-loop
-mul-q c = let start = c.before.before.before.before in omega (arith, square_below start.args.a 24 start.requires.0)
-
-add-q : tie.Need-overflow-add-q invariant-loop decreases-loop
-add-q c =
-    let start = c.before.before.before.before in
-    omega (arith, square_below start.args.a 24 start.requires.0, digits_lt c.before.before.loop.invariant (omega arith))
-
-loop-again : tie.Need-loop-preserved invariant-loop decreases-loop
-loop-again c = next c.before.before.loop.invariant (omega arith) (omega arith)
+pub loop-i-preserved : goal.loop-i-preserved
+loop-i-preserved c = next c.loop-i.invariant (omega arith) (omega arith)
 
 -- The quotient is below the square, or it is not: either way the last test says so, however it is written.
 ruleset tests = (lt-ltb, le-ltb, lt-leb, le-leb)
 
-returns-3 : tie.Need-returns-3 invariant-loop decreases-loop
-returns-3 c =
-    let q = c.before.loop.q in
-    let a = c.before.before.before.args.a in
-    let end = ended c.before.loop.invariant (omega arith) in
+pub returns : goal.returns
+returns c =
+    let q = c.loop-i.q in
+    let a = c.args.a in
+    let end = ended c.loop-i.invariant (omega arith) in
     elim (dec_lt q (a * a)) [
       | yes l ↦ let h : q ≤ a * a = omega arith in simp (← end, tests)
       | no g ↦ let h : a * a ≤ q = omega arith in simp (← end, tests)
     ]
 
-pub below-cube-spec : {M : Type 1} → statement M
-below-cube-spec =
-    tie.close
-    (tie.spec invariant-loop decreases-loop returns mul-square (λ c. omega arith) (λ c. omega arith) (λ c. omega arith) loop-holds returns-2 mul-d mul-q
-    (λ c. omega arith) add-q (λ c. omega arith) (λ c. omega arith) (λ c. omega arith) loop-again returns-3)
+pub overflow_shl-n : goal.overflow_shl-n
+overflow_shl-n c = omega arith
+
+pub nonzero_div-q : goal.nonzero_div-q
+nonzero_div-q c = omega arith
+
+pub nonzero_rem-rest : goal.nonzero_rem-rest
+nonzero_rem-rest c = omega arith
+
+pub nonzero_div-q-in-loop-i : goal.nonzero_div-q-in-loop-i
+nonzero_div-q-in-loop-i c = omega arith
+
+pub nonzero_rem-rest-in-loop-i : goal.nonzero_rem-rest-in-loop-i
+nonzero_rem-rest-in-loop-i c = omega arith
+
+pub overflow_sub-i : goal.overflow_sub-i
+overflow_sub-i c = omega arith
+
+pub loop-i-smaller : goal.loop-i-smaller
+loop-i-smaller c = omega arith

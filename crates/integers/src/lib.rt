@@ -3,6 +3,7 @@
 // the model's `to_signed h`, of h bits and a sign, and `to_unsigned w`, of w bits. Internal: `floats` passes on
 // what has no `requires`.
 #![tactic(auto)]
+
 ghost use Rattle.std.specs.Prelude.{◌≡◌, ◌-◌, ◌/◌, ◌^◌, ◌<◌, ◌≤◌, false, T, pos, neg_ℤ, from_bits};
 ghost use Rattle.std.specs.Float.{binary32, binary64, fin};
 ghost use Rattle.std.specs.Float.Ieee.{le, lt, to_signed, to_unsigned};
@@ -71,8 +72,8 @@ pub fn to_u64(x: f32) -> u64
 
 // The whole part of a float from 1 up and below 2^23: its digits, shifted.
 pub fn whole_part32(x: f32) -> u32
-    requires fact_1 { T (le (fin false 1 (pos 0)) x) }
-    requires fact_2 { T (lt x (fin false 1 (pos 23))) }
+    requires low { T (le (fin false 1 (pos 0)) x) }
+    requires high { T (lt x (fin false 1 (pos 23))) }
     ensures { result ≡ to_unsigned 64 x }
 {
     let b = f32::to_bits(x);

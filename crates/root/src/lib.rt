@@ -1,6 +1,7 @@
 // The square root of an `f64`: a guess by floats, held against the radicand by integer arithmetic on the pattern.
 // Internal: `floats` passes it on.
 #![tactic(auto)]
+
 ghost use Rattle.std.specs.Float.{binary64};
 ghost use Rattle.std.specs.Prelude.{◌≡◌, ◌+◌, ◌*◌, ◌/◌, ◌%◌, ◌^◌, ◌<◌, ◌≤◌, ◌⊎◌, from_bits, to_bits};
 ghost use Rattle.ieee.specs.Root.{closest_root, floor_root, root};

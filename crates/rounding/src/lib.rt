@@ -1,6 +1,7 @@
 // Roundings: to a whole number of the format, and f64 to f32. Internal: `floats` passes on
 // what has no `requires`.
 #![tactic(auto)]
+
 mod narrowing; // f64 to f32
 mod ties_away; // to nearest, one tie rule
 mod ties_even; // and the other

@@ -3,6 +3,7 @@
 // A form on bit patterns, `_bits`, also fixes the pattern of a NaN result: 7ff8000000000000 or 7fc00000.
 // The crates behind it: `patterns`, `integers`, `rounding`, `root`, `cube`; their laws stand in `ieee`.
 #![tactic(auto)]
+
 pub use cube::{cube_above, cube_above_bits};
 pub use integers::{to_i32, to_i32_bits, to_i64, to_i64_bits, to_u64, to_u64_bits};
 pub use patterns::{

@@ -1,5 +1,6 @@
 // Which ids name a vertex. Internal: `paint` and `sums` ask it.
 #![tactic(auto)]
+
 ghost use Rattle.std.specs.Prelude.{◌≡◌};
 ghost use Rattle.vertices.specs.Vertices.{in_range, corners_in_range};
 

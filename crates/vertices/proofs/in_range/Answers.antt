@@ -6,12 +6,11 @@ use native.Mathlib.Omega.{arith}
 use lib.ListN.{length}
 use borrow.Author.Tests.{lt-ltb, le-ltb, lt-leb, le-leb}
 use Rattle.vertices.specs.Vertices.{in_range}
-use Rattle.vertices.proofs.in_range.Statement.{statement}
-use Rattle.vertices.proofs.in_range.Tie as tie
+use Rattle.vertices.proofs.in_range.Goals as goal
 
 ruleset tests = (lt-ltb, le-ltb, lt-leb, le-leb)
 
-returns : tie.Need-returns
+pub returns : goal.returns
 unfolding in_range
 returns c =
     let i = c.args.id in
@@ -20,7 +19,3 @@ returns c =
       | yes l ↦ let below : (i < n / 3) × (i ≤ n / 3) = (omega arith, omega arith) in simp (below.0, below.1, tests)
       | no l ↦ let past : (n / 3 ≤ i) × (n ≤ 3 * i + 2) = (omega arith, omega arith) in simp (past.0, past.1, tests)
     ]
-
-pub in-range-spec : {M : Type 1} → statement M
-in-range-spec =
-    tie.close (tie.spec returns)

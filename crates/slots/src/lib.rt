@@ -1,6 +1,7 @@
 // A table of entries by their keys, in lent words: where a key's entry is, and an entry more. Internal: `cells` and `surfaces` have
 // one each.
 #![tactic(auto)]
+
 ghost use Rattle.std.specs.Prelude.{◌≡◌, true, false, ◌+◌, ◌*◌, ◌<◌, length, get_or};
 ghost use Rattle.std.proofs.lemmas.List.Edits.{sets};
 ghost use Rattle.table.specs.inner.Rows.{Found};

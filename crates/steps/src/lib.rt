@@ -1,6 +1,7 @@
 // Steps from id to id in a table of edges, in lent words: each is found there, or a free row for it, and counted. Internal: `edges` asks
 // it.
 #![tactic(auto)]
+
 ghost use Rattle.std.specs.Prelude.{◌≡◌, cond, [], ◌∷◌, ◌+◌, ◌*◌, ◌<◌, ltb, length};
 ghost use Rattle.ids.specs.EdgeChain.{step as step_use};
 ghost use Rattle.table.specs.inner.Rows.{Found};

@@ -1,0 +1,32 @@
+-- `steps::walk` meets its contract: the row that the search found counts one use more, and its word has room for it. Assumes nothing.
+use Rattle.steps.proofs.Added.{Reached, bump_fits, walked}
+use Rattle.steps.proofs.Within.{room_free}
+use Rattle.steps.proofs.walk.Goals as goal
+use Rattle.steps.proofs.walk.Goals.{After-weight}
+
+pub find-r-requires : goal.find-r-requires
+find-r-requires c =
+    record {
+      space = c.requires.space;
+      starts = c.home-start.ensures.1;
+      free = room_free c.args.n c.args.work.now c.requires.room;
+    }
+
+module _ (c : After-weight) where
+  reached : Reached c.args.n c.args.work.now c.args.u c.args.v c.lesser-low.result
+      c.greater-high.result
+      c.hash.result c.home-start.result c.find-r.result c.weight.result
+  reached = record {
+    lower = c.lesser-low.ensures;
+    higher = c.greater-high.ensures;
+    hashed = c.hash.ensures;
+    homed = c.home-start.ensures.0;
+    found = c.find-r.ensures;
+    weighed = c.weight.ensures;
+  }
+
+pub bump-requires : goal.bump-requires
+bump-requires c = bump_fits c.requires (reached c)
+
+pub returns : goal.returns
+returns c = rw c.bump.ensures (walked c.requires (reached c.before.before.before.before))

@@ -1,5 +1,6 @@
 // The edges of the triangles of a list of ids, counted in a table in lent words. Internal: `chain` and `tally` ask it.
 #![tactic(auto)]
+
 ghost use Rattle.std.specs.Prelude.{◌≡◌, true, ◌+◌, ◌*◌, ◌/◌, ◌≤◌, take, drop};
 ghost use Rattle.ids.specs.Triangles.{over_triangles};
 ghost use Rattle.ids.specs.Uses.{bit};

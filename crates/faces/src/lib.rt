@@ -1,5 +1,6 @@
 // The faces of the triangles of a list of ids, counted in a table in lent words. Internal: `chain` and `tally` ask it.
 #![tactic(auto)]
+
 ghost use Rattle.std.specs.Prelude.{◌≡◌, cond, [], ◌∷◌, ◌+◌, ◌*◌, ◌≤◌, ◌<◌, length, take, drop};
 ghost use Rattle.ids.specs.Triangles.{triangle};
 ghost use Rattle.ids.specs.FaceNet.{same_face, sorted_ids, face_use, face, faces};

@@ -1,0 +1,31 @@
+-- `faces::add` meets its contract: from what the search found and what was written, by the law `adding`. Assumes nothing.
+use Rattle.faces.proofs.Adding.{FaceSought, seekable, bump_fits, adding}
+use Rattle.faces.specs.declared.Sorted.{Sorted}
+use Rattle.faces.proofs.add.Goals as goal
+use Rattle.faces.proofs.add.Lts as lts
+use Rattle.faces.proofs.add.Tie.{the-claims}
+use Rattle.faces.proofs.add.Reads.{Pre, Post}
+
+pub find-r-requires : goal.find-r-requires
+find-r-requires c = seekable c.requires c.home-start.ensures.1
+
+module _ (c : lts.After-weight the-claims Pre Post) where
+  abbrev ids : Sorted
+  ids = c.sort-s.result
+
+  sought : FaceSought c.args.ids.now c.args.n c.args.work.now c.args.t
+      (record { low = ids.low; mid = ids.mid; high = ids.high })
+      c.hash.result c.home-start.result c.find-r.result c.weight.result
+  sought = record {
+    sorting = c.sort-s.ensures;
+    hashing = c.hash.ensures;
+    homing = c.home-start.ensures.0;
+    found = c.find-r.ensures;
+    weighed = c.weight.ensures;
+  }
+
+pub bump-requires : goal.bump-requires
+bump-requires c = bump_fits c.requires (sought c.before)
+
+pub returns : goal.returns
+returns c = rw c.bump.ensures (adding c.requires (sought c.before.before.before.before))

@@ -1,6 +1,7 @@
 // The cells of a weld: which cell a vertex is in, and a table in lent words of the first vertex in each. Internal: `weld` asks it, and
 // `surfaces` has an integer as an unsigned number from here.
 #![tactic(auto)]
+
 ghost use Rattle.std.specs.Prelude.{◌≡◌, ◌+◌, ◌-◌, ◌*◌, ◌/◌, ◌%◌, ◌^◌, ◌<◌, min, length, get_or, set};
 ghost use Rattle.vertices.specs.Vertices.{vertex_count};
 ghost use Rattle.cells.specs.Cells.{cell_of};

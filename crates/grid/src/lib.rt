@@ -1,5 +1,6 @@
 // The point test, and the arithmetic of a grid of cells over a box. Internal: `paint` and `raster` use it.
 #![tactic(auto)]
+
 ghost use Rattle.std.specs.Prelude.{◌≡◌, ◌≤◌, ◌<◌, length};
 ghost use Rattle.grid.specs.Point.{place, place_number, counts as is_counted};
 ghost use Rattle.grid.specs.Grid.{cells_in, cell_along, first_cell, last_cell, centre_of, grid_of};

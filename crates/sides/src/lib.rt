@@ -7,6 +7,7 @@
 // from some triangle on until the slots are full enough, then only looks the triangles behind up, and the next pass starts where this
 // one stopped entering. Each pass has another hash, and looks at no more than `limit` rows for a side.
 #![tactic(auto)]
+
 ghost use Rattle.std.specs.Prelude.{◌≡◌, ◌+◌, ◌*◌, ◌/◌, ◌≤◌, ◌<◌, min, length};
 ghost use Rattle.ids.specs.Triangles.{triangle};
 ghost use Rattle.ids.specs.EdgeChain.{edge, same_edge};

@@ -2,6 +2,7 @@
 // area itself, behind their table. Internal: `chain` and `verdict` ask it. Nothing is refused here, and what the
 // `_behind` forms counted is left in front of the ids.
 #![tactic(auto)]
+
 ghost use Rattle.std.specs.Prelude.{◌≡◌, List, ℕ, ◌+◌, ◌-◌, ◌*◌, ◌≤◌, length, take, drop};
 ghost use Rattle.ids.specs.Triangles.{triangle_count};
 ghost use Rattle.ids.specs.Lent.{most_entries};

@@ -1,6 +1,7 @@
 // `EdgeChain`, `FaceNet`, `is_closed_manifold` and `winding_coherent`: 000's routines on ids alone. Each takes ids and a lent area,
 // and either refuses, with nothing changed, or answers and leaves zero in the words that it needs.
 #![tactic(auto)]
+
 ghost use Rattle.std.specs.Prelude.{◌≡◌, ◌&&◌, List, ℕ, ◌*◌, length};
 ghost use Rattle.ids.specs.Triangles.{triangle_count};
 ghost use Rattle.ids.specs.EdgeChain.{enough, chain, proper_edges, closed_manifold, winding_coherent};

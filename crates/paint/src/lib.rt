@@ -1,5 +1,6 @@
 // Triangles on a raster of one byte a cell: which cells they cover, and which of these by edges alone. Internal: `raster` asks it.
 #![tactic(auto)]
+
 ghost use Rattle.std.specs.Prelude.{◌≡◌, ◌&&◌, ◌+◌, ◌*◌, ◌/◌, ◌%◌, ◌≤◌, ◌<◌, eqb, length};
 ghost use Rattle.ids.specs.Triangles.{triangle, triangle_count};
 ghost use Rattle.vertices.specs.Vertices.{coordinate as coordinate_of};

@@ -3,6 +3,7 @@
 // A word has what its triangle hangs on (`forest`) and a slot of the table of sides (`sides`). Once all that share an edge are joined,
 // each piece has one triangle that hangs on itself.
 #![tactic(auto)]
+
 ghost use Rattle.std.specs.Prelude.{◌≡◌, ◌+◌, ◌*◌, ◌≤◌, ◌<◌, length};
 ghost use Rattle.ids.specs.Uses.{bit};
 ghost use Rattle.ids.specs.Triangles.{triangle_count};

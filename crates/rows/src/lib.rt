@@ -1,6 +1,7 @@
 // The rows of planar surfaces in a lent area: scaled, put in order in place, and asked for the largest and the smallest. Internal: `qto`
 // asks it.
 #![tactic(auto)]
+
 ghost use Rattle.std.specs.Prelude.{◌≡◌, ◌+◌, ◌*◌, ◌≤◌, ◌<◌, T, length, set};
 ghost use Rattle.rows.specs.Rows.{flatten, rows_of, then_by, precedes as precedes_of, sorted, scaled, scaled_row};
 ghost use Rattle.rows.specs.Rows.{largest as largest_of, smallest as smallest_of, less_above};

@@ -1,6 +1,7 @@
 // How the listing is spelt, byte by byte, into a lent area: text, one line of several, a form with numbers, a line with a count.
 // Internal: `listing` calls it.
 #![tactic(auto)]
+
 ghost use Rattle.std.specs.Prelude.{◌≡◌, ◌+◌, ◌^◌, ◌≤◌, ◌<◌, ◌++◌, ◌∷◌, [], length};
 ghost use Rattle.spelling.specs.Text.{codes, glyph as glyph_of, bits, decimal_in, decimal as decimal_of};
 ghost use Rattle.spelling.specs.inner.Steps.{PutsText, line_of, filled};

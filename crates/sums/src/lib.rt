@@ -1,5 +1,6 @@
 // What the sums of the record are made of. Internal: `walk`, `volume` and `qto` ask it.
 #![tactic(auto)]
+
 mod bounds; // the box
 mod totals; // thresholds, the slope of a facet, and the sums that take it
 mod triangle; // one triangle, on its way to the facet that it adds

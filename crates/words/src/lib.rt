@@ -1,5 +1,6 @@
 // Numbers from bytes and bytes from numbers, little-endian, for those who read and write files.
 #![tactic(auto)]
+
 ghost use Rattle.std.specs.Prelude.{◌≡◌, ◌+◌, ◌*◌, ◌≤◌, ◌<◌, ◌++◌, length, take, drop};
 ghost use Rattle.words.specs.Words.{byte as byte_of, u16_at, u32_at, words_in, floats_of, bytes_of, all_bytes};
 

@@ -19,4 +19,4 @@ returns c =
     let a = c.args in
     let l = c.loop-v in
     let all : l.v ≡ vertex_count a.vertices.now = omega arith in
-    subst (Welds (vertex_count a.vertices.now) a.vertices.now a.invariant l.part) all l.invariant.2.welds
+    subst (Welds (vertex_count a.vertices.now) a.vertices.now a.inv l.part) all l.invariant.2.welds

@@ -6,6 +6,7 @@ use Rattle.spelling.proofs.Left.{left_all, left_less, byte_room, left_byte, left
 use Rattle.spelling.proofs.Turns.{number_left, number_room, form_number, form_byte, form_end}
 use borrow.Author.Rules.{rules}
 use Rattle.spelling.proofs.fill.Goals as goal
+use Rattle.spelling.proofs.fill.Goals.{then-form-i, else-form-i}
 use Rattle.spelling.proofs.fill.Lts as lts
 use Rattle.spelling.proofs.fill.Tie.{the-claims}
 use Rattle.spelling.proofs.fill.Reads.{Pre, Post}
@@ -45,12 +46,12 @@ pub loop-i-preserved : goal.loop-i-preserved
 loop-i-preserved c =
     let a = c.args in (
       search rules,
-      ⊎_elim
-          (λ w. rw (w.6, w.7, w.8) (left_less c.loop-i.invariant.1 _ _
-          (form_number a.form.now c.loop-i.i a.numbers.now c.loop-i.used (search rules) w.0.taken) w.3.ensures))
-          (λ w. rw (w.2, w.3, w.4) (left_byte c.loop-i.invariant.1 _ _
-          (form_byte a.form.now c.loop-i.i a.numbers.now c.loop-i.used (search rules) w.0.left)))
-          c.if-form-i.branch,
+      elim c.if-form-i.branch [
+        then-form-i w ↦ rw (w.out-is, w.end-is, w.used-is) (left_less c.loop-i.invariant.1 _ _
+        (form_number a.form.now c.loop-i.i a.numbers.now c.loop-i.used (search rules) w.if-form-i.true) w.put_number-end.ensures)
+      | else-form-i w ↦ rw (w.out-is, w.end-is, w.used-is) (left_byte c.loop-i.invariant.1 _ _
+        (form_byte a.form.now c.loop-i.i a.numbers.now c.loop-i.used (search rules) w.if-form-i.false))
+      ],
     )
 
 pub returns : goal.returns

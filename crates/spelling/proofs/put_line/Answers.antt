@@ -11,6 +11,7 @@ use Rattle.spelling.proofs.Left.{left_all, byte_room, left_byte, left_none}
 use Rattle.spelling.proofs.Turns.{line_within, line_put, line_passed, line_end}
 use borrow.Author.Rules.{rules}
 use Rattle.spelling.proofs.put_line.Goals as goal
+use Rattle.spelling.proofs.put_line.Goals.{then-line-wanted, else-line-wanted}
 
 pub loop-i-init : goal.loop-i-init
 loop-i-init c =
@@ -33,12 +34,12 @@ loop-i-preserved c =
     let a = c.args in (
       search rules,
       omega (arith, byte_small (eqb (get_or a.lines.now c.loop-i.i 0) 10)),
-      ⊎_elim
-          (λ w. rw (w.2, w.3) (left_byte c.loop-i.invariant.2 _ _
-          (line_put a.lines.now c.loop-i.i c.loop-i.line a.k (search rules) (eq-eqb _ _ w.0.taken))))
-          (λ w. rw (w.1, w.2) (rw (line_passed a.lines.now c.loop-i.i c.loop-i.line a.k (search rules)
-          (ne_eqb _ _ w.0.left)) at c.loop-i.invariant.2))
-          c.if-line-wanted.branch,
+      elim c.if-line-wanted.branch [
+        then-line-wanted w ↦ rw (w.out-is, w.end-is) (left_byte c.loop-i.invariant.2 _ _
+        (line_put a.lines.now c.loop-i.i c.loop-i.line a.k (search rules) (eq-eqb _ _ w.if-line-wanted.true)))
+      | else-line-wanted w ↦ rw (w.out-is, w.end-is) (rw (line_passed a.lines.now c.loop-i.i c.loop-i.line a.k (search rules)
+        (ne_eqb _ _ w.if-line-wanted.false)) at c.loop-i.invariant.2)
+      ],
     )
 
 pub returns : goal.returns

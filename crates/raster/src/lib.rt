@@ -1,6 +1,7 @@
 // `footprint_raw`: how much ground a mesh covers, counted in cells of a lent raster, and how many of these are on the rim. Internal:
 // `volume` asks it for an open shell, and has the raster cleared for any other.
 #![tactic(auto)]
+
 ghost use Rattle.std.specs.Prelude.{◌≡◌, ◌*◌, ◌≤◌, length};
 ghost use Rattle.ids.specs.Lent.{cleared};
 ghost use Rattle.grid.specs.inner.Sized.{GridSized};

@@ -1,5 +1,6 @@
 // The surface rows while they are summed: the key of a normal, and its row, found by an index in lent words. Internal: `walk` asks it.
 #![tactic(auto)]
+
 ghost use Rattle.std.specs.Prelude.{◌≡◌, ◌+◌, ◌*◌, ◌/◌, ◌%◌, ◌^◌, ◌<◌, false, length, ℤ, from_bits, slice_index_or, slice_set, Float};
 ghost use Rattle.std.specs.Float.{nan, binary32};
 ghost use Rattle.ieee.specs.Single.{◌⊕◌, ◌⊗◌, nought};

@@ -1,6 +1,7 @@
 // `welded_indices`: vertices in one cell become the first of them. Internal: `verdict` asks it where the given ids are not boundary-free,
 // and has given ids laid into its area by `lay`; `qto` asks for ε.
 #![tactic(auto)]
+
 ghost use Rattle.std.specs.Prelude.{◌≡◌, ◌+◌, ◌*◌, ◌≤◌, ◌++◌, length, take, replicate};
 ghost use Rattle.vertices.specs.Vertices.{vertex_count};
 ghost use Rattle.weld.specs.Weld.{epsilon_of, weld_all, welded};

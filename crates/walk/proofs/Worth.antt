@@ -1,7 +1,7 @@
 -- What the rows are worth: each key has one row, its area is the sum of the areas of its triangles in their order, and there is a row for
 -- each key of a used triangle and no other. On a mesh that passes refusal 4 every row can be put in order.
 use mathlib.Core.Path.{◌≡◌, refl, ◌∙◌, ap}
-use mathlib.Core.Bool.{Bool, true, ◌&&◌, ◌||◌}
+use mathlib.Core.Bool.{false, Bool, true, ◌&&◌, ◌||◌}
 use Prim.Native.Nat.{ℕ, zero, suc}
 use mathlib.Core.List.{List, [], ◌∷◌}
 use lib.Dec.{T}
@@ -99,6 +99,11 @@ plus_plain (fin s (suc m) e) h = tt
 
 five : (p q r s t : Bool) → T p → T q → T r → T s → T t → T ((p && (q && (r && s))) && t)
 five true true true true true hp hq hr hs ht = tt
+five false q r s t hp hq hr hs ht = elim hp [ ]
+five true false r s t hp hq hr hs ht = elim hq [ ]
+five true true false s t hp hq hr hs ht = elim hr [ ]
+five true true true false t hp hq hr hs ht = elim hs [ ]
+five true true true true false hp hq hr hs ht = elim ht [ ]
 
 rows_plain : (by : Float) → T (positive by) → (bs : List Bucket) → AllAreas Plus bs → T (all_plain (scaled by (rows bs)))
 unfolding all_plain plain_row scaled rows AllAreas

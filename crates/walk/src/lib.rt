@@ -1,6 +1,7 @@
 // One walk over the triangles: the totals, a row for each key of a normal, and how many triangles were used and left out. Internal: `qto`
 // asks it.
 #![tactic(auto)]
+
 ghost use Rattle.sums.specs.inner.Prepared.{part_by};
 ghost use Rattle.walk.specs.inner.Steps.{state, Takeable, Takes};
 ghost use Rattle.walk.specs.inner.Walks.{Walkable, Walks};

@@ -13,7 +13,7 @@ is_whole x = whole binary32 x
 abbrev pub whole_of : Float → ℤ
 whole_of x = to_signed 63 x
 
--- what the two say: x has exactly the value of an integer of such a size, and its sign on a zero too (`whole-Tells`, `whole_told`)
+-- what the two say: x has exactly the value of an integer of such a size, and its sign on a zero too (`whole_tells`, `whole_told`)
 pub record WholeTells (x : Float) : Type 0 where
   pub is : IsWhole x (whole_of x)
   pub most : nat_abs (whole_of x) ≤ 16777216

@@ -1,6 +1,7 @@
 // The record, `MeshQto`, and its flags: each takes a record and hands one back. The names are 000's. And numbers for the cases of its
 // enums, and flags of numbers.
 #![tactic(auto)]
+
 ghost use Rattle.std.specs.Prelude.{◌≡◌};
 ghost use Rattle.record.specs.Record.{zero_record};
 ghost use Rattle.record.specs.Numbers.{quality_number, method_number, defect_number, profile_number, flags_fit, profile_at};

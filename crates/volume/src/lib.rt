@@ -1,6 +1,7 @@
 // The best volume of a mesh, by its quality: the mesh's own where that is to be trusted, else the prism; and the cells of the prism's
 // footprints. Internal: `qto` asks it; the record has its enums.
 #![tactic(auto)]
+
 ghost use Rattle.std.specs.Prelude.{◌≡◌, length, replicate};
 ghost use Rattle.ieee.specs.Magnitude.{magnitude};
 ghost use Rattle.vertices.specs.Areas.{raster_bytes};

@@ -5,12 +5,11 @@ use native.Mathlib.Omega.{arith}
 use Prim.Native.Nat.{◌≤◌, ◌<◌}
 use borrow.Author.Tests.{lt-ltb, le-ltb, lt-leb, le-leb}
 use Rattle.record.specs.Numbers.{flags_fit}
-use Rattle.record.proofs.flags_fit.Statement.{statement}
-use Rattle.record.proofs.flags_fit.Tie as tie
+use Rattle.record.proofs.flags_fit.Goals as goal
 
 ruleset tests = (lt-ltb, le-ltb, lt-leb, le-leb)
 
-returns : tie.Need-returns
+pub returns : goal.returns
 unfolding flags_fit
 returns c =
     let d = c.args.defect in
@@ -23,7 +22,3 @@ returns c =
           let f : c.args.clip ≤ 1 = omega arith in
           elim (dec_lt 4 d) [ yes past ↦ simp tests | no known ↦ let k : d ≤ 4 = omega arith in simp tests ]
     ]
-
-pub flags-fit-spec : {M : Type 1} → statement M
-flags-fit-spec =
-    tie.close (tie.spec returns)

@@ -1,5 +1,6 @@
 // The table of refusals: document 01, 'Order of checks and what comes back', with 02's row. Internal: `qto` asks it.
 #![tactic(auto)]
+
 ghost use Rattle.std.specs.Prelude.{◌≡◌, ◌≤◌};
 ghost use Rattle.ids.specs.Lent.{most_entries};
 ghost use Rattle.sums.specs.Editions.{edition_known};

@@ -1,10 +1,9 @@
 -- Each triangle of an STL is a piece of its own: no two have an id in common, so none have an edge. Assumes nothing.
-use mathlib.Core.Path.{◌≡◌, refl, sym, ◌∙◌}
+use mathlib.Core.Path.{◌≡◌, refl, ◌∙◌}
 use mathlib.Core.Bool.{Bool, true, false}
-use Prim.Native.Nat.{ℕ, ◌+◌, ◌*◌, ◌/◌, ◌<◌}
+use Prim.Native.Nat.{ℕ, ◌+◌, ◌*◌, ◌<◌}
 use native.Mathlib.Omega.{arith}
 use borrow.Author.Tests.{ne_eqb}
-use lib.ListN.{length, get_or}
 use Rattle.ids.specs.Triangles.{Triangle, distinct, triangle, triangle_count}
 use Rattle.ids.specs.Pieces.{share_edge, solid, solids, pieces}
 use Rattle.ids.specs.ByIds.{has, share_id}

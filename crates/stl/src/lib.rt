@@ -1,5 +1,6 @@
 // Binary STL (document 02, A4): a mount's bytes read into lent floats and ids. Every triangle has corners and ids of its own.
 #![tactic(auto)]
+
 ghost use Rattle.std.specs.Prelude.{◌≡◌, ◌+◌, ◌*◌, ◌/◌, ◌%◌, ◌≤◌, ◌<◌, length};
 ghost use Rattle.words.specs.Words.{floats_of};
 ghost use Rattle.stl.specs.Stl.{stl_count, stl_length, stl_of, corners_to, ids_to};

@@ -1,5 +1,6 @@
 // The program's input, a mesh file: its bytes read into lent vertices and ids, and written. The format is document 01's.
 #![tactic(auto)]
+
 mod writing; // the way back
 
 ghost use Rattle.std.specs.Prelude.{◌≡◌, ◌+◌, ◌*◌, ◌≤◌, ◌<◌, ◌++◌, length, take, drop};

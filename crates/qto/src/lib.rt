@@ -1,6 +1,7 @@
 // `compute`: the takeoff of one mesh under an edition of the slope rule. It answers or refuses by the documents' table. The record comes by
 // value, and beside it the pairs of its footprints; the surface rows stand in the lent surface area.
 #![tactic(auto)]
+
 ghost use Rattle.std.specs.Prelude.{◌≡◌, length};
 ghost use Rattle.refusals.specs.inner.Admitted.{Admitted};
 ghost use Rattle.qto.specs.Compute.{Computes, zero_takeoff};

@@ -1,6 +1,7 @@
 // The listing of document 01, with 02's counts, as bytes in a lent area: `list` for a record with its rows and pieces, `list_refusal` for
 // a refusal.
 #![tactic(auto)]
+
 ghost use Rattle.std.specs.Prelude.{◌≡◌, ◌+◌, ◌*◌, ◌≤◌, ◌<◌, length};
 ghost use Rattle.rows.specs.Rows.{rows_of};
 ghost use Rattle.spelling.specs.Text.{line};

@@ -1,6 +1,7 @@
 // For the differential runs alone, and in no header: what they ask of the port and C has no name for.
 // Its static library is shipped to nobody.
 #![tactic(auto)]
+
 ghost use Rattle.std.specs.Prelude.{eqb, leb, ltb, length, replicate, ◌&&◌, cond, ◌++◌, ◌≡◌, ◌+◌, ◌*◌};
 ghost use Rattle.std.specs.Float.{binary32};
 ghost use Rattle.std.specs.Float.Ieee.{of_bits};

@@ -1,0 +1,38 @@
+-- `capi::record_c::record_words` meets its contract: word by word. Assumes nothing.
+use mathlib.Core.List.{[], ◌∷◌}
+use Rattle.ids.proofs.Bits.{byte_bit}
+use Rattle.qto.specs.Numbers.{words_of}
+use Rattle.capi.proofs.record_c.record_words.Goals as goal
+
+pub returns : goal.returns
+unfolding words_of
+returns c =
+    let t = c.args.t in
+    λ i.
+    c.quality_number.ensures i
+    ∷ byte_bit t.qto.volume_reliable i
+    ∷ c.method_number.ensures i
+    ∷ c.profile_number.ensures i
+    ∷ c.bits32.ensures i
+    ∷ c.bits32-2.ensures i
+    ∷ c.bits32-3.ensures i
+    ∷ c.bits32-4.ensures i
+    ∷ c.bits32-5.ensures i
+    ∷ c.bits32-6.ensures i
+    ∷ c.bits32-7.ensures i
+    ∷ c.bits32-8.ensures i
+    ∷ c.bits32-9.ensures i
+    ∷ c.bits32-10.ensures i
+    ∷ c.prism_number.ensures i
+    ∷ c.prism_bits.ensures i
+    ∷ t.qto.surface_count
+    ∷ t.qto.triangles_used
+    ∷ t.qto.triangles_out_of_range
+    ∷ t.qto.triangles_sliver
+    ∷ t.pairs.z.covered
+    ∷ t.pairs.z.rim
+    ∷ t.pairs.y.covered
+    ∷ t.pairs.y.rim
+    ∷ t.pairs.x.covered
+    ∷ t.pairs.x.rim
+    ∷ []

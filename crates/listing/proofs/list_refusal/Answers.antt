@@ -1,0 +1,15 @@
+-- `listing::list_refusal` meets its contract: refused by the definition's test, else one line. Assumes nothing.
+use Rattle.spelling.specs.Text.{line}
+use Rattle.listing.specs.Listing.{refused_line}
+use Rattle.listing.proofs.Outcomes.{refusal_short, refusal_put}
+use borrow.Author.Rules.{rules}
+use Rattle.listing.proofs.list_refusal.Goals as goal
+
+pub returns-then-text-lt-HEAD : goal.returns-then-text-lt-HEAD
+returns-then-text-lt-HEAD c = refusal_short _ _ (search rules)
+
+pub returns : goal.returns
+unfolding refused_line line
+returns c =
+    let a = c.args in
+    refusal_put a.n a.text.now (search rules) _ _ c.count_line.ensures.0

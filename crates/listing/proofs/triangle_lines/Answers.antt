@@ -1,0 +1,12 @@
+-- `listing::triangle_lines` meets its contract: its lines, one behind the other. Assumes nothing.
+use Rattle.spelling.specs.Text.{line}
+use Rattle.spelling.proofs.Puts.{puts_both}
+use Rattle.listing.specs.Listing.{triangle_lines}
+use borrow.Author.Rules.{rules}
+use Rattle.listing.proofs.triangle_lines.Goals as goal
+
+pub returns : goal.returns
+unfolding line triangle_lines
+returns c =
+    let behind = puts_both c.count_line-b.ensures.0 c.count_line.ensures.0 (search rules) in
+    (puts_both c.count_line-a.ensures.0 behind (search rules), search rules)

@@ -1,6 +1,7 @@
 // What the programs `takeoff` and `takeoff_stl` do between reading and writing: the bytes of a mesh file or of an STL in, the bytes of its
 // listing or of `refused N` out.
 #![tactic(auto)]
+
 ghost use Rattle.std.specs.Prelude.{◌≡◌, false, ◌+◌, ◌*◌, ◌/◌, ◌≤◌, length, take};
 ghost use Rattle.std.specs.Float.{binary32};
 ghost use Rattle.std.specs.Float.Ieee.{of_bits};

@@ -1,0 +1,28 @@
+-- `program::print_mesh` meets its contract: the rows that the record counts stand first in the surface area, by `compute`'s contract.
+-- Assumes nothing.
+use Rattle.program.proofs.Answered.{rows_fit, record_text, refusal_text}
+use native.Mathlib.Omega.{arith}
+use Rattle.program.proofs.print_mesh.Goals as goal
+use Rattle.program.proofs.print_mesh.Lts as lts
+use Rattle.program.proofs.print_mesh.Reads.{Pre, Post}
+
+pub print_record-requires : goal.print_record-requires
+print_record-requires c =
+    let m = c.args.m in
+    let fit = rows_fit _ _ _ m.clip m.profile _ _ _ _ _ _ _ c.compute-answer.ensures _ c.in-Record.is in
+    (fit, omega (arith, fit, c.requires))
+
+pub returns-in-Record : goal.returns-in-Record
+returns-in-Record c =
+    let m = c.args.m in
+    rw (
+      ← record_text _ _ m.unit m.clip m.profile _ _ _ _ _ _ _ c.compute-answer.ensures (omega arith) (omega arith) (omega arith) _
+          c.in-Record.is,
+      ← c.pieces_of-count.ensures,
+    ) c.print_record.ensures
+
+pub returns-in-Refused : goal.returns-in-Refused
+returns-in-Refused c =
+    let m = c.args.m in
+    rw (← refusal_text _ _ m.unit m.clip m.profile _ _ _ _ _ _ _ c.compute-answer.ensures (omega arith) (omega arith) (omega arith)
+    _ c.in-Refused.is) c.print_refusal.ensures

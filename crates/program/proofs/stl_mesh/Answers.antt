@@ -1,0 +1,6 @@
+-- `program::stl_mesh` meets its contract: the unit is the float of 0.001's pattern. Assumes nothing.
+use mathlib.Core.Path.{refl}
+use Rattle.program.proofs.stl_mesh.Goals as goal
+
+pub returns : goal.returns
+returns c = (c.f32_of.ensures, refl, refl, refl, refl)

@@ -1,6 +1,6 @@
 /* Mowfrost from C: every function that the static library exports, and what it promises.
  *
- * The library is proved and made by `rt staticlib capi`: target/staticlib/libcapi.a, for x86-64 Linux. It needs nothing
+ * The library is proved and made by `tools/staticlib capi`: target/staticlib/libcapi.a, for x86-64 Linux. It needs nothing
  * but memset. examples/takeoff.c, mount.c, slopes.c and correct.c are programs over it. The contracts that are proved
  * stand in crates/capi/src, and docs/ARCHITECTURE.md leads from there to the definitions.
  *

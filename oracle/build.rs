@@ -2,7 +2,7 @@
 //! 2's two thresholds of slope (02, A6) in the place of its own.
 //! The original is read from the folder in MOWFROST_RUST (absolute, or relative to oracle/), by default from
 //! ../shared/docs/src beside the repository. Its text goes to cargo's output folder and nowhere else.
-//! Links the port's two static libraries, `capi` and `probe`, where they were built (`rt staticlib NAME`) and this machine can run
+//! Links the port's two static libraries, `capi` and `probe`, where they were built (`tools/staticlib NAME`) and this machine can run
 //! them, or those in the folder MOWFROST_PORT.
 
 use std::path::{Path, PathBuf};
@@ -90,8 +90,8 @@ fn link_port(here: &Path) {
         fail(&format!("MOWFROST_PORT is {}, which has no {}", folder.display(), missing.join(" and no ")));
     } else {
         println!(
-            "cargo:warning=the runs against the port are left out: target/staticlib has no {}; at the root: rt staticlib capi and rt \
-             staticlib probe",
+            "cargo:warning=the runs against the port are left out: target/staticlib has no {}; at the root: tools/staticlib capi and \
+             tools/staticlib probe",
             missing.join(" and no ")
         );
     }

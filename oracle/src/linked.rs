@@ -21,8 +21,8 @@ pub(crate) use linked;
 
 /// What to do where the runs against the port cannot be made.
 pub const MISSING: &str =
-    "built without the port's static libraries. On x86-64, at the root of the repository: rt staticlib capi and \
-                           rt staticlib probe; then build anew";
+    "built without the port's static libraries. On x86-64, at the root of the repository: tools/staticlib capi and \
+                           tools/staticlib probe; then build anew";
 
 /// Floats as words: a NaN is one like any other.
 pub fn bits(floats: &[f32]) -> Vec<u32> {

@@ -60,7 +60,7 @@ Against the program:
                                long or written in parts
   oracle file-stl NUMBER       writes the file of that number as 'program-stl' sends it
 
-Against the port (x86-64; first, at the root of the repository: rt staticlib capi and rt staticlib probe. For another machine
+Against the port (x86-64; first, at the root of the repository: tools/staticlib capi and tools/staticlib probe. For another machine
 MOWFROST_PORT names a folder with a libcapi.a and a libprobe.a of its kind when this is built):
 
   oracle floats N              every float helper on edge patterns and N by chance each, against Rust's operation;

@@ -26,7 +26,7 @@ fn sum(counts: impl Iterator<Item = (&'static str, Count)>) -> Count {
 #[test]
 #[cfg_attr(
     not(port),
-    ignore = "the port's libraries were not built: at the root, rt staticlib capi and rt staticlib probe"
+    ignore = "the port's libraries were not built: at the root, tools/staticlib capi and tools/staticlib probe"
 )]
 fn every_record_agrees() {
     use mowfrost_oracle::compute::compare::{all, PORT};

@@ -8,7 +8,7 @@ use mowfrost_oracle::floats::patterns::{edges, partners};
 #[test]
 #[cfg_attr(
     not(port),
-    ignore = "the port's libraries were not built: at the root, rt staticlib capi and rt staticlib probe"
+    ignore = "the port's libraries were not built: at the root, tools/staticlib capi and tools/staticlib probe"
 )]
 fn every_helper_agrees_on_the_edges() {
     for helper in &HELPERS {

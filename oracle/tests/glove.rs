@@ -40,7 +40,7 @@ fn sum(counts: impl Iterator<Item = (&'static str, Count)>) -> Count {
 #[test]
 #[cfg_attr(
     not(port),
-    ignore = "the port's libraries were not built: at the root, rt staticlib capi and rt staticlib probe"
+    ignore = "the port's libraries were not built: at the root, tools/staticlib capi and tools/staticlib probe"
 )]
 fn the_port_is_a_glove() {
     let count = sum(all(PORT, 20_000));
@@ -396,7 +396,7 @@ fn zeros_of_both_signs_agree() {
 #[test]
 #[cfg_attr(
     not(port),
-    ignore = "the port's libraries were not built: at the root, rt staticlib capi and rt staticlib probe"
+    ignore = "the port's libraries were not built: at the root, tools/staticlib capi and tools/staticlib probe"
 )]
 fn planted_faults_in_id_routines_are_found() {
     type Wrong = fn(&[u32], &mut [u32]) -> u32;
@@ -516,7 +516,7 @@ fn each_exception_is_needed_of_the_original() {
 #[test]
 #[cfg_attr(
     not(port),
-    ignore = "the port's libraries were not built: at the root, rt staticlib capi and rt staticlib probe"
+    ignore = "the port's libraries were not built: at the root, tools/staticlib capi and tools/staticlib probe"
 )]
 fn each_exception_is_needed_of_the_port() {
     EDITIONS.into_iter().for_each(|edition| exceptions(PORT, edition));

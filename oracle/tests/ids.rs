@@ -28,7 +28,7 @@ fn ask(name: &str, ids: &[u32]) -> u32 {
 #[test]
 #[cfg_attr(
     not(port),
-    ignore = "the port's libraries were not built: at the root, rt staticlib capi and rt staticlib probe"
+    ignore = "the port's libraries were not built: at the root, tools/staticlib capi and tools/staticlib probe"
 )]
 fn every_routine_agrees() {
     for routine in &ROUTINES {
@@ -52,7 +52,7 @@ fn every_routine_agrees() {
 #[test]
 #[cfg_attr(
     not(port),
-    ignore = "the port's libraries were not built: at the root, rt staticlib capi and rt staticlib probe"
+    ignore = "the port's libraries were not built: at the root, tools/staticlib capi and tools/staticlib probe"
 )]
 fn the_examples() {
     let tetrahedron = [0, 1, 2, 0, 2, 3, 0, 3, 1, 1, 3, 2];
@@ -75,7 +75,7 @@ fn the_examples() {
 #[test]
 #[cfg_attr(
     not(port),
-    ignore = "the port's libraries were not built: at the root, rt staticlib capi and rt staticlib probe"
+    ignore = "the port's libraries were not built: at the root, tools/staticlib capi and tools/staticlib probe"
 )]
 fn winding_at_one_in_fifty() {
     // five edges, one of them used twice the same way; then triangles of three edges, and a pair of five
@@ -91,7 +91,7 @@ fn winding_at_one_in_fifty() {
 #[test]
 #[cfg_attr(
     not(port),
-    ignore = "the port's libraries were not built: at the root, rt staticlib capi and rt staticlib probe"
+    ignore = "the port's libraries were not built: at the root, tools/staticlib capi and tools/staticlib probe"
 )]
 fn a_wrong_routine_is_found() {
     type Port = fn(&[u32], &mut [u32]) -> u32;
@@ -170,7 +170,7 @@ fn answering(ids: &[u32], work: &mut [u32], other: fn(&[u32]) -> u32) -> u32 {
 #[test]
 #[cfg_attr(
     not(port),
-    ignore = "the port's libraries were not built: at the root, rt staticlib capi and rt staticlib probe"
+    ignore = "the port's libraries were not built: at the root, tools/staticlib capi and tools/staticlib probe"
 )]
 fn pieces_joined_otherwise_are_found() {
     type Port = fn(&[u32], &mut [u32]) -> u32;

@@ -202,7 +202,7 @@ fn the_same_seed_has_the_same_run() {
 #[test]
 #[cfg_attr(
     not(port),
-    ignore = "the port's libraries were not built: at the root, rt staticlib capi and rt staticlib probe"
+    ignore = "the port's libraries were not built: at the root, tools/staticlib capi and tools/staticlib probe"
 )]
 fn every_round_trip_agrees() {
     use mowfrost_oracle::meshfile::compare::PORT;

@@ -30,7 +30,7 @@ fn sum(counts: impl Iterator<Item = (&'static str, Count)>) -> Count {
 #[test]
 #[cfg_attr(
     not(port),
-    ignore = "the port's libraries were not built: at the root, rt staticlib capi and rt staticlib probe"
+    ignore = "the port's libraries were not built: at the root, tools/staticlib capi and tools/staticlib probe"
 )]
 fn the_place_does_not_show_in_the_port() {
     let count = sum(on_chance(PORT, 20_000));
@@ -358,7 +358,7 @@ fn each_exception_is_needed_of_the_original() {
 #[test]
 #[cfg_attr(
     not(port),
-    ignore = "the port's libraries were not built: at the root, rt staticlib capi and rt staticlib probe"
+    ignore = "the port's libraries were not built: at the root, tools/staticlib capi and tools/staticlib probe"
 )]
 fn each_exception_is_needed_of_the_port() {
     EDITIONS.into_iter().for_each(|edition| exceptions_of_the_stored_pairs(PORT, edition));

@@ -16,7 +16,7 @@ use rules::{WRONG_CELLS, WRONG_TESTS};
 #[test]
 #[cfg_attr(
     not(port),
-    ignore = "the port's libraries were not built: at the root, rt staticlib capi and rt staticlib probe"
+    ignore = "the port's libraries were not built: at the root, tools/staticlib capi and tools/staticlib probe"
 )]
 fn every_footprint_agrees() {
     reaches_everything(on_large(PORT), on_chance(PORT, 2_000));
@@ -36,7 +36,7 @@ fn reaches_everything(large: Count, chance: Count) {
 #[test]
 #[cfg_attr(
     not(port),
-    ignore = "the port's libraries were not built: at the root, rt staticlib capi and rt staticlib probe"
+    ignore = "the port's libraries were not built: at the root, tools/staticlib capi and tools/staticlib probe"
 )]
 fn every_point_agrees() {
     let count = on_points(POINT_TEST, 200_000);

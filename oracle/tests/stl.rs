@@ -258,7 +258,7 @@ fn wrong_records_are_found() {
 #[test]
 #[cfg_attr(
     not(port),
-    ignore = "the port's libraries were not built: at the root, rt staticlib capi and rt staticlib probe"
+    ignore = "the port's libraries were not built: at the root, tools/staticlib capi and tools/staticlib probe"
 )]
 fn every_file_agrees() {
     use mowfrost_oracle::stl::compare::PORT;

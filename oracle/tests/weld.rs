@@ -9,7 +9,7 @@ use std::collections::HashMap;
 #[test]
 #[cfg_attr(
     not(port),
-    ignore = "the port's libraries were not built: at the root, rt staticlib capi and rt staticlib probe"
+    ignore = "the port's libraries were not built: at the root, tools/staticlib capi and tools/staticlib probe"
 )]
 fn every_weld_agrees() {
     let (large, chance, epsilon) = (on_large(PORT), on_chance(PORT, 20_000), on_epsilon(20_000));

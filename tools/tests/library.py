@@ -15,13 +15,13 @@ from tests.common import ROOT
 
 HEADER = ROOT / "include" / "mowfrost.h"
 
-# A crate's library where `rt staticlib` writes it: x86-64 code.
+# A crate's library where tools/staticlib writes it: x86-64 code.
 BUILT = ROOT / "target" / "staticlib"
 
 
 def crates_of(name: str) -> set[str]:
     """The crates of the repository that a crate is made from, itself among them."""
-    lines = re.findall(r"^(\w+):(.*)$", (ROOT / "crates.txt").read_text(), re.MULTILINE)
+    lines = re.findall(r"^(\w+)(?: staticlib)?:(.*)$", (ROOT / "crates.txt").read_text(), re.MULTILINE)
     leans = {crate: needs.split() for crate, needs in lines}
     found: set[str] = set()
     todo = [name]
@@ -37,11 +37,11 @@ def why_not(name: str, folder: Path = BUILT) -> str:
     """Why a crate's library cannot be used: it is not there, or older than its code. Else nothing."""
     library = folder / f"lib{name}.a"
     if not library.exists():
-        return f"lib{name}.a is not built (rt staticlib {name})"
+        return f"lib{name}.a is not built (tools/staticlib {name})"
     made = library.stat().st_mtime
     sources = [path for crate in crates_of(name) for path in (ROOT / "crates" / crate / "src").rglob("*.rt")]
     if any(path.stat().st_mtime > made for path in sources):
-        return f"lib{name}.a is older than the crates that it is made from (rt staticlib {name})"
+        return f"lib{name}.a is older than the crates that it is made from (tools/staticlib {name})"
     return ""
 
 

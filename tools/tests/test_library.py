@@ -60,7 +60,7 @@ class Text(unittest.TestCase):
         self.assertEqual(plain, exported_by_the_text())
 
     def test_every_export_is_seen(self) -> None:
-        marked = sum(path.read_text().count("#[no_mangle]") for path in CAPI.glob("*.rt"))
+        marked = sum(path.read_text().count("#[unsafe(no_mangle)]") for path in CAPI.glob("*.rt"))
         self.assertGreater(marked, 0)
         self.assertEqual(len(exported_by_the_text()), marked)
 

@@ -13,7 +13,7 @@ PAGE = (ROOT / "docs" / "ARCHITECTURE.md").read_text()
 
 # A function that others can name, its contract behind it up to its body.
 FUNCTION = re.compile(r'^ *pub (?:extern "C" )?fn (\w+)(.*?)\{$', re.MULTILINE | re.DOTALL)
-PASSED_ON = re.compile(r"^pub use (\w+)::(\w+);$", re.MULTILINE)
+PASSED_ON = re.compile(r"^pub use (\w+)::(?:(\w+)|\{([^}]*)\});$", re.MULTILINE)
 
 
 def section(title: str) -> str:
@@ -44,10 +44,15 @@ def declared(crate: str) -> dict[str, str]:
     return dict(FUNCTION.findall(text(crate)))
 
 
+def passed_on(crate: str) -> list[tuple[str, str]]:
+    """What a crate passes on: from where, and its name."""
+    found = [(of, f"{one},{more}".split(",")) for of, one, more in PASSED_ON.findall(text(crate))]
+    return [(of, name.strip()) for of, names in found for name in names if name.strip()]
+
+
 def public(crate: str) -> dict[str, str]:
     """The functions that a crate declares for others or passes on; not those that stand in another row of the list."""
-    passed = PASSED_ON.findall(text(crate))
-    functions = {name: declared(of)[name] for of, name in passed if of not in LISTED and name in declared(of)}
+    functions = {name: declared(of)[name] for of, name in passed_on(crate) if of not in LISTED and name in declared(of)}
     return {**declared(crate), **functions}
 
 
@@ -67,7 +72,7 @@ class Public(unittest.TestCase):
 
     def test_what_is_passed_on_is_public_where_it_is(self) -> None:
         for crate in LISTED:
-            for of, name in PASSED_ON.findall(text(crate)):
+            for of, name in passed_on(crate):
                 if name.islower():  # a type begins with a capital
                     own = (CRATES / crate / "src" / f"{of}.rt").exists()  # a module of the crate itself
                     self.assertIn(name, declared(crate if own else of), f"{crate} passes on {of}::{name}")
@@ -81,7 +86,7 @@ class Public(unittest.TestCase):
 
 class Crates(unittest.TestCase):
     def test_every_crate_has_its_row(self) -> None:
-        listed = re.findall(r"^(\w+):", (ROOT / "crates.txt").read_text(), re.MULTILINE)
+        listed = re.findall(r"^(\w+)(?: staticlib)?:", (ROOT / "crates.txt").read_text(), re.MULTILINE)
         self.assertEqual(sorted(DESCRIBED), sorted(listed))
         self.assertEqual(sorted(path.name for path in CRATES.iterdir() if Path(path / "src").is_dir()), sorted(listed))
 

@@ -8,7 +8,7 @@ from tests.common import ROOT
 ROW = re.compile(r"^\| \[?`?(?P<path>crates/[^`\]|]+\.antt)`?\]?(?:\([^)]*\))? \|.*\| (?P<lines>\d+) \|$")
 PART = re.compile(r"^\*\*(?P<lines>[\d,]+) lines\*\*")
 TYPE = re.compile(r"^\| `(?P<name>\w+)` \| `(?P<crate>\w+)` \| (?P<kind>struct|enum) \| (?P<parts>.*) \|$")
-DECLARED = re.compile(r"Rattle·(\w+?)(?:·specs)?\.specs\.(?:specs\.)?declared\.(?:\w+\.)?([A-Z]\w*)\b")
+DECLARED = re.compile(r"Rattle\.(\w+)\.specs\.declared\.(?:[a-z]\w*\.)?([A-Z]\w*)\b")
 
 
 def lines_to_read(path):

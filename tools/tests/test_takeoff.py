@@ -73,17 +73,16 @@ class Tree(unittest.TestCase):
         kept = tempfile.TemporaryDirectory()
         self.addCleanup(kept.cleanup)
         self.tree = Path(kept.name) / "a tree"
-        libraries = f"kit/on/{os.uname().machine}/toolchain/lib"
-        for folder in ("crates/cube/src", "target/bin", "kit/bin", libraries):
+        for folder in ("crates/cube/src", "crates/takeoff/out", "crates/takeoff_stl/out", "target/bin", "kit/bin"):
             (self.tree / folder).mkdir(parents=True)
         shutil.copy(SCRIPT, self.tree)
         self.programs = [self.tree / "target/bin" / name for name in ("takeoff", "takeoff_stl")]
         self.texts = [self.tree / "crates.txt", self.tree / "crates/cube/src/main.rt"]
         self.asked = self.tree / "asked"
-        self.script("kit/bin/rt", f"echo \"$@\" >>'{self.asked}'")
-        self.script(f"{libraries}/ld-linux-x86-64.so.2", 'shift 2; exec "$@"')
+        self.script("kit/bin/rt", f"echo \"$@\" \"$(basename \"$PWD\")\" >>'{self.asked}'")
         for program in self.programs:
-            self.script(f"target/bin/{program.name}", f"echo {program.name}; cat")
+            for folder in ("target/bin", f"crates/{program.name}/out"):
+                self.script(f"{folder}/{program.name}", f"echo {program.name}; cat")
         for path in self.texts:
             path.write_text("")
         for path in self.programs:
@@ -122,7 +121,7 @@ class Fresh(Tree):
         self.assertEqual(self.run_script("--fresh"), (0 if fresh else 1, b"", b""))
         self.assertEqual(self.said_to_rt(), "")
         self.assertEqual(self.run_script("--build")[:2], (0, b""))
-        self.assertEqual(self.said_to_rt(), "" if fresh else "check takeoff takeoff_stl\n")
+        self.assertEqual(self.said_to_rt(), "" if fresh else "run takeoff\nrun takeoff_stl\n")
 
     def test_no_text_is_newer(self) -> None:
         self.check_fresh(True)
@@ -194,7 +193,7 @@ class Which(Tree):
             for _ in "12":
                 status, out, err = self.run_script(*words)
                 self.assertEqual((status, out.decode()), (0, f"{name}\nthis is a.mesh"))
-                self.assertEqual(self.said_to_rt(), f"check {name}\n")
+                self.assertEqual(self.said_to_rt(), f"run {name}\n")
             self.assertEqual(err, b"")
 
     def test_a_program_that_is_not_proved(self) -> None:

@@ -5,12 +5,10 @@ use lib.Ieee.{Float, binary32, le, of_bits}
 use lib.ListN.{length-replicate, get_or-replicate}
 use Rattle.ieee.specs.Order.{greatest}
 use Rattle.ieee.specs.Single.{◌⊖◌, ◌⊗◌, ◌⊘◌, nought, number, extent}
-use Rattle.ids.specs.Uses.{bit}
 use Rattle.ids.proofs.Bits.{byte_bit, bit_most, bit_and}
 use Rattle.grid.specs.declared.Grid.{Grid}
 use Rattle.grid.specs.Grid.{grid_of}
 use Rattle.grid.specs.inner.Sized.{GridSized}
-use Rattle.paint.specs.Covered.{covered, rim}
 use Rattle.paint.specs.inner.Painted.{cell_number, Adds}
 use Rattle.paint.proofs.Numbers.{number_covered, number_rim}
 use Rattle.raster.specs.declared.Footprint.{Footprint}

@@ -1,6 +1,6 @@
 -- What the loop keeps, and what grows less by each turn.
 use mathlib.Core.Path.{◌≡◌}
-use Prim.Native.Nat.{ℕ, ◌+◌, ◌-◌, ◌*◌, ◌^◌, ◌<◌}
+use Prim.Native.Nat.{ℕ, ◌+◌, ◌*◌, ◌^◌, ◌<◌}
 use Rattle.cube.proofs.below_cube.Given as goal
 
 pub record Turn (a b e q rest i : ℕ) : Type 0 where

@@ -1,6 +1,5 @@
 -- `edges::count` meets its contract: after i turns the total is the sum over the first i rows. Assumes nothing.
 use mathlib.Core.Path.{◌≡◌, refl}
-use Prim.Native.Nat.{◌-◌}
 use native.Mathlib.Omega.{arith}
 use Rattle.table.specs.inner.Rows.{sum_to}
 use Rattle.table.proofs.Sums.{sum_to_next}

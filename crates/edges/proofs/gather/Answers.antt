@@ -1,7 +1,6 @@
 -- `edges::gather` meets its contract: turn by turn the table means the uses of the triangles before i, by the laws of `Gathering`.
 -- Assumes nothing.
 use mathlib.Core.Path.{refl, ◌∙◌}
-use Prim.Native.Nat.{◌-◌}
 use native.Mathlib.Omega.{arith}
 use Rattle.edges.proofs.Gathering.{gathering_none, gathering_fits, gathering_next, gathering_last}
 use Rattle.edges.proofs.gather.Goals as goal

@@ -1,6 +1,5 @@
 -- `edges::survey_rows` meets its contract: after i turns each count is the sum over the first i rows. Assumes nothing.
 use mathlib.Core.Path.{◌≡◌, refl}
-use Prim.Native.Nat.{◌-◌}
 use Rattle.ids.specs.EdgeChain.{present, unbalanced, crowded}
 use Rattle.table.specs.inner.Rows.{sum_to}
 use Rattle.table.proofs.Sums.{sum_to_next}

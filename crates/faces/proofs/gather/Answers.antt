@@ -1,7 +1,6 @@
 -- `faces::gather` meets its contract: turn by turn the table means the uses of the first t triangles, by the laws of `Summing`. Assumes
 -- nothing.
 use mathlib.Core.Path.{refl, ◌∙◌}
-use Prim.Native.Nat.{◌-◌}
 use native.Mathlib.Omega.{arith}
 use Rattle.faces.proofs.Summing.{summing_none, summing_fits, summing_next, summing_last}
 use Rattle.faces.proofs.gather.Goals as goal

@@ -2,7 +2,6 @@
 -- and the ids stay.
 -- Assumes nothing.
 use mathlib.Core.Path.{sym, ◌∙◌}
-use Prim.Native.Nat.{◌-◌}
 use native.Mathlib.Omega.{arith}
 use Rattle.table.proofs.Front.{front_long, ids_long, behind_still, front_none, front_then}
 use Rattle.faces.proofs.Summing.{summing_none, summing_fits, summing_next, summing_last}

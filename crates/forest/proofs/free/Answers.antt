@@ -1,6 +1,5 @@
 -- `forest::free` meets its contract. The first i slots are free, and the parents are as they were. Assumes nothing.
 use mathlib.Core.Path.{◌≡◌, refl}
-use Prim.Native.Nat.{◌-◌}
 use native.Mathlib.Omega.{arith}
 use lib.ListN.{length, length-set}
 use Rattle.forest.proofs.Words.{free_next}

@@ -1,6 +1,5 @@
 -- `forest::plant` meets its contract. The first i words are planted. Assumes nothing.
 use mathlib.Core.Path.{◌≡◌, refl}
-use Prim.Native.Nat.{◌-◌}
 use native.Mathlib.Omega.{arith}
 use lib.ListN.{length, length-set}
 use Rattle.forest.proofs.Words.{plant_next}

@@ -1,6 +1,5 @@
 -- `paint::paint_box` meets its contract: the rows from first on, below j, are painted. Assumes nothing.
 use mathlib.Core.Path.{◌∙◌}
-use Prim.Native.Nat.{◌-◌}
 use native.Mathlib.Omega.{arith}
 use Rattle.paint.proofs.Boxes.{box_first, box_next, box_last}
 use Rattle.paint.proofs.paint_box.Goals as goal

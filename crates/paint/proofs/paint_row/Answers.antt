@@ -1,5 +1,5 @@
 -- `paint::paint_row` meets its contract: the columns from lo on, below i, are painted. Assumes nothing.
-use Prim.Native.Nat.{◌+◌, ◌*◌, ◌-◌, ◌<◌}
+use Prim.Native.Nat.{◌+◌, ◌*◌, ◌<◌}
 use native.Mathlib.Omega.{arith}
 use lib.ListN.{length}
 use Rattle.paint.proofs.Boxes.{in_grid, row_first, row_next, row_last}

@@ -1,6 +1,5 @@
 -- `paint::paint_triangles` meets its contract: the triangles with a number below t are painted. Assumes nothing.
 use mathlib.Core.Path.{◌∙◌}
-use Prim.Native.Nat.{◌-◌}
 use native.Mathlib.Omega.{arith}
 use Rattle.paint.proofs.Covering.{all_first, all_next, all_last}
 use Rattle.paint.proofs.paint_triangles.Goals as goal

@@ -1,6 +1,5 @@
 -- `pieces::count` meets its contract. The loop has counted the roots below t. Assumes nothing.
 use mathlib.Core.Path.{◌≡◌, refl, ap, ◌∙◌}
-use Prim.Native.Nat.{◌-◌}
 use native.Mathlib.Omega.{arith}
 use lib.ListN.{length}
 use Rattle.ids.specs.Uses.{bit}

@@ -1,6 +1,5 @@
 -- `pieces::join_all` meets its contract. The classes before this one are settled. Assumes nothing.
 use mathlib.Core.Path.{refl, ◌∙◌}
-use Prim.Native.Nat.{◌-◌}
 use native.Mathlib.Omega.{arith}
 use Rattle.sides.proofs.Joins.{good_planted}
 use Rattle.pieces.proofs.Joining.{joining_none, joining_next, joined_all}

@@ -1,6 +1,6 @@
 -- `pieces::join_class` meets its contract. The sides of the triangles before t are settled; each pass gets ahead. Assumes nothing.
 use mathlib.Core.Path.{◌≡◌, refl, ◌∙◌}
-use Prim.Native.Nat.{◌-◌, ◌*◌}
+use Prim.Native.Nat.{◌*◌}
 use native.Mathlib.Omega.{arith}
 use lib.ListN.{length}
 use Rattle.sides.proofs.Joins.{labelled_then}

@@ -1,6 +1,5 @@
 -- `pieces::settle` meets its contract. Triangle t is tied to those behind it below j. Assumes nothing.
 use mathlib.Core.Path.{◌≡◌, refl, ◌∙◌}
-use Prim.Native.Nat.{◌-◌}
 use native.Mathlib.Omega.{arith}
 use lib.ListN.{length}
 use Rattle.sides.proofs.Joins.{more_none, labelled_then}

@@ -1,5 +1,5 @@
 -- `raster::clear` meets its contract: the first i bytes are zero, the rest is as it was. Assumes nothing.
-use Rattle.std.proofs.Common.{◌≡◌, ℕ, ◌-◌, ◌++◌, drop, replicate, refl, ap, ◌∙◌, arith, length-set}
+use Rattle.std.proofs.Common.{◌≡◌, ℕ, ◌++◌, drop, replicate, refl, ap, ◌∙◌, arith, length-set}
 use borrow.Author.Fill.{fill_more}
 use Rattle.ids.specs.Lent.{cleared}
 use Rattle.raster.proofs.clear.Goals as goal

@@ -5,8 +5,6 @@ use Rattle.vertices.specs.Areas.{raster_bytes}
 use Rattle.raster.proofs.Counting.{few_cells, foot_none, foot_some}
 use Rattle.raster.proofs.Clearing.{cleared_back}
 use Rattle.raster.proofs.footprint_over.Goals as goal
-use Rattle.raster.proofs.footprint_over.Lts as lts
-use Rattle.raster.proofs.footprint_over.Reads.{Pre, Post}
 
 pub returns-then-w-h : goal.returns-then-w-h
 returns-then-w-h c =

@@ -1,5 +1,5 @@
 -- `raster::tally` meets its contract: the two numbers count the first i bytes. Assumes nothing.
-use Rattle.std.proofs.Common.{◌≡◌, ℕ, ◌+◌, ◌-◌, ◌≤◌, Bool, eqb, ltb, List, length, get_or, refl, arith, w32, Fits}
+use Rattle.std.proofs.Common.{◌≡◌, ℕ, ◌+◌, ◌≤◌, Bool, eqb, ltb, List, length, get_or, refl, arith, w32, Fits}
 use mir.Val.{bool_byte}
 use Rattle.ids.proofs.Bits.{byte_small}
 use Rattle.raster.specs.Footprint.{count}

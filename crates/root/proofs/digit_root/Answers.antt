@@ -1,6 +1,6 @@
 -- `root::digit_root` meets its contract. After i turns q * q + rest is the number that the first 2 * i of the 64 digits of m * 2 ^ 10 make,
 -- and a has the others at its upper end. Assumes nothing.
-use Rattle.std.proofs.Common.{◌≡◌, ℕ, ◌+◌, ◌-◌, ◌*◌, ◌/◌, ◌%◌, ◌^◌, ◌<◌, ◌≤◌, ap, ◌∙◌, subst, ⊎_elim, add-one, arith}
+use Rattle.std.proofs.Common.{◌≡◌, ℕ, ◌+◌, ◌-◌, ◌*◌, ◌/◌, ◌%◌, ◌^◌, ◌<◌, ◌≤◌, ap, ◌∙◌, subst, add-one, arith}
 use native.Mathlib.Nat.{pow-succ'}
 use Rattle.ieee.proofs.Numbers.Basic.{below_pow}
 use Rattle.ieee.proofs.Numbers.Squares.{floor_root_at}
@@ -82,8 +82,8 @@ loop-i-preserved c =
     let l = c.loop-i in
     let m = c.args.m in
     elim c.if-d-n.branch [
-      then-d-n w ↦ rw (w.q-is, w.rest-is) (one m l.a l.q l.rest l.i l.invariant (omega arith) w.if-d-n.true)
-    | else-d-n w ↦ rw (w.q-is, w.rest-is) (none m l.a l.q l.rest l.i l.invariant (omega arith) w.if-d-n.false)
+      | then-d-n w ↦ rw (w.q-is, w.rest-is) (one m l.a l.q l.rest l.i l.invariant (omega arith) w.if-d-n.true)
+      | else-d-n w ↦ rw (w.q-is, w.rest-is) (none m l.a l.q l.rest l.i l.invariant (omega arith) w.if-d-n.false)
     ]
 
 pub returns : goal.returns

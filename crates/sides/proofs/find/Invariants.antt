@@ -1,5 +1,4 @@
 -- What the loop keeps, and what grows less by each turn.
-use Prim.Native.Nat.{◌-◌}
 use lib.ListN.{length}
 use Rattle.forest.specs.inner.Words.{held_in}
 use Rattle.sides.specs.inner.Sides.{slot_edge}

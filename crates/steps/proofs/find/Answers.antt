@@ -1,6 +1,5 @@
 -- `steps::find` meets its contract, by the law of a turn: each row passed is used by another edge. As some row is free, the search ends
 -- before it has gone round. Assumes nothing.
-use Prim.Native.Nat.{◌-◌}
 use native.Mathlib.Omega.{arith}
 use Rattle.ids.specs.EdgeChain.{Edge, same_edge}
 use Rattle.ids.proofs.Same.{edge_eq, edge_refl, same_ne}

@@ -1,7 +1,7 @@
 -- `table::clear` meets its contract: the first i words are zero, the rest is as it was. Assumes nothing.
 use mathlib.Core.Path.{◌≡◌, refl, ap, ◌∙◌}
 use mathlib.Core.List.{◌++◌}
-use Prim.Native.Nat.{ℕ, ◌-◌}
+use Prim.Native.Nat.{ℕ}
 use native.Mathlib.Omega.{arith}
 use borrow.Author.Fill.{fill_more}
 use lib.ListN.{replicate, drop, length-set}

@@ -1,6 +1,5 @@
 -- `cells::gather` meets its contract. The invariant: the first v vertices are entered. Assumes nothing.
 use mathlib.Core.Path.{◌≡◌, subst}
-use Prim.Native.Nat.{◌-◌}
 use native.Mathlib.Omega.{arith}
 use Rattle.vertices.specs.Vertices.{vertex_count}
 use Rattle.cells.specs.inner.Table.{Welds}

@@ -3,14 +3,14 @@
 #![tactic(auto)]
 
 // Prints what the first n bytes of an input are worth.
-fn print(bytes: &[u8; program::KEPT], n: usize) {
+fn print(rt: &(impl Print + Eprint), bytes: &[u8; program::KEPT], n: usize) {
     let mut text = [0u8; program::TEXT];
     let end = program::run_front(bytes, n, &mut text);
-    stdio::write_text(&text[..end]);
+    stdio::write_text(rt, &text[..end]);
 }
 
-fn main() {
+fn main(rt: HostRuntime) {
     let mut bytes = [0u8; program::KEPT];
-    let input = stdio::read_input(&mut bytes, 0);
-    print(&bytes, stdio::counted(input));
+    let input = stdio::read_input(&rt, &mut bytes, 0);
+    print(&rt, &bytes, stdio::counted(input));
 }

@@ -1,2 +1,0 @@
--- What the proofs of reading share.
-mod Kept

@@ -15,7 +15,7 @@ use Rattle.sums.specs.Totals.{scaled_areas}
 use Rattle.sums.proofs.Units.{least_unit, most_unit, square_positive}
 use lib.Ieee.Fits.{and_l, and_r}
 use Rattle.rows.specs.declared.PlanarSurface.{PlanarSurface}
-use Rattle.rows.specs.Rows.{flatten, rows_of, scaled, sorted, largest, smallest}
+use Rattle.rows.specs.Rows.{flatten, rows_of, scaled, sorted}
 use Rattle.rows.specs.Plain.{all_plain}
 use Rattle.rows.proofs.Flat.{rows_flat, length_flatten}
 use Rattle.rows.proofs.Areas.{length_scaled}

@@ -17,7 +17,6 @@ use Rattle.ieee.proofs.Numbers.Basic.{pow_le_back}
 use Rattle.ieee.proofs.Nearest.Root.{root_nearest}
 use Rattle.ieee.proofs.Order.Signed.{AtMost, at_most_of_le}
 use Rattle.sums.specs.inner.Plus.{plus}
-use Rattle.sums.specs.Facet.{at}
 use Rattle.sums.proofs.Plus.{plus_round}
 
 -- ---- a fraction that the format has

@@ -9,7 +9,6 @@ use lib.Ieee.Positive.{num, den, positive, den_pos, own_value, above_of_le, le�
 use lib.Ieee.Scale.{finite}
 use Rattle.ieee.specs.Double.{◌⊞◌, ◌⊠◌, ◌⧄◌, one64}
 use Rattle.ieee.specs.Magnitude.{magnitude}
-use Rattle.ieee.specs.Rounded.{rounded}
 use Rattle.ieee.proofs.Order.Comparison.{le_of_not_lt}
 use Rattle.ieee.proofs.Order.Quotients.{num_pos}
 use Rattle.ieee.proofs.Order.Signed.{AtMost, le_of_at_most}

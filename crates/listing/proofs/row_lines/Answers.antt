@@ -1,5 +1,5 @@
 -- `listing::row_lines` meets its contract: each turn puts the line of a row. Assumes nothing.
-use Prim.Native.Nat.{◌+◌, ◌-◌}
+use Prim.Native.Nat.{◌+◌}
 use native.Mathlib.Omega.{arith}
 use Rattle.spelling.proofs.Left.{left_all, left_room, left_less, left_none}
 use Rattle.listing.proofs.Rows.{lines_from, row_text, lines_next, lines_end, lines_room}

@@ -3,8 +3,6 @@
 use Rattle.program.proofs.Answered.{rows_fit, record_text, refusal_text}
 use native.Mathlib.Omega.{arith}
 use Rattle.program.proofs.print_mesh.Goals as goal
-use Rattle.program.proofs.print_mesh.Lts as lts
-use Rattle.program.proofs.print_mesh.Reads.{Pre, Post}
 
 pub print_record-requires : goal.print_record-requires
 print_record-requires c =

@@ -1,9 +1,7 @@
 -- `program::run` meets its contract: what was read stands first in the two areas, by `read`'s contract. Assumes nothing.
-use Prim.Native.Nat.{◌≤◌}
 use lib.ListN.{length-take}
 use mathlib.Core.Path.{sym}
 use lib.Seq.{length-take-le}
-use Rattle.meshfile.specs.Format.{most_in_file}
 use Rattle.meshfile.proofs.Most.{reads_most}
 use Rattle.program.proofs.Held.{refusal_text, mesh_text_lem}
 use native.Mathlib.Omega.{arith}

@@ -1,6 +1,6 @@
 -- `program::run_stl` meets its contract: what was read stands first in the two areas, by `stl::read`'s contract. Assumes nothing.
 use mathlib.Core.Path.{sym}
-use Prim.Native.Nat.{◌*◌, ◌≤◌}
+use Prim.Native.Nat.{◌*◌}
 use lib.ListN.{length-take}
 use lib.Seq.{length-take-le}
 use Rattle.program.proofs.StlHeld.{refusal_text, is_stl, mesh_text_lem}

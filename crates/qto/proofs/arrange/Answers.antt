@@ -2,8 +2,6 @@
 use Rattle.qto.proofs.Arranged.{scaled_plain, arranged}
 use Rattle.std.proofs.Common.{◌∙◌}
 use Rattle.qto.proofs.arrange.Goals as goal
-use Rattle.qto.proofs.arrange.Lts as lts
-use Rattle.qto.proofs.arrange.Reads.{Pre, Post}
 
 pub sort-requires : goal.sort-requires
 sort-requires c =

@@ -1,6 +1,5 @@
 -- `refusals::all_fine` meets its contract: what is found of the floats before i, and the rest, make up the answer. Assumes nothing.
 use mathlib.Core.Path.{refl, ap}
-use Prim.Native.Nat.{◌-◌}
 use lib.Ieee.{Float, binary32, le, of_bits}
 use Rattle.refusals.proofs.Scan.{fine_next, fine_end}
 use native.Mathlib.Omega.{arith}

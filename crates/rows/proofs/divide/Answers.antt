@@ -1,6 +1,6 @@
 -- `rows::divide` meets its contract: the loop only swaps rows in front of b. Assumes nothing.
 use mathlib.Core.Path.{refl}
-use Prim.Native.Nat.{◌+◌, ◌-◌}
+use Prim.Native.Nat.{◌+◌}
 use Rattle.rows.proofs.Counts.{same_rows}
 use Rattle.rows.proofs.Sinking.{swap_keeps}
 use native.Mathlib.Omega.{arith}

@@ -1,6 +1,5 @@
 -- `rows::insertion` meets its contract. The first rows are rising, one more each turn. Assumes nothing.
 use mathlib.Core.Path.{refl}
-use Prim.Native.Nat.{◌-◌}
 use native.Mathlib.Omega.{arith}
 use Rattle.rows.proofs.Counts.{same_rows, same_then}
 use Rattle.rows.proofs.insertion.Goals as goal

@@ -1,6 +1,5 @@
 -- `rows::scale` meets its contract. The first i rows are scaled. Assumes nothing.
 use mathlib.Core.Path.{refl, ◌∙◌, ap, sym}
-use Prim.Native.Nat.{◌-◌}
 use native.Mathlib.Omega.{arith}
 use Rattle.rows.specs.Rows.{flatten, rows_of}
 use Rattle.rows.proofs.Areas.{scaled_none, scaled_next, scaled_all}

@@ -1,6 +1,6 @@
 -- What the loop keeps, and what grows less by each turn.
 use mathlib.Core.Path.{◌≡◌}
-use Prim.Native.Nat.{◌-◌, ◌≤◌}
+use Prim.Native.Nat.{◌≤◌}
 use lib.ListN.{length}
 use Rattle.rows.specs.Rows.{rows_of}
 use Rattle.rows.specs.inner.Passes.{Keeps}

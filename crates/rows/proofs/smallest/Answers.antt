@@ -1,7 +1,5 @@
 -- `rows::smallest` meets its contract. The least so far, carried over the rest of the rows, is that of all rows. Assumes nothing.
 use mathlib.Core.Path.{refl, ◌∙◌, ap, sym}
-use mathlib.Core.Bool.{false}
-use Prim.Native.Nat.{◌-◌}
 use native.Mathlib.Omega.{arith}
 use lib.Ieee.{of_bits, nan_bits}
 use Rattle.rows.specs.declared.PlanarSurface.{PlanarSurface}

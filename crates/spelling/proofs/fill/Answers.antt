@@ -1,6 +1,5 @@
 -- `spelling::fill` meets its contract: each turn puts a number or a byte of the form. Assumes nothing.
-use mathlib.Core.Logic.{⊎_elim}
-use Prim.Native.Nat.{◌<◌, ◌-◌}
+use Prim.Native.Nat.{◌<◌}
 use lib.ListN.{length}
 use Rattle.spelling.proofs.Left.{left_all, left_less, byte_room, left_byte, left_none}
 use Rattle.spelling.proofs.Turns.{number_left, number_room, form_number, form_byte, form_end}
@@ -47,10 +46,10 @@ loop-i-preserved c =
     let a = c.args in (
       search rules,
       elim c.if-form-i.branch [
-        then-form-i w ↦ rw (w.out-is, w.end-is, w.used-is) (left_less c.loop-i.invariant.1 _ _
-        (form_number a.form.now c.loop-i.i a.numbers.now c.loop-i.used (search rules) w.if-form-i.true) w.put_number-end.ensures)
-      | else-form-i w ↦ rw (w.out-is, w.end-is, w.used-is) (left_byte c.loop-i.invariant.1 _ _
-        (form_byte a.form.now c.loop-i.i a.numbers.now c.loop-i.used (search rules) w.if-form-i.false))
+        | then-form-i w ↦ rw (w.out-is, w.end-is, w.used-is) (left_less c.loop-i.invariant.1 _ _
+            (form_number a.form.now c.loop-i.i a.numbers.now c.loop-i.used (search rules) w.if-form-i.true) w.put_number-end.ensures)
+        | else-form-i w ↦ rw (w.out-is, w.end-is, w.used-is) (left_byte c.loop-i.invariant.1 _ _
+            (form_byte a.form.now c.loop-i.i a.numbers.now c.loop-i.used (search rules) w.if-form-i.false))
       ],
     )
 

@@ -1,5 +1,4 @@
 -- `spelling::put` meets its contract: i bytes are copied, and then all of them. Assumes nothing.
-use Prim.Native.Nat.{◌-◌}
 use native.Mathlib.Omega.{arith}
 use lib.Seq.{paste-zero}
 use Rattle.spelling.proofs.Puts.{paste_more, puts_all}

@@ -1,6 +1,4 @@
 -- `spelling::put_line` meets its contract: a byte is put where the line is the wanted one. Assumes nothing.
-use mathlib.Core.Logic.{⊎_elim}
-use Prim.Native.Nat.{◌-◌}
 use native.Mathlib.Omega.{arith}
 use borrow.Author.Tests.{eq-eqb, ne_eqb}
 use lib.Dec.{eqb}
@@ -35,10 +33,10 @@ loop-i-preserved c =
       search rules,
       omega (arith, byte_small (eqb (get_or a.lines.now c.loop-i.i 0) 10)),
       elim c.if-line-wanted.branch [
-        then-line-wanted w ↦ rw (w.out-is, w.end-is) (left_byte c.loop-i.invariant.2 _ _
-        (line_put a.lines.now c.loop-i.i c.loop-i.line a.k (search rules) (eq-eqb _ _ w.if-line-wanted.true)))
-      | else-line-wanted w ↦ rw (w.out-is, w.end-is) (rw (line_passed a.lines.now c.loop-i.i c.loop-i.line a.k (search rules)
-        (ne_eqb _ _ w.if-line-wanted.false)) at c.loop-i.invariant.2)
+        | then-line-wanted w ↦ rw (w.out-is, w.end-is) (left_byte c.loop-i.invariant.2 _ _
+            (line_put a.lines.now c.loop-i.i c.loop-i.line a.k (search rules) (eq-eqb _ _ w.if-line-wanted.true)))
+        | else-line-wanted w ↦ rw (w.out-is, w.end-is) (rw (line_passed a.lines.now c.loop-i.i c.loop-i.line a.k (search rules)
+            (ne_eqb _ _ w.if-line-wanted.false)) at c.loop-i.invariant.2)
       ],
     )
 

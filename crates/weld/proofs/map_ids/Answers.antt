@@ -1,6 +1,6 @@
 -- `weld::map_ids` meets its contract. The invariant: the first i ids stand behind the table, mapped, and the table is as it was.
 -- Assumes nothing.
-use Rattle.std.proofs.Common.{◌-◌, arith}
+use Rattle.std.proofs.Common.{arith}
 use Rattle.weld.proofs.Mapping.{map_first, map_next, map_last}
 use Rattle.weld.proofs.map_ids.Goals as goal
 

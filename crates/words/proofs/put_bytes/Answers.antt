@@ -1,6 +1,5 @@
 -- `words::put_bytes` meets its contract: the words put and those to come are all. Assumes nothing.
 use mathlib.Core.Path.{refl}
-use Prim.Native.Nat.{◌-◌}
 use native.Mathlib.Omega.{arith}
 use Rattle.words.proofs.BytesPut.{bytes_none, bytes_next, bytes_all}
 use borrow.Author.Rules.{rules}

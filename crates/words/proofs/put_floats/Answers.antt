@@ -1,6 +1,5 @@
 -- `words::put_floats` meets its contract: the words put and those to come are the payload's. Assumes nothing.
 use mathlib.Core.Path.{refl, ◌∙◌}
-use Prim.Native.Nat.{◌-◌}
 use native.Mathlib.Omega.{arith}
 use lib.Ieee.{binary32, of_bits}
 use Rattle.words.proofs.Words.{floats_map, put_none, put_next, put_all}

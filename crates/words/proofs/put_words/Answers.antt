@@ -1,7 +1,7 @@
 -- `words::put_words` meets its contract: the words put and those to come are the payload's. Assumes nothing.
 use mathlib.Core.List.{map-id}
 use mathlib.Core.Path.{refl, ◌∙◌}
-use Prim.Native.Nat.{ℕ, ◌-◌}
+use Prim.Native.Nat.{ℕ}
 use native.Mathlib.Omega.{arith}
 use Rattle.words.proofs.Words.{put_none, put_next, put_all}
 use borrow.Author.Rules.{rules}

@@ -1,7 +1,5 @@
 -- `mf_read_mesh` gives the numbers of what `meshfile::read_bits` gives. Assumes nothing.
-use Prim.Native.Nat.{◌≤◌}
 use native.Mathlib.Omega.{arith}
-use Rattle.meshfile.specs.Format.{most_in_file}
 use Rattle.meshfile.proofs.Most.{reads_most_bits}
 use Rattle.meshfile.proofs.Numbers.{refused_read, counted}
 use Rattle.capi.proofs.files_c.mf_read_mesh.Goals as goal

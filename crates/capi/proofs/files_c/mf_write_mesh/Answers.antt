@@ -1,7 +1,5 @@
 -- `mf_write_mesh` gives the number of what `meshfile::write` gives, after the flags. Assumes nothing.
-use Prim.Native.Nat.{◌≤◌}
 use native.Mathlib.Omega.{arith}
-use Rattle.meshfile.specs.Written.{longest}
 use Rattle.meshfile.specs.Numbers.{writing_number}
 use Rattle.meshfile.proofs.Writes.{written_few}
 use Rattle.meshfile.proofs.Numbers.{flags_refused, as_written}

@@ -14,7 +14,7 @@ overflow_mul-result c = let small : c.in-Answer.said.max_abs ≤ most_entries = 
 pub overflow_add-result : goal.overflow_add-result
 unfolding NetSmall
 overflow_add-result c =
-    let small : c.in-Answer.said.max_abs ≤ most_entries = rw c.in-Answer.is at c.requires in 
+    let small : c.in-Answer.said.max_abs ≤ most_entries = rw c.in-Answer.is at c.requires in
     omega (arith, byte_small c.in-Answer.said.all_cancel)
 
 pub returns-in-Answer : goal.returns-in-Answer

@@ -1,5 +1,5 @@
 -- `sums::bounds::box_of` meets its contract. The loop's invariant: the bounds are those of the first v vertices. Assumes nothing.
-use Rattle.std.proofs.Common.{◌≡◌, ◌-◌, ◌/◌, length, add-one, arith}
+use Rattle.std.proofs.Common.{◌≡◌, ◌/◌, length, add-one, arith}
 use Rattle.sums.proofs.bounds.box_of.Goals as goal
 
 pub loop-v-preserved : goal.loop-v-preserved

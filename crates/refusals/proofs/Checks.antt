@@ -152,7 +152,7 @@ zero_only : (many few : Bool) (behind behind' : Check) → is_zero behind ≡ fa
     → cond many (Check.Refuse 1) (cond few Check.Zero behind) ≡ Check.Zero
     → cond many (Check.Refuse 1) (cond few Check.Zero behind') ≡ Check.Zero
 unfolding is_zero
-zero_only true few behind behind' h e = absurd (false≢true (ap is_zero e))
+zero_only true is_few behind behind' h e = absurd (false≢true (ap is_zero e))
 zero_only false true behind behind' h e = refl
 zero_only false false behind behind' h e = absurd (false≢true (sym h ∙ ap is_zero e))
 

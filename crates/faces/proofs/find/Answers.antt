@@ -38,7 +38,7 @@ module _ (c : lts.After-same the-claims Pre Post goal.the-invariant-loop-at goal
   on : c.same.result ≡ false → Onward c.args.n c.args.start key (face_uses c.args.work.now) sought c.loop-at.r
   on differs =
       let other = same_ne same_face face_refl (key c.loop-at.r) sought (told ∙ differs) in
-      turn_on c.loop-at.invariant (used _ (omega (arith, c.if-work-at-eq0.false))) other c.requires.free
+      turn_on c.loop-at.invariant (used _ (omega arith)) other c.requires.free
 
 pub loop-at-smaller : goal.loop-at-smaller
 loop-at-smaller c = rw c.next-r.ensures (on c.before.before.before c.if-same.false).less

@@ -5,15 +5,15 @@ use Rattle.rounding.proofs.narrowing.narrow_size.Goals as goal
 
 pub returns-then-m-lt3886606478420738048 : goal.returns-then-m-lt3886606478420738048
 returns-then-m-lt3886606478420738048 c =
-    let m = c.args.m in narrow_tiny (m / 2 ^ 52) (m % 2 ^ 52) (omega (arith, c.if-m-lt3886606478420738048.true)) (omega arith)
+    let m = c.args.m in narrow_tiny (m / 2 ^ 52) (m % 2 ^ 52) (omega arith) (omega arith)
 
 pub returns-then-m-lt4039728865751334912 : goal.returns-then-m-lt4039728865751334912
 returns-then-m-lt4039728865751334912 c =
     let m = c.args.m in
     c.nearest_shift.ensures
-    ∙ narrow_small (m / 2 ^ 52) (m % 2 ^ 52) (omega (arith, c.if-m-lt3886606478420738048.false)) (omega (arith, c.if-m-lt4039728865751334912.true))
+    ∙ narrow_small (m / 2 ^ 52) (m % 2 ^ 52) (omega arith) (omega arith)
     (omega arith)
 
 pub returns-else-m-lt5183643171103440896 : goal.returns-else-m-lt5183643171103440896
 returns-else-m-lt5183643171103440896 c =
-    let m = c.args.m in narrow_large (m / 2 ^ 52) (m % 2 ^ 52) (omega (arith, c.if-m-lt5183643171103440896.false)) (omega arith)
+    let m = c.args.m in narrow_large (m / 2 ^ 52) (m % 2 ^ 52) (omega arith) (omega arith)

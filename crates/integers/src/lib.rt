@@ -13,6 +13,7 @@ use patterns::{FIELD, SIGN, bits64, f32_of, f64_of};
 
 // The size of a float below 2^63 without its fraction, from its pattern's fields. With the digits at the top of a word
 // one shift serves every size from 1 on.
+#[tactic(auto, using(ieee::proofs::Patterns::Integer::none_size, ieee::proofs::Patterns::Integer::shift_size))]
 fn cut_size(e: u64, t: u64) -> u64
     requires { (e < 1086) × (t < 2 ^ 52) }
     ensures { result ≡ sized binary64 e t / 2 ^ 1074 }

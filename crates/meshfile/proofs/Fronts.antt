@@ -80,6 +80,11 @@ module _ {kind n : ℕ} {bytes : List ℕ} (head : Header kind n bytes) where
   pub payload_whole : length_fits kind n ≡ true → n / 4 ≤ most_in_file → 6 + n ≤ length bytes → Front.Payload n ≡ front_of kind bytes
   payload_whole h m r = rw (read_on, h, le-ltb most_in_file (n / 4) m, le-ltb (length bytes) (6 + n) r)
 
+-- too many, from what was read and tested before, whatever the test is called
+pub too_many_front : (kind : ℕ) (bytes : List ℕ) → 6 ≤ length bytes → u16_at bytes 4 ≡ kind → length_fits kind (u32_at bytes 0) ≡ true
+    → 1536 < u32_at bytes 0 / 4 → Front.Fault 6 ≡ front_of kind bytes
+too_many_front kind bytes l k h m = too_many_lem (record { whole = l; kind_is = k; size = refl }) h m
+
 pub front_is : (kind n : ℕ) (bytes : List ℕ) → Record kind n bytes → front_of kind bytes ≡ Front.Payload n
 front_is kind n bytes r =
     let head : Header kind n bytes = record { whole = omega (arith, r.room); kind_is = r.kind_is; size = r.size } in

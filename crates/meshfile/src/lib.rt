@@ -67,6 +67,7 @@ fn length_fits(kind: u32, n: usize) -> bool
     n % 4 == 0
 }
 
+#[tactic(auto, using(crate::proofs::Fronts::too_many_front))]
 fn front_of(bytes: &[u8], kind: u32) -> Front
     ensures { result ≡ front_of kind bytes.now }
 {

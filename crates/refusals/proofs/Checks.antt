@@ -1,7 +1,7 @@
 -- The table of refusals by its tests: the first row that applies, and what it says of a mesh and of the lent areas that none does.
 use mathlib.Core.Path.{◌≡◌, refl, sym, ◌∙◌, ap}
 use mathlib.Core.Bool.{Bool, true, false, not, ◌||◌, false≢true, cond}
-use Prim.Native.Nat.{ℕ, ◌≤◌}
+use Prim.Native.Nat.{ℕ, ◌≤◌, ◌<◌}
 use native.Mathlib.Omega.{arith}
 use mathlib.Core.List.{List}
 use lib.Dec.{T, eqb, ltb}
@@ -29,6 +29,12 @@ both_small f i e =
 pub unknown_edition : (e : ℕ) → (e ≡ 1 → ⊥) → (e ≡ 2 → ⊥) → false ≡ edition_known e
 unfolding edition_known
 unknown_edition e not-1 not-2 = rw (ne_eqb e 1 not-1, ne_eqb e 2 not-2)
+
+pub edition_below : (e : ℕ) → e < 1 → false ≡ edition_known e
+edition_below e l = unknown_edition e (λ h. omega (arith, l, h)) (λ h. omega (arith, l, h))
+
+pub edition_above : (e : ℕ) → 2 < e → false ≡ edition_known e
+edition_above e l = unknown_edition e (λ h. omega (arith, l, h)) (λ h. omega (arith, l, h))
 
 pub known_edition : (e : ℕ) → 1 ≤ e → e ≤ 2 → true ≡ edition_known e
 unfolding edition_known
@@ -85,6 +91,19 @@ module _ (vs : List Float) (ids : List ℕ) (u : Float) (e w r s : ℕ) where
     pub no_row : short ≡ false → all_fine vs ≡ true → Check.Full ≡ check_of vs ids u e w r s
     unfolding check_of
     no_row d f = rw (h.not_many, h.not_few, h.unit, h.edition, d, f)
+
+  -- the last three of what the tests said, each by itself
+  pub by_3 : many ≡ false → few ≡ false → unit_fits u ≡ true → edition_known e ≡ true → short ≡ true
+      → Check.Refuse 3 ≡ check_of vs ids u e w r s
+  by_3 a b c d = row_3 (record { not_many = a; not_few = b; unit = c; edition = d })
+
+  pub by_4 : many ≡ false → few ≡ false → unit_fits u ≡ true → edition_known e ≡ true → short ≡ false → all_fine vs ≡ false
+      → Check.Refuse 4 ≡ check_of vs ids u e w r s
+  by_4 a b c d = row_4 (record { not_many = a; not_few = b; unit = c; edition = d })
+
+  pub by_none : many ≡ false → few ≡ false → unit_fits u ≡ true → edition_known e ≡ true → short ≡ false → all_fine vs ≡ true
+      → Check.Full ≡ check_of vs ids u e w r s
+  by_none a b c d = no_row (record { not_many = a; not_few = b; unit = c; edition = d })
 
 -- ---- none applies
 

@@ -25,6 +25,7 @@ fn unit_fits(unit: f32) -> bool
 }
 
 // 1 or 2.
+#[tactic(auto, using(crate::proofs::Checks::edition_below, crate::proofs::Checks::edition_above, crate::proofs::Checks::known_edition))]
 fn edition_known(edition: u32) -> bool
     ensures { result ≡ edition_known edition }
 {
@@ -77,6 +78,7 @@ fn areas_short(f: usize, i: usize, work: usize, raster: usize, surfaces: usize) 
 }
 
 // What the table says.
+#[tactic(auto, using(crate::proofs::Checks::row_1, crate::proofs::Checks::row_zero, crate::proofs::Checks::row_2, crate::proofs::Checks::row_7, crate::proofs::Checks::by_3, crate::proofs::Checks::by_4, crate::proofs::Checks::by_none))]
 pub fn checked(
     vertices: &[f32],
     indices: &[u32],

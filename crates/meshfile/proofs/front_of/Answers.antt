@@ -3,7 +3,7 @@ use mathlib.Core.Path.{◌≡◌, sym, ◌∙◌}
 use mathlib.Core.Bool.{true}
 use native.Mathlib.Omega.{arith}
 use Rattle.meshfile.specs.Format.{length_fits}
-use Rattle.meshfile.proofs.Fronts.{Header, header_cut, wrong_kind, wrong_length, too_many_lem, payload_cut, payload_whole}
+use Rattle.meshfile.proofs.Fronts.{Header, header_cut, wrong_kind, wrong_length, payload_cut, payload_whole}
 use Rattle.meshfile.proofs.front_of.Goals as goal
 use Rattle.meshfile.proofs.front_of.Lts as lts
 use Rattle.meshfile.proofs.front_of.Tie.{the-claims}
@@ -32,15 +32,12 @@ fits c = sym c.length_fits.ensures ∙ c.if-not-length_fits.false
 pub returns-then-not-length_fits : goal.returns-then-not-length_fits
 returns-then-not-length_fits c = wrong_length (header c.before.before.before) (sym c.length_fits.ensures ∙ c.if-not-length_fits.true)
 
-pub returns-then-n-gt1536 : goal.returns-then-n-gt1536
-returns-then-n-gt1536 c = too_many_lem (header c.before.before.before.before) (fits c.before.before) (omega (arith, c.if-n-gt1536.true))
-
 pub returns-then-bytes-n : goal.returns-then-bytes-n
 returns-then-bytes-n c =
-    payload_cut (header c.before.before.before.before.before) (fits c.before.before.before) (omega (arith, c.if-n-gt1536.false))
+    payload_cut (header c.before.before.before.before.before) (fits c.before.before.before) (omega arith)
     (omega (arith, c.if-bytes-n.true))
 
 pub returns : goal.returns
 returns c =
-    payload_whole (header c.before.before.before.before.before) (fits c.before.before.before) (omega (arith, c.if-n-gt1536.false))
+    payload_whole (header c.before.before.before.before.before) (fits c.before.before.before) (omega arith)
     (omega (arith, c.if-bytes-n.false))

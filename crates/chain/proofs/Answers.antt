@@ -2,14 +2,14 @@
 use Rattle.ids.proofs.Lent.{gives_one}
 use Rattle.chain.specs.Answers.{EdgeChainOne, FaceNetOne, ClosedManifoldOne, WindingCoherentOne}
 
-pub edge-chain-one : EdgeChainOne
-edge-chain-one ids area r r' after after' = gives_one _ _ _ ids area r r' after after'
+pub edge_chain_one : EdgeChainOne
+edge_chain_one ids area r r' after after' = gives_one _ _ _ ids area r r' after after'
 
-pub face-net-one : FaceNetOne
-face-net-one ids area r r' after after' = gives_one _ _ _ ids area r r' after after'
+pub face_net_one : FaceNetOne
+face_net_one ids area r r' after after' = gives_one _ _ _ ids area r r' after after'
 
-pub closed-manifold-one : ClosedManifoldOne
-closed-manifold-one ids area r r' after after' = gives_one _ _ _ ids area r r' after after'
+pub closed_manifold_one : ClosedManifoldOne
+closed_manifold_one ids area r r' after after' = gives_one _ _ _ ids area r r' after after'
 
-pub winding-coherent-one : WindingCoherentOne
-winding-coherent-one ids area r r' after after' = gives_one _ _ _ ids area r r' after after'
+pub winding_coherent_one : WindingCoherentOne
+winding_coherent_one ids area r r' after after' = gives_one _ _ _ ids area r r' after after'

@@ -36,7 +36,7 @@ ClosedManifoldGiven = VerdictGiven closed_manifold
 abbrev pub WindingCoherentGiven : List ℕ → List ℕ → Verdict → List ℕ → Type 0
 WindingCoherentGiven = VerdictGiven winding_coherent
 
--- ---- each leaves one answer and one area (`edge-chain-one`, `face-net-one`, `closed-manifold-one`, `winding-coherent-one`)
+-- ---- each leaves one answer and one area (`edge_chain_one`, `face_net_one`, `closed_manifold_one`, `winding_coherent_one`)
 
 abbrev pub EdgeChainOne : Type 0
 EdgeChainOne = OneGiven EdgeChainGiven

@@ -16,7 +16,7 @@ pub record IdsUnseen : Type 0 where
   pub edge_chain : Unseen EdgeChainGiven
   pub face_net : Unseen FaceNetGiven
   pub is_closed_manifold : Unseen ClosedManifoldGiven
-  pub winding_coherent_lem : Unseen WindingCoherentGiven
+  pub winding_coherent : Unseen WindingCoherentGiven
   pub piece_count : Unseen PiecesGiven
   -- and their C forms
   pub mf_edge_chain : Unseen EdgeChainNumbered

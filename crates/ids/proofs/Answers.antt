@@ -5,8 +5,8 @@ use Rattle.ids.specs.Meaning.{AnswersMean}
 use Rattle.ids.proofs.Meaning.{boundary_free_tells, over_incident_tells, closed_manifold_tells, all_cancel_tells, max_abs_is_largest}
 use Rattle.ids.proofs.Winding.{winding_coherent_tells}
 
-pub answers-mean : (ids : List ℕ) → AnswersMean ids
-answers-mean ids = record {
+pub answers_mean : (ids : List ℕ) → AnswersMean ids
+answers_mean ids = record {
   boundary_free_lem = boundary_free_tells ids;
   over_incident_lem = over_incident_tells ids;
   closed_manifold_lem = closed_manifold_tells ids;

@@ -9,7 +9,7 @@ use Rattle.ids.specs.Pieces.{share_edge, pieces}
 
 -- one row: ids, and what is said of them
 pub data Example : Type 0 where
-  says : (ids : List ℕ) (boundary_free_lem over_incident_lem : Bool) (max_abs_lem : ℕ) (all_cancel_lem manifold coherent : Bool) (pieces : ℕ) → Example
+  says : (ids : List ℕ) (free crowded : Bool) (largest : ℕ) (cancel manifold coherent : Bool) (pieces : ℕ) → Example
 
 unfoldable pub Holds : List Example → Type 0
 Holds [] = Unit {0}

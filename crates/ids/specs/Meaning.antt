@@ -58,7 +58,7 @@ pub record WindingCoherent (ids : List ℕ) : Type 0 where
   pub some : 0 < length edges
   pub few : 50 * length bad ≤ length edges
 
--- ---- each answer is yes exactly where the above holds (`answers-mean`)
+-- ---- each answer is yes exactly where the above holds (`answers_mean`)
 pub record AnswersMean (ids : List ℕ) : Type 0 where
   pub boundary_free_lem : Tells (boundary_free ids) (BoundaryFree ids)
   pub over_incident_lem : Tells (over_incident ids) (OverIncident ids)

@@ -1,5 +1,5 @@
 -- What it means that a contract leaves one answer. Each contract of `floats` is `r ≡ d` with a definition d, or `SignCleared`:
--- `equation-one` and `sign-cleared-one` of proofs/Answers.antt say it of these two forms.
+-- `equation_one` and `sign_cleared_one` of proofs/Answers.antt say it of these two forms.
 use Rattle.std.specs.Prelude.{◌≡◌}
 
 -- any two answers that P allows are equal

@@ -4,3 +4,4 @@ pub mod Tally
 mod Gathering
 mod Behind
 mod Pairs
+mod Crowded

@@ -129,6 +129,7 @@ fn one_unbalanced(ups: u32, downs: u32) -> u32
     if ups == downs { 0 } else { 1 }
 }
 
+#[tactic(auto, using(crate::proofs::Crowded::crowded_above_two, crate::proofs::Crowded::crowded_up_to_two))]
 fn one_crowded(uses: u32) -> u32
     ensures { (result ≡ gate uses (bit (crowded uses 0))) × (result ≤ 1) }
 {

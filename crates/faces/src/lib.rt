@@ -70,6 +70,7 @@ fn same(ids: &[u32], t: usize, low: u32, mid: u32, high: u32) -> bool
 }
 
 // The first row, from `start` on and round, that holds the face or is free.
+#[tactic(auto, using(table::proofs::Counts::none_used))]
 fn find(ids: &[u32], work: &[u32], n: usize, low: u32, mid: u32, high: u32, start: usize) -> usize
     requires { FaceSearch ids.now n start work.now }
     ensures { Found n start (face_at ids.now work.now) (face_uses work.now)

@@ -14,6 +14,7 @@ use grid::{Flat, Grid};
 // ---- one triangle
 
 // Byte k becomes the number of where the point lies, if that is greater. 2, inside, is the greatest: such a cell is not tested again.
+#[tactic(auto, using(crate::proofs::Numbers::most_two))]
 fn mark(part: &mut [u8], k: usize, px: f32, py: f32, t: Flat)
     requires { k < length part.old }
     ensures { Adds part.old part.new (λ i. only_if (eqb i k) (place_number (place px py t))) }

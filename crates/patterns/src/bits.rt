@@ -27,6 +27,7 @@ pub fn bits32(x: f32) -> u32
 }
 
 // The float with the pattern b. A pattern above that of infinity, but for the sign, is a NaN's.
+#[tactic(auto, using(crate::proofs::Nans::nan_above_inf, ieee::proofs::Patterns::Nan::up_to_inf))]
 pub fn f64_of(b: u64) -> f64
     ensures { result ≡ of_bits binary64 b }
 {

@@ -18,6 +18,7 @@ fn narrow_normal(m: u64) -> u64
 }
 
 // The size of a finite `f64`, by its pattern, as the pattern of the nearest `f32`.
+#[tactic(auto, using(crate::proofs::Tiny::tiny_is_none))]
 fn narrow_size(m: u64) -> u64
     requires { m < 0x7ff0_0000_0000_0000 }
     ensures { result ≡ narrow_size m }

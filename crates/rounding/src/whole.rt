@@ -67,6 +67,7 @@ fn whole64(x: f64, above: Way, below: Way) -> f64
 }
 
 // The same, by the pattern that x has as an `f64`. From 2^23 on x is whole.
+#[tactic(auto, using(crate::proofs::Large::large_is_whole))]
 fn whole32(x: f32, above: Way, below: Way) -> f32
     ensures { result ≡ integral binary32 (way_of above) (way_of below) x }
 {

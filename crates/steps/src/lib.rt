@@ -23,6 +23,7 @@ fn hash(low: u32, high: u32) -> u32
 }
 
 // The first row, from `start` on and round, that holds the edge or is free.
+#[tactic(auto, using(table::proofs::Counts::none_used))]
 fn find(work: &[u32], n: usize, low: u32, high: u32, start: usize) -> usize
     requires { EdgeSearch n start work.now }
     ensures { Found n start (edge_at work.now) (edge_uses work.now)

@@ -6,7 +6,7 @@ use Prim.Native.Nat.{ℕ, ◌*◌}
 use native.Mathlib.Omega.{arith}
 use Rattle.ids.specs.FaceNet.{Face, same_face}
 use Rattle.ids.proofs.Same.{face_eq, face_refl, same_ne}
-use Rattle.table.proofs.Counts.{none_used, used}
+use Rattle.table.proofs.Counts.{used}
 use Rattle.table.proofs.Turn.{Onward, look_first, turn_ends, turn_on}
 use Rattle.faces.specs.inner.Rows.{face_at, face_uses}
 use Rattle.faces.proofs.find.Goals as goal
@@ -45,9 +45,6 @@ loop-at-smaller c = rw c.next-r.ensures (on c.before.before.before c.if-same.fal
 
 pub loop-at-preserved : goal.loop-at-preserved
 loop-at-preserved c = rw c.next-r.ensures (on c.before.before.before c.if-same.false).next
-
-pub returns-then-work-at-eq0 : goal.returns-then-work-at-eq0
-returns-then-work-at-eq0 c = turn_ends c.loop-at.invariant (λ u. absurd (omega (arith, none_used _ c.if-work-at-eq0.true)))
 
 pub returns-then-same : goal.returns-then-same
 returns-then-same c = turn_ends c.loop-at.invariant (λ u. face_eq (key c.before.before c.loop-at.r) (sought c.before.before) (told c.before.before ∙ c.if-same.true))

@@ -1,10 +1,8 @@
--- `paint::mark` meets its contract: the byte is set where the number is greater, and kept where it is not; no number is above 2. Assumes
--- nothing.
+-- `paint::mark` meets its contract: the byte is set where the number is greater, and kept where it is not. Assumes nothing.
 use mathlib.Core.Path.{◌≡◌, ◌∙◌, ap}
 use native.Mathlib.Omega.{arith}
 use Rattle.grid.specs.Point.{place, place_number}
 use Rattle.paint.proofs.Painting.{adds_nothing, adds_one}
-use Rattle.paint.proofs.Numbers.{most_two}
 use Rattle.paint.proofs.mark.Goals as goal
 use Rattle.paint.proofs.mark.Lts as lts
 use Rattle.paint.proofs.mark.Tie.{the-claims}
@@ -26,8 +24,3 @@ returns-else-said-number c =
     let a = c.args in
     let e = is_number c.before.before in
     adds_nothing a.part.now a.k _ (omega (arith, e, c.if-said-number.false))
-
-pub returns-else-said-lt2 : goal.returns-else-said-lt2
-returns-else-said-lt2 c =
-    let a = c.args in
-    adds_nothing a.part.now a.k _ (omega (arith, most_two (place a.px a.py a.t), c.if-said-lt2.false))

@@ -3,9 +3,9 @@
 use native.Mathlib.Omega.{arith}
 use Rattle.ids.specs.EdgeChain.{Edge, same_edge}
 use Rattle.ids.proofs.Same.{edge_eq, edge_refl, same_ne}
-use Rattle.table.proofs.Counts.{none_used, used}
+use Rattle.table.proofs.Counts.{used}
 use Rattle.table.proofs.Turn.{Onward, look_first, turn_ends, turn_on}
-use Rattle.steps.specs.inner.Rows.{edge_at, edge_word, edge_uses}
+use Rattle.steps.specs.inner.Rows.{edge_at, edge_uses}
 use Rattle.steps.proofs.find.Goals as goal
 use Rattle.steps.proofs.find.Lts as lts
 use Rattle.steps.proofs.find.Tie.{the-claims}
@@ -29,11 +29,6 @@ loop-at-preserved c = rw c.next-r.ensures (on c.before.before).next
 
 pub loop-at-smaller : goal.loop-at-smaller
 loop-at-smaller c = rw c.next-r.ensures (on c.before.before).less
-
-pub returns-then-work-at-eq0 : goal.returns-then-work-at-eq0
-returns-then-work-at-eq0 c =
-    let word = edge_word c.args.work.now c.loop-at.r in
-    turn_ends c.loop-at.invariant (λ u. absurd (omega (arith, none_used word (omega (arith, c.if-work-at-eq0.true)))))
 
 pub returns-then-work-at : goal.returns-then-work-at
 unfolding same_edge

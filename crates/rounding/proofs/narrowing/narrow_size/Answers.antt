@@ -1,11 +1,7 @@
 -- `rounding::narrowing::narrow_size` meets its contract. Assumes nothing.
 use Rattle.std.proofs.Common.{◌/◌, ◌%◌, ◌^◌, ◌∙◌, arith}
-use Rattle.ieee.proofs.Patterns.Narrowed.{narrow_large, narrow_small, narrow_tiny}
+use Rattle.ieee.proofs.Patterns.Narrowed.{narrow_large, narrow_small}
 use Rattle.rounding.proofs.narrowing.narrow_size.Goals as goal
-
-pub returns-then-m-lt3886606478420738048 : goal.returns-then-m-lt3886606478420738048
-returns-then-m-lt3886606478420738048 c =
-    let m = c.args.m in narrow_tiny (m / 2 ^ 52) (m % 2 ^ 52) (omega arith) (omega arith)
 
 pub returns-then-m-lt4039728865751334912 : goal.returns-then-m-lt4039728865751334912
 returns-then-m-lt4039728865751334912 c =

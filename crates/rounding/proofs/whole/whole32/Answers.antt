@@ -1,10 +1,9 @@
 -- `rounding::whole::whole32` meets its contract. Assumes nothing.
 use Rattle.std.proofs.Common.{◌≡◌, arith}
 use lib.Ieee.{binary32, binary64, of_bits}
-use denote.Floats.{passes}
 use Rattle.rounding.specs.inner.Ways.{way_of}
 use Rattle.ieee.proofs.Patterns.Back.{read_wide}
-use Rattle.ieee.proofs.Patterns.Integral.{below_zero, from_zero_up, holds, whole_already}
+use Rattle.ieee.proofs.Patterns.Integral.{below_zero, from_zero_up, holds}
 use Rattle.rounding.proofs.whole.whole32.Goals as goal
 use Rattle.rounding.proofs.whole.whole32.Goals.{After-bits64-b}
 
@@ -16,10 +15,6 @@ pub int_to_float-n : goal.int_to_float-n
 int_to_float-n c =
     let ways = c.args in
     holds binary32 (way_of ways.above) (way_of ways.below) _ _ (is c.before.before.before) _ (omega arith) c.whole_size-n.ensures
-
-pub returns-then-e-ge1046 : goal.returns-then-e-ge1046
-returns-then-e-ge1046 c =
-    whole_already binary32 _ _ _ _ (is c.before) (passes _ c.well_formed.0.1) (omega (arith, c.if-e-ge1046.true))
 
 pub returns-then-b-lt-SIGN : goal.returns-then-b-lt-SIGN
 returns-then-b-lt-SIGN c =

@@ -1,0 +1,3 @@
+-- What the proofs of functions cite.
+mod Large
+mod Tiny

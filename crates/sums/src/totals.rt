@@ -37,6 +37,7 @@ pub fn thresholds_of(edition: u32) -> Thresholds
     }
 }
 
+#[tactic(auto, using(crate::proofs::Slopes::by_tests))]
 fn slope_of(pair: Thresholds, z: f32) -> Slope
     ensures { result ≡ slope_of pair z }
 {

@@ -43,6 +43,7 @@ fn open_unless_free(said: Chained) -> Quality
 }
 
 // The quality of ids that are boundary-free. They stand behind the first `at` words; the face part starts the area.
+#[tactic(auto, unfolding(crate::specs::Verdict::by_faces))]
 fn by_faces(area: &mut [u32], at: usize, over_incident: bool, near: bool) -> Quality
     requires { FacesFit area.old at over_incident }
     ensures { result ≡ by_faces (drop at area.old) near }

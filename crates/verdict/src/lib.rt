@@ -88,6 +88,7 @@ fn by_welded(vertices: &[f32], indices: &[u32], eps: f32, near: bool, work: &mut
 }
 
 // What the given ids say, or if they are not boundary-free the welded ones.
+#[tactic(auto, using(crate::proofs::Parts::behind_place, crate::proofs::Parts::behind_kept, crate::proofs::Meaning::given_then_welded))]
 fn by_chain(vertices: &[f32], indices: &[u32], eps: f32, near: bool, work: &mut [u32]) -> Quality
     requires { PartsFit vertices.now indices.now work.old }
     ensures { result ≡ by_chain vertices.now indices.now eps near }

@@ -24,3 +24,6 @@ module _ (p : Thresholds) (z : Float) where
       → Slope.Inclined ≡ slope_of p z
   unfolding slope_of
   slope_inclined above below m_is small = rw (above, below, ← m_is, small)
+
+-- the four, which leave a function with these tests nothing to say
+pub ruleset by_tests = (slope_top, slope_bottom, slope_side, slope_inclined)

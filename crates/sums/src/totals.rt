@@ -21,6 +21,7 @@ pub struct Thresholds {
 }
 
 // The pair of an edition: 2 has that of 2027, 1 has 01's. Any other number gets 01's too; it is refused before it comes here.
+#[tactic(auto, using(crate::proofs::Editions::pair_of_2, crate::proofs::Editions::pair_of_others))]
 pub fn thresholds_of(edition: u32) -> Thresholds
     ensures { result ≡ thresholds_of edition }
 {
@@ -36,6 +37,7 @@ pub fn thresholds_of(edition: u32) -> Thresholds
     }
 }
 
+#[tactic(auto, using(crate::proofs::Slopes::by_tests))]
 fn slope_of(pair: Thresholds, z: f32) -> Slope
     ensures { result ≡ slope_of pair z }
 {

@@ -1,6 +1,7 @@
 -- A key as three words: one to one, so that equal codes are equal keys. An i32 has a code below 2 ^ 32, and is read back from it.
 -- Assumes nothing.
-use Rattle.std.proofs.Common.{◌≡◌, ℕ, zero, suc, ◌/◌, ◌%◌, ◌<◌, false, ℤ, pos, negsuc, ◌-ℤ◌, refl, ap, arith, w32, w64, SFits, to_z, of_z}
+use Rattle.std.proofs.Common.{◌≡◌, ℕ, zero, suc, ◌/◌, ◌%◌, ◌<◌, false, ℤ, pos, negsuc, ◌-ℤ◌, refl, ap, ◌∙◌, ◌≢◌, arith, w32, w64, SFits, to_z, of_z}
+use mir.ValLaws.{to_z_pos, to_z-of_z}
 use lib.Ieee.{Float}
 use Rattle.ieee.proofs.Order.Ranges.{signed_fits, signed_kept}
 use Rattle.slots.specs.declared.Code.{Code}
@@ -33,19 +34,33 @@ tenths_small x = coded_small (tenths x) (signed_fits w32 _)
 
 -- ---- and back
 
-pub minus_one : (h : ℕ) → negsuc 0 -ℤ pos h ≡ negsuc h
+minus_one : (h : ℕ) → negsuc 0 -ℤ pos h ≡ negsuc h
 minus_one zero = refl
 minus_one (suc h) = ap negsuc (omega arith)
 
-pub code_even : (x : ℕ) (z : ℤ) → x % 2 ≡ 0 → x ≡ coded z → pos (x / 2) ≡ z
-unfolding coded
-code_even x (pos n) h e = ap pos (omega arith)
-code_even x (negsuc n) h e = absurd (omega arith)
+-- the half of a code as 32 bits, and what is left of that below -1
+to_pos : (x : ℕ) → x < 4294967296 → to_z w32 (x / 2) ≡ pos (x / 2)
+to_pos x l = to_z_pos w32 (x / 2) (omega arith)
 
-pub code_odd : (x : ℕ) (z : ℤ) → 0 < x % 2 → x ≡ coded z → negsuc (x / 2) ≡ z
+below_zero : (x : ℕ) → x < 4294967296 → negsuc 0 -ℤ to_z w32 (x / 2) ≡ negsuc (x / 2)
+below_zero x l = rw (to_pos x l) (minus_one (x / 2))
+
+rest_fits : (x : ℕ) → x < 4294967296 → SFits w32 (negsuc 0 -ℤ to_z w32 (x / 2))
+rest_fits x l = rw (below_zero x l) (record { sfits = omega arith })
+
+pub rest_is : (x : ℕ) → x < 4294967296 → to_z w32 (of_z w32 (negsuc 0 -ℤ to_z w32 (x / 2))) ≡ negsuc (x / 2)
+rest_is x l = to_z-of_z w32 (negsuc 0 -ℤ to_z w32 (x / 2)) (rest_fits x l) ∙ below_zero x l
+
+-- an even code is twice its number, an odd one counts down from -1
+pub of_even : (z : ℤ) → coded z % 2 ≡ 0 → z ≡ pos (coded z / 2)
 unfolding coded
-code_odd x (pos n) h e = absurd (omega arith)
-code_odd x (negsuc n) h e = ap negsuc (omega arith)
+of_even (pos n) h = ap pos (omega arith)
+of_even (negsuc n) h = absurd (omega arith)
+
+pub of_odd : (z : ℤ) → coded z % 2 ≢ 0 → z ≡ negsuc (coded z / 2)
+unfolding coded
+of_odd (pos n) h = absurd (omega arith)
+of_odd (negsuc n) h = ap negsuc (omega arith)
 
 -- ---- one to one
 

@@ -101,6 +101,7 @@ fn code_of_normal(nx: f32, ny: f32, nz: f32) -> Code
 }
 
 // A number by its code: its half, or what is left of that below 0.
+#[tactic(auto, using(crate::proofs::Codes::rest_is, crate::proofs::Codes::of_even, crate::proofs::Codes::of_odd))]
 fn decoded(x: u64) -> i32
     requires { x < 4294967296 }
     ensures { (z : ℤ) → x ≡ coded_of z → result ≡ z }

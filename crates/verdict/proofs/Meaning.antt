@@ -98,3 +98,6 @@ module _ (vs : List Float) (ids : List ℕ) (ε : Float) (near : Bool) where
         go : (b : Bool) → boundary_free (welded vs ids ε) ≡ b → by_chain vs ids ε near ≡ open_unless_free (chained (welded vs ids ε) near)
         go true h = as_welded h ∙ sym (ap open_unless_free (free (welded vs ids ε) near h))
         go false h = open_still h ∙ sym (ap open_unless_free (bounded (welded vs ids ε) near h))
+
+-- these three, by which a function is by_chain that asks the given ids and then, or not, the welded ones
+pub ruleset given_then_welded = (free_is, by_given, by_welded)

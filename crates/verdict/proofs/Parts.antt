@@ -1,14 +1,14 @@
 -- Where the ids stand in the lent area: behind a part that starts in the middle, and behind what was written into such a part. Assumes
 -- nothing.
-use mathlib.Core.Path.{◌≡◌, ap, ◌∙◌}
+use mathlib.Core.Path.{◌≡◌, refl, sym, ap, ◌∙◌}
 use mathlib.Core.Bool.{Bool}
-use mathlib.Core.List.{List, [], ◌++◌, append_assoc}
+use mathlib.Core.List.{List, [], ◌++◌}
 use Prim.Native.Nat.{ℕ, ◌+◌, ◌-◌, ◌*◌, ◌/◌, ◌≤◌}
 use native.Mathlib.Omega.{arith}
 use borrow.Author.Rules.{part_to_end}
 use borrow.Rule.Slice.PartMut.{post_of, Post-is}
-use lib.ListN.{length, take, drop, length-append, length-drop, drop_of_length-le}
-use lib.Seq.{length-take-le, drop-drop, drop_at}
+use lib.ListN.{length, take, drop, length-drop, drop_of_length-le}
+use lib.Seq.{length-take-le, drop-drop, drop_at, drop-append-add}
 use Rattle.ids.proofs.Triangles.{append_none}
 use Rattle.verdict.specs.inner.Steps.{chained}
 use Rattle.verdict.specs.declared.Chained.{Chained}
@@ -19,19 +19,27 @@ behind_part e at w l =
     let whole : e + (at - e) ≡ at = omega arith in
     ap (drop (at - e)) (part_to_end w e) ∙ drop-drop (at - e) e w ∙ ap (λ (k : ℕ). drop k w) whole
 
--- m words at the start of the part from e on
-pub length_in_part : (e m : ℕ) (w : List ℕ) → e + m ≤ length w → length (take m (take (length w - e) (drop e w))) ≡ m
-length_in_part e m w l =
-    let long : length (take (length w - e) (drop e w)) ≡ length w - e = ap length (part_to_end w e) ∙ length-drop e w in
-    length-take-le m (take (length w - e) (drop e w)) (omega (arith, long))
+-- the part from `front` on was written: what stands behind a place in it
+pub behind_place : (at front n : ℕ) (w ys : List ℕ) → front ≤ at → front ≤ length w → n ≡ length w - front
+    → drop at (take front w ++ (ys ++ post_of front n w)) ≡ drop (at - front) ys
+behind_place at front n w ys l k is =
+    let none : post_of front (length w - front) w ≡ [] = Post-is front (length w) w k ∙ drop_of_length-le w {i = length w} (omega arith) in
+    let place : at ≡ length (take front w) + (at - front) = omega (arith, length-take-le front w k) in
+    rw (is, none, append_none) (ap (λ (p : ℕ). drop p (take front w ++ ys)) place ∙ drop-append-add (take front w) ys (at - front))
 
--- the part from `front` on was written, m words z and then the ids
-pub behind_written : (front m : ℕ) (w ys z ids : List ℕ) → front ≤ length w → length z ≡ m → ys ≡ z ++ ids
+-- and behind the m words that it kept
+pub behind_kept : (p m n front : ℕ) (w ids : List ℕ) → p ≡ m → m ≤ n → n + front ≤ length w
+    → drop p (take m (take n (drop front w)) ++ ids) ≡ ids
+behind_kept p m n front w ids is l k =
+    drop_at (take m (take n (drop front w))) ids p
+    (length-take-le m (take n (drop front w)) (omega (arith, length-take-le n (drop front w) (omega (arith, length-drop front w)))) ∙ sym is)
+
+-- it was written as m words z and then the ids
+behind_written : (front m : ℕ) (w ys z ids : List ℕ) → front ≤ length w → length z ≡ m → ys ≡ z ++ ids
     → drop (front + m) (take front w ++ (ys ++ post_of front (length w - front) w)) ≡ ids
 behind_written front m w ys z ids l lz is =
-    let none : post_of front (length w - front) w ≡ [] = Post-is front (length w) w l ∙ drop_of_length-le w {i = length w} (omega arith) in
-    let long : length (take front w ++ z) ≡ front + m = rw (length-append, lz, length-take-le front w l) in
-    rw (none, append_none, is, ← append_assoc (take front w) z ids) (drop_at (take front w ++ z) ids (front + m) long)
+    behind_place (front + m) front (length w - front) w ys (omega arith) l refl ∙ ap (drop (front + m - front)) is
+    ∙ drop_at z ids (front + m - front) (omega arith)
 
 -- so by the lengths that the verdict's functions have, for i given ids and v vertices: edge and face part in front, then 8 words a vertex,
 -- then the ids

@@ -43,6 +43,7 @@ fn open_unless_free(said: Chained) -> Quality
 }
 
 // The quality of ids that are boundary-free. They stand behind the first `at` words; the face part starts the area.
+#[tactic(auto, unfolding(crate::specs::Verdict::by_faces))]
 fn by_faces(area: &mut [u32], at: usize, over_incident: bool, near: bool) -> Quality
     requires { FacesFit area.old at over_incident }
     ensures { result ≡ by_faces (drop at area.old) near }
@@ -87,6 +88,7 @@ fn by_welded(vertices: &[f32], indices: &[u32], eps: f32, near: bool, work: &mut
 }
 
 // What the given ids say, or if they are not boundary-free the welded ones.
+#[tactic(auto, using(crate::proofs::Parts::behind_place, crate::proofs::Parts::behind_kept, crate::proofs::Meaning::given_then_welded))]
 fn by_chain(vertices: &[f32], indices: &[u32], eps: f32, near: bool, work: &mut [u32]) -> Quality
     requires { PartsFit vertices.now indices.now work.old }
     ensures { result ≡ by_chain vertices.now indices.now eps near }

@@ -55,7 +55,8 @@ measure-m-requires c =
     }
 
 pub slice_bounds-record_by-end : goal.slice_bounds-record_by-end
-slice_bounds-record_by-end c = rw c.work_words-words.ensures (still-long c.before.before.before.before.before.before.before)
+slice_bounds-record_by-end c =
+    omega (arith, c.work_words-words.ensures, still-long c.before.before.before.before.before.before.before)
 
 pub slice_bounds-record_by-end-2 : goal.slice_bounds-record_by-end-2
 slice_bounds-record_by-end-2 c = rw c.raster_bytes-bytes.ensures c.requires.raster

@@ -14,7 +14,7 @@ use Rattle.meshfile.proofs.Bounds.{files_are_short, front_decides as file_front_
 use Rattle.meshfile.proofs.One.{File56, file_56}
 use Rattle.listing.specs.Listing.{refused_line}
 use Rattle.program.specs.Program.{text_for, text_of, Prints, RunOne}
-use Rattle.program.specs.Promises.{KeptDecides, LongRefused, PrintsFront, RunFrontOne}
+use Rattle.program.specs.Promises.{KeptDecides, LongRefused, RunFrontOne}
 
 module _ (text area : List ℕ) (r : ℕ) (area' : List ℕ) (printed : Prints text area r area') where
   pub prints_inside : r ≤ length area'
@@ -38,23 +38,13 @@ module _ (text : List ℕ → List ℕ) (most : ℕ) (front : KeptDecides text m
       let long : most < length (take l input) = omega (arith, length-take-le l input (omega arith)) in
       sym (front (take l input) long) ∙ (ap text (take-take (most + 1) l input h) ∙ front input (omega arith))
 
-  -- the first bytes decide, be they all of the input or as many as an area of at least so many bytes holds
-  decided : (bytes : List ℕ) (n : ℕ) → most + 1 ≤ length bytes → (input : List ℕ) → take n bytes ≡ take (length bytes) input
-      → text (take n bytes) ≡ text input
-  decided bytes n enough input same =
-      elim (dec_le (length input) (length bytes)) [
-        | yes l ↦ ap text (same ∙ take_all (length bytes) input l)
-        | no l ↦ ap text same ∙ more_decides (length bytes) input enough (omega arith)
+  -- an area of at least so many bytes decides, be they all of the input or not
+  pub front_alike : (l : ℕ) (input : List ℕ) → most + 1 ≤ l → text (take l input) ≡ text input
+  front_alike l input h =
+      elim (dec_le (length input) l) [
+        | yes k ↦ ap text (take_all l input k)
+        | no k ↦ more_decides l input h (omega arith)
       ]
-
-  pub prints_first : (bytes : List ℕ) (n : ℕ) (area : List ℕ) (r : ℕ) (area' : List ℕ) → most + 1 ≤ length bytes
-      → Prints (text (take n bytes)) area r area' → PrintsFront text bytes n area r area'
-  prints_first bytes n area r area' enough h = record { prints = h; decides = decided bytes n enough }
-
-  -- all of them, where n is not below their number
-  pub prints_all : (bytes : List ℕ) (n : ℕ) (area : List ℕ) (r : ℕ) (area' : List ℕ) → most + 1 ≤ length bytes → length bytes ≤ n
-      → Prints (text bytes) area r area' → PrintsFront text bytes n area r area'
-  prints_all bytes n area r area' enough l h = prints_first bytes n area r area' enough (rw (take_all n bytes l) h)
 
 pub refused_text : (f : File) → File56 f → ((m : Contents) → f ≡ File.Holds m → ⊥)
     → (n : ℕ) × ((n ≡ 5) ⊎ (n ≡ 6)) × (text_for f ≡ refused_line n)
@@ -75,3 +65,9 @@ long_refused bytes h =
     (λ m e.
     let short = files_are_short m bytes e in
     omega arith)
+
+pub text_front : (l : ℕ) (input : List ℕ) → longest + 1 ≤ l → text_of (take l input) ≡ text_of input
+text_front = front_alike text_of longest front_decides
+
+-- what `run_front` needs to know
+pub ruleset by_front = (take_all, text_front)

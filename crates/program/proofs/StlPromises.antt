@@ -1,13 +1,14 @@
 -- What is proved of the text of an STL beside the contract: which bytes do not show, which refusals it can meet; that input which is longer
 -- than any file is refused, and its first bytes decide how; and demand 3, from that for a mesh. Assumes nothing.
 use mathlib.Core.Path.{◌≡◌, refl, ap}
-use Prim.Native.Nat.{ℕ, zero, suc, ◌+◌, ◌*◌, ◌<◌}
+use Prim.Native.Nat.{ℕ, zero, suc, ◌+◌, ◌*◌, ◌≤◌, ◌<◌}
 use mathlib.Core.Bool.{true, ◌||◌}
 use mathlib.Core.List.{List}
 use native.Mathlib.Omega.{arith}
 use borrow.Author.Tests.{le-ltb, ne_eqb}
 use lib.Dec.{T, eqb, ltb}
 use lib.ListN.{length, take}
+use lib.Seq.{take_all}
 use lib.Ieee.{binary32, le, of_bits}
 use Rattle.refusals.specs.Refusals.{unit_fits}
 use Rattle.place.specs.Moved.{unit_enough}
@@ -27,7 +28,7 @@ use Rattle.program.specs.Promises.{check_file, check_stl, StlCheck, StlUnseen, K
 use Rattle.program.specs.Place.{mesh_floats, mesh_unit, StlTextDoesNotShow}
 use Rattle.program.specs.StlText.{stl_unit, stl_contents, stl_file, stl_text_of}
 use Rattle.meshfile.proofs.One.{File56}
-use Rattle.program.proofs.Printed.{refused_text}
+use Rattle.program.proofs.Printed.{front_alike, refused_text}
 use Rattle.program.proofs.Suffice.{areas_suffice}
 use Rattle.program.proofs.Place.{moved_texts}
 
@@ -90,6 +91,12 @@ unfolding stl_text_of
 stl_text_front_decides bytes long =
     rw (stl_front_decides most_triangles bytes long)
     (ap text_for (refused_alike (stl_of most_triangles bytes) (no_mesh bytes long) (take (stl_length most_triangles + 1) bytes) bytes))
+
+pub stl_text_front : (l : ℕ) (input : List ℕ) → stl_length most_triangles + 1 ≤ l → stl_text_of (take l input) ≡ stl_text_of input
+stl_text_front = front_alike stl_text_of (stl_length most_triangles) stl_text_front_decides
+
+-- what `run_stl_front` needs to know
+pub ruleset by_stl_front = (take_all, stl_text_front)
 
 refused_56 : (r : Stl) (bytes : List ℕ) → Stl56 r → File56 (stl_file r bytes)
 unfolding stl_file

@@ -113,6 +113,7 @@ pub fn run(bytes: &[u8], text: &mut [u8; TEXT]) -> usize
 }
 
 // What the program prints for an input of which it has kept the first n bytes: all of it, or as many as the area holds.
+#[tactic(auto, using(crate::proofs::Printed::by_front))]
 pub fn run_front(bytes: &[u8; KEPT], n: usize, text: &mut [u8; TEXT]) -> usize
     ensures { PrintsFront text_of bytes.now n text.old result text.new }
 {
@@ -155,6 +156,7 @@ pub fn run_stl(bytes: &[u8], text: &mut [u8; TEXT]) -> usize
 }
 
 // The same for an input of which the program has kept the first n bytes.
+#[tactic(auto, using(crate::proofs::StlPromises::by_stl_front))]
 pub fn run_stl_front(bytes: &[u8; STL_KEPT], n: usize, text: &mut [u8; TEXT]) -> usize
     ensures { PrintsFront stl_text_of bytes.now n text.old result text.new }
 {

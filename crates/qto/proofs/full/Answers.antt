@@ -68,7 +68,7 @@ record_by-requires c =
       ids_most = c.requires.mesh.ids_most;
       is_box = c.box_of-b.ensures;
       few = c.measure-m.ensures.few;
-      words = front_exact (words c.before.before.before.before.before.before.before.before.before.before.before.before) _ (measured c.before.before.before.before.before.before.before.before.before) c.work_words-words.ensures (still-long c.before.before.before.before.before.before.before.before.before);
+      words = front_exact (words c.before.before.before.before.before.before.before.before.before.before.before.before) _ (measured c.before.before.before.before.before.before.before.before.before) (omega (arith, c.work_words-words.ensures)) (still-long c.before.before.before.before.before.before.before.before.before);
       bytes = front_exact raster_bytes _ c.args.raster.now c.raster_bytes-bytes.ensures c.requires.raster;
     }
 

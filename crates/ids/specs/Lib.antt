@@ -9,5 +9,6 @@ pub mod Meaning
 pub mod Pieces
 pub mod ByIds
 pub mod Classes
+pub mod Refusal
 pub mod Lent
 pub mod Examples

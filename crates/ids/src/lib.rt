@@ -1,6 +1,10 @@
 // Lists of ids: in specs/ their triangles, edge chain, face net and pieces, and what every id routine refuses and leaves in the area that
-// it is lent; in proofs/ what these say of every edge, face and piece, and laws that other crates cite. There is no function.
+// it is lent; in proofs/ what these say of every edge, face and piece, and laws that other crates cite. Of code there are the refusals alone.
 #![tactic(auto)]
+
+mod refusal; // why a routine refuses
+
+pub use refusal::Refusal;
 
 // The most floats, and the most ids, that a mesh may have (01).
 pub const MOST_ENTRIES: usize = 98304;

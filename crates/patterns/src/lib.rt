@@ -7,4 +7,4 @@ mod order; // magnitude, least and greatest
 
 pub use binary::Binary;
 pub use order::{greatest, greatest_bits, least, least_bits, magnitude, magnitude_bits};
-pub use words::{bits, float_of, of_word, to_word};
+pub use words::{bits, exponent, float_of, of_word, to_word, trailing};

@@ -1,6 +1,6 @@
 // A float's bit pattern, and the float of a bit pattern.
-ghost use Rattle.std.specs.Float.Ieee.{fits, of_bits, to_bits, top};
-ghost use Rattle.std.specs.Prelude.{◌≡◌, ◌*◌, ◌<◌, true};
+ghost use Rattle.std.specs.Float.Ieee.{fits, hid, of_bits, to_bits, top};
+ghost use Rattle.std.specs.Prelude.{◌≡◌, ◌*◌, ◌/◌, ◌%◌, ◌<◌, true};
 
 use crate::binary::Binary;
 
@@ -40,4 +40,17 @@ pub fn float_of<F: Binary>(b: F::Pattern) -> F
     ensures { F.float result ≡ of_bits F.format (F.number b) }
 {
     of_word(F::word(b))
+}
+
+// The fields of a pattern below its sign (3.4): that of the exponent, and the digits that are written.
+pub fn exponent<F: Binary>(b: u64) -> u64
+    ensures { result ≡ b % top F.format / hid F.format }
+{
+    b % F::SIGN / F::FIELD
+}
+
+pub fn trailing<F: Binary>(b: u64) -> u64
+    ensures { (result ≡ b % hid F.format) × (result < hid F.format) }
+{
+    b % F::FIELD
 }

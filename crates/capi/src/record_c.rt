@@ -25,7 +25,7 @@ fn prism_bits(prism: PrismBound) -> u32
 {
     match prism {
         PrismBound::NotComputed => 0,
-        PrismBound::Bound(p) => floats::bits32(p),
+        PrismBound::Bound(p) => floats::bits(p),
     }
 }
 
@@ -45,16 +45,16 @@ fn record_words(t: Takeoff) -> [u32; 26]
         q.volume_reliable as u32,
         record::method_number(method),
         record::profile_number(profile),
-        floats::bits32(q.volume_m3),
-        floats::bits32(q.aabb_volume_m3),
-        floats::bits32(q.surface_area_m2),
-        floats::bits32(q.area_top_m2),
-        floats::bits32(q.area_bottom_m2),
-        floats::bits32(q.area_side_m2),
-        floats::bits32(q.area_inclined_m2),
-        floats::bits32(q.largest_surface_m2),
-        floats::bits32(q.smallest_surface_m2),
-        floats::bits32(q.volume_best_m3),
+        floats::bits(q.volume_m3),
+        floats::bits(q.aabb_volume_m3),
+        floats::bits(q.surface_area_m2),
+        floats::bits(q.area_top_m2),
+        floats::bits(q.area_bottom_m2),
+        floats::bits(q.area_side_m2),
+        floats::bits(q.area_inclined_m2),
+        floats::bits(q.largest_surface_m2),
+        floats::bits(q.smallest_surface_m2),
+        floats::bits(q.volume_best_m3),
         prism_number(prism),
         prism_bits(prism),
         q.surface_count,

@@ -7,7 +7,7 @@ ghost use Rattle.vertices.specs.Vertices.{vertex_count};
 ghost use Rattle.cells.specs.Cells.{cell_of};
 ghost use Rattle.cells.specs.inner.Table.{coded as coded_of, vertex_code, Welds, Weldable};
 
-use patterns::{FIELD, SIGN};
+use patterns::Binary;
 use slots::Code;
 
 // ---- the cell of a vertex
@@ -46,12 +46,12 @@ fn cell(x: f32, inv: f64) -> u64
         return 0;
     }
     let y = x as f64 * inv;
-    let b = floats::bits64(y);
-    let e = b % SIGN / FIELD;
+    let b = floats::bits(y);
+    let e = b % f64::SIGN / f64::FIELD;
     if e < 1075 {
-        coded_size(b / SIGN, rounding::half_size(e, b % FIELD))
+        coded_size(b / f64::SIGN, rounding::half_size::<f64>(b))
     } else {
-        coded(floats::to_i64(y))
+        coded(floats::to_integer(y))
     }
 }
 

@@ -7,15 +7,7 @@ ghost use Rattle.std.specs.Float.Ieee.{of_bits};
 ghost use Rattle.ieee.specs.Cube.{cube_above};
 ghost use Rattle.ieee.specs.inner.Fields.{exp, sig};
 
-use patterns::bits32;
-
-// What the sign counts in an `f32`'s pattern, and what the exponent's field does.
-const SIGN: u64 = 0x8000_0000;
-
-const FIELD: u64 = 0x80_0000;
-
-// The pattern of infinity. A pattern above it, but for the sign, is a NaN's.
-const INFINITY: u64 = 0x7f80_0000;
+use patterns::{Binary, bits};
 
 // n / 2^k, also where k is more than a word has places.
 fn shifted_down(n: u64, k: u64) -> u64
@@ -38,15 +30,13 @@ fn below_cube(a: u64, b: u64, e: u64) -> bool
     let n = b << (e % 16);
     let mut q = n / a;
     let mut rest = n % a;
-    let mut i = e / 16;
-    while 0 < i {
+    for _i in 0..e / 16 {
         if square <= q {
             return false;
         }
         let d = rest * 0x1_0000;
         q = q * 0x1_0000 + d / a;
         rest = d % a;
-        i -= 1;
     }
     q < square
 }
@@ -70,15 +60,15 @@ fn sizes_above(a: u64, x: u64, b: u64, y: u64) -> bool
 fn digits(b: u64) -> u64
     ensures { (result ≡ sig binary32 (b % 2 ^ 31 / 2 ^ 23) (b % 2 ^ 23)) × (result < 2 ^ 24) }
 {
-    let e = b % SIGN / FIELD;
-    let t = b % FIELD;
-    if e == 0 { t } else { FIELD + t }
+    let e = b % f32::SIGN / f32::FIELD;
+    let t = b % f32::FIELD;
+    if e == 0 { t } else { f32::FIELD + t }
 }
 
 fn place(b: u64) -> u64
     ensures { result ≡ exp (b % 2 ^ 31 / 2 ^ 23) }
 {
-    let e = b % SIGN / FIELD;
+    let e = b % f32::SIGN / f32::FIELD;
     if e == 0 { 0 } else { e - 1 }
 }
 
@@ -89,11 +79,11 @@ pub fn cube_above_bits(a: u32, b: u32) -> bool
 {
     let m = a as u64;
     let n = b as u64;
-    if INFINITY <= n % SIGN {
+    if f32::LAST <= n % f32::SIGN {
         false
-    } else if INFINITY < m {
+    } else if f32::LAST < m {
         false
-    } else if m == INFINITY {
+    } else if m == f32::LAST {
         true
     } else {
         sizes_above(digits(m), place(m), digits(n), place(n))
@@ -103,5 +93,5 @@ pub fn cube_above_bits(a: u32, b: u32) -> bool
 pub fn cube_above(s: f32, p: f32) -> bool
     ensures { result ≡ cube_above s p }
 {
-    cube_above_bits(bits32(s), bits32(p))
+    cube_above_bits(bits(s), bits(p))
 }

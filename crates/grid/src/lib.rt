@@ -102,7 +102,7 @@ pub fn counts(t: Flat) -> bool
 fn cells(length: f32, size: f32) -> usize
     ensures { (result ≡ cells_in length size) × (0 < result) × (result ≤ 256) }
 {
-    let n = floats::to_u64(floats::ceiling32(length / size));
+    let n = floats::to_u64(floats::ceiling(length / size));
     if n < 1 {
         1
     } else if n < 256 {
@@ -135,14 +135,14 @@ pub fn first_cell(x: f32, w: f32, n: usize, a: f32, b: f32, c: f32) -> usize
     requires { (0 < n) × (n ≤ 256) }
     ensures { (result ≡ first_cell x w n a b c) × (result < n) }
 {
-    cell(x, w, n, floats::least32(floats::least32(a, b), c))
+    cell(x, w, n, floats::least(floats::least(a, b), c))
 }
 
 pub fn last_cell(x: f32, w: f32, n: usize, a: f32, b: f32, c: f32) -> usize
     requires { (0 < n) × (n ≤ 256) }
     ensures { (result ≡ last_cell x w n a b c) × (result < n) }
 {
-    cell(x, w, n, floats::greatest32(floats::greatest32(a, b), c))
+    cell(x, w, n, floats::greatest(floats::greatest(a, b), c))
 }
 
 // The centre of cell i of those of width w from x on.

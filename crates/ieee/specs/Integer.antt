@@ -1,5 +1,5 @@
--- What a conversion to an integer is worth (5.8, toward zero): the kit's `to_signed` and `to_unsigned`, which the contracts of `to_i32`,
--- `to_i64` and `to_u64` cite.
+-- What a conversion to an integer is worth (5.8, toward zero): the kit's `to_signed` and `to_unsigned`, which the contracts of `to_integer`
+-- and `to_u64` cite.
 use Rattle.std.specs.Prelude.{◌≡◌, Bool, true, false, ℕ, ◌-◌, ◌*◌, ◌^◌, ◌≤◌, pos, neg_ℤ, Float}
 use Rattle.std.specs.Float.{nan, inf, fin}
 use Rattle.std.specs.Float.Ieee.{up, down, to_signed, to_unsigned}

@@ -1,4 +1,4 @@
--- A float brought to a whole number of its own format: what `floor64`, `ceiling64`, `round64` and their `f32` forms answer.
+-- A float brought to a whole number of its own format: what `floor`, `ceiling` and `round` answer.
 use Rattle.std.specs.Prelude.{ℕ, ◌+◌, ◌-◌, ◌*◌, ◌/◌, cond, Float}
 use Rattle.std.specs.Float.{nan, inf, fin, Format}
 use Rattle.std.specs.Float.Ieee.{up, down, round}

@@ -1,4 +1,4 @@
--- A float without its sign: what `magnitude64` and `magnitude32` answer.
+-- A float without its sign: what `magnitude` answers, of either format.
 use Rattle.std.specs.Prelude.{◌≡◌, false, ℕ, ◌%◌, Float}
 use Rattle.std.specs.Float.{nan, inf, fin, Format}
 use Rattle.std.specs.Float.Ieee.{top, of_bits}

@@ -1,4 +1,4 @@
--- The lesser and the greater of two floats: what `least64`, `least32`, `greatest64` and `greatest32` answer.
+-- The lesser and the greater of two floats: what `least` and `greatest` answer, of either format.
 use Rattle.std.specs.Prelude.{◌||◌, cond, Float}
 use Rattle.std.specs.Float.Ieee.{is_nan, lt}
 

@@ -4,24 +4,25 @@
 // what has no `requires`.
 #![tactic(auto)]
 
-ghost use Rattle.std.specs.Prelude.{◌≡◌, ◌-◌, ◌/◌, ◌^◌, ◌<◌, ◌≤◌, false, T, pos, neg_ℤ, from_bits};
+ghost use Rattle.std.specs.Prelude.{◌≡◌, ◌-◌, ◌/◌, ◌^◌, ◌<◌, ◌≤◌, ◌%◌, ℕ, ℤ, false, T, pos, neg_ℤ, from_bits};
 ghost use Rattle.std.specs.Float.{binary32, binary64, fin};
-ghost use Rattle.std.specs.Float.Ieee.{le, lt, to_signed, to_unsigned};
+ghost use Rattle.std.specs.Float.Ieee.{le, lt, of_bits, to_signed, to_unsigned};
 ghost use Rattle.ieee.specs.inner.Fields.{sized};
 
-use patterns::{FIELD, SIGN, bits64, f32_of, f64_of};
+use patterns::{Binary, float_of, to_word};
 
-// The size of a float below 2^63 without its fraction, from its pattern's fields. With the digits at the top of a word
-// one shift serves every size from 1 on.
+// The size of a float below 2^63 without its fraction, from its pattern. With the digits at the top of a word one shift
+// serves every size from 1 on.
 #[tactic(auto, using(ieee::proofs::Patterns::Integer::none_size, ieee::proofs::Patterns::Integer::shift_size))]
-fn cut_size(e: u64, t: u64) -> u64
-    requires { (e < 1086) × (t < 2 ^ 52) }
-    ensures { result ≡ sized binary64 e t / 2 ^ 1074 }
+fn cut_size(b: u64) -> u64
+    requires { b % 2 ^ 63 / 2 ^ 52 < 1086 }
+    ensures { result ≡ sized binary64 (b % 2 ^ 63 / 2 ^ 52) (b % 2 ^ 52) / 2 ^ 1074 }
 {
+    let e = b % f64::SIGN / f64::FIELD;
     if e < 1023 {
         0
     } else {
-        ((FIELD + t) * 0x800) >> (1086 - e)
+        ((f64::FIELD + b % f64::FIELD) * 0x800) >> (1086 - e)
     }
 }
 
@@ -31,31 +32,61 @@ fn to_signed(x: f64, h: u64, least: i64, most: i64) -> i64
     requires { (h ≤ 63) × (least ≡ neg_ℤ (pos (2 ^ h))) × (most ≡ pos (2 ^ h - 1)) }
     ensures { result ≡ to_signed h x }
 {
-    let b = bits64(x);
-    let e = b % SIGN / FIELD;
-    if e < 1023 + h {
-        let n = cut_size(e, b % FIELD) as i64;
-        if b < SIGN { n } else { -n }
+    let b = to_word(x);
+    if b % f64::SIGN / f64::FIELD < 1023 + h {
+        let n = cut_size(b) as i64;
+        if b < f64::SIGN { n } else { -n }
     } else if x != x {
         0
-    } else if b < SIGN {
+    } else if b < f64::SIGN {
         most
     } else {
         least
     }
 }
 
-pub fn to_i64(x: f64) -> i64
-    ensures { result ≡ to_signed 63 x }
-{
-    to_signed(x, 63, i64::MIN, i64::MAX)
+// The integers of a sign and some bits, into which a float is put.
+pub trait Signed: Copy {
+    // How many bits, and a value as an integer.
+    ghost size: { ℕ };
+
+    ghost value: { Self → ℤ };
+
+    fn of_float(x: f64) -> Self
+        ensures { value result ≡ to_signed size x };
 }
 
-pub fn to_i32(x: f32) -> i32
-    ensures { result ≡ to_signed 31 x }
+impl Signed for i32 {
+    ghost size = { 31 };
+
+    ghost value = { λ z. z };
+
+    fn of_float(x: f64) -> i32 {
+        to_signed(x, 31, i32::MIN as i64, i32::MAX as i64) as i32
+    }
+}
+
+impl Signed for i64 {
+    ghost size = { 63 };
+
+    ghost value = { λ z. z };
+
+    fn of_float(x: f64) -> i64 {
+        to_signed(x, 63, i64::MIN, i64::MAX)
+    }
+}
+
+// Either format to either integer. An `f64` has each value of an `f32`.
+pub fn to_integer<F: Binary, I: Signed>(x: F) -> I
+    ensures { I.value result ≡ to_signed I.size (F.float x) }
 {
-    let wide = std::num::f32_to_f64_with_nan(x);
-    to_signed(wide, 31, i32::MIN as i64, i32::MAX as i64) as i32
+    I::of_float(x.wide())
+}
+
+pub fn to_integer_bits<F: Binary, I: Signed>(b: F::Pattern) -> I
+    ensures { I.value result ≡ to_signed I.size (of_bits F.format (F.number b)) }
+{
+    to_integer(float_of::<F>(b))
 }
 
 // A NaN fails both tests.
@@ -81,20 +112,8 @@ pub fn whole_part32(x: f32) -> u32
     (0x80_0000 + b % 0x80_0000) >> (150 - b / 0x80_0000)
 }
 
-pub fn to_i64_bits(b: u64) -> i64
-    ensures { result ≡ to_signed 63 (from_bits binary64 b) }
-{
-    to_i64(f64_of(b))
-}
-
-pub fn to_i32_bits(b: u32) -> i32
-    ensures { result ≡ to_signed 31 (from_bits binary32 b) }
-{
-    to_i32(f32_of(b))
-}
-
 pub fn to_u64_bits(b: u32) -> u64
     ensures { result ≡ to_unsigned 64 (from_bits binary32 b) }
 {
-    to_u64(f32_of(b))
+    to_u64(float_of(b))
 }

@@ -229,7 +229,7 @@ fn with_float(m: MeshBits) -> MeshFile
 {
     let profile = m.profile;
     MeshFile {
-        unit: floats::f32_of(m.unit),
+        unit: floats::float_of(m.unit),
         floats: m.floats,
         ids: m.ids,
         clip: m.clip,

@@ -1,2 +1,2 @@
 -- What the proofs of functions cite.
-mod Nans
+mod Laws

@@ -134,7 +134,7 @@ fn stl_mesh(n: usize) -> MeshFile
         × (result.floats ≡ 9 * n) × (result.ids ≡ 3 * n) }
 {
     MeshFile {
-        unit: floats::f32_of(0x3a83_126f),
+        unit: floats::float_of(0x3a83_126f),
         floats: 9 * n,
         ids: 3 * n,
         clip: false,

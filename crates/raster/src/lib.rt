@@ -138,9 +138,9 @@ fn footprint_over(vertices: &[f32], ids: &[u32], s: Window, raster: &mut [u8]) -
     ensures { (result ≡ footprint vertices.now ids.now s)
         × (cleared raster_bytes raster.new ≡ cleared raster_bytes raster.old) }
 {
-    let w = floats::greatest32(s.xmax - s.xmin, 0.0);
-    let h = floats::greatest32(s.ymax - s.ymin, 0.0);
-    let size = floats::greatest32(w, h) / 256.0;
+    let w = floats::greatest(s.xmax - s.xmin, 0.0);
+    let h = floats::greatest(s.ymax - s.ymin, 0.0);
+    let size = floats::greatest(w, h) / 256.0;
     if (w <= 0.0) | ((h <= 0.0) | (size <= 0.0)) {
         return no_footprint();
     }

@@ -46,7 +46,7 @@ fn all_fine(vertices: &[f32]) -> bool
     let mut fine = true;
     let mut i = 0;
     while i < vertices.len() {
-        let size = floats::magnitude32(vertices[i]);
+        let size = floats::magnitude(vertices[i]);
         fine = fine & (size <= 8589934592.0);
         i += 1;
     }

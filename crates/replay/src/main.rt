@@ -154,7 +154,7 @@ fn print_pairs(rt: &impl Print, vertices: &[f32], ids: &[u32], unit: f32) {
 // ---- the areas by slope under edition 2
 
 fn print_area(rt: &impl Print, area: f32) {
-    print_count(rt, b" ", floats::bits32(area) as u64);
+    print_count(rt, b" ", floats::bits(area) as u64);
 }
 
 // Their bits: top, bottom, side, inclined; a refusal has none.

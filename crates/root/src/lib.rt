@@ -6,7 +6,7 @@ ghost use Rattle.std.specs.Float.{binary64};
 ghost use Rattle.std.specs.Prelude.{◌≡◌, ◌+◌, ◌*◌, ◌/◌, ◌%◌, ◌^◌, ◌<◌, ◌≤◌, ◌⊎◌, from_bits, to_bits};
 ghost use Rattle.ieee.specs.Root.{closest_root, floor_root, root};
 
-use patterns::{FIELD, SIGN, bits64, f64_of};
+use patterns::{Binary, float_of, to_word};
 
 // The whole part of √m, a digit a turn: q is the whole part of the root of the digits of m taken so far, and rest what
 // they have more than q * q. The digits that are left stand at the upper end of a.
@@ -17,8 +17,7 @@ fn digit_root(m: u64) -> u64
     let mut a = m * 1024;
     let mut q: u64 = 0;
     let mut rest: u64 = 0;
-    let mut i: u64 = 0;
-    while i < 27 {
+    for _i in 0..27u64 {
         let n = rest * 4 + a / 0x4000_0000_0000_0000;
         let d = q * 4 + 1;
         a = a % 0x4000_0000_0000_0000 * 4;
@@ -29,7 +28,6 @@ fn digit_root(m: u64) -> u64
             rest = n;
             q = q * 2;
         }
-        i += 1;
     }
     q
 }
@@ -53,7 +51,7 @@ fn nearest_root(m: u64) -> u64
 fn less(a: u64, b: u64) -> u64
     ensures { (result ≤ 1) × (((a < b) × (result ≡ 1)) ⊎ ((b ≤ a) × (result ≡ 0))) }
 {
-    (a < b) as u64
+    u64::from(a < b)
 }
 
 // √(m * 2^52) to the nearest whole number, from any guess q. r is m * 2^52 - q * q + 2^55, which fits a word where q is near.
@@ -81,7 +79,7 @@ fn root_scaled(d: u64, w: u64, p: u64) -> u64
     requires { (2 ^ 52 ≤ d) × (d < 2 ^ 53) × (w < 4092) }
     ensures { (result ≡ w / 2 * 2 ^ 52 + closest_root (d * (1 + w % 2) * 2 ^ 52) 1) × (result ≤ (w / 2 + 2) * 2 ^ 52) }
 {
-    w / 2 * FIELD + settled(d * (1 + w % 2), FIELD + p % FIELD)
+    w / 2 * f64::FIELD + settled(d * (1 + w % 2), f64::FIELD + p % f64::FIELD)
 }
 
 // A guess at the pattern of √x by floats, from the pattern b of x: one at 1 / √x, brought nearer by three steps of Newton's
@@ -95,7 +93,7 @@ fn guess(x: f64, b: u64) -> u64
     let w = z * (1.5 - h * z * z);
     let v = w * (1.5 - h * w * w);
     let s = x * v;
-    bits64(s + 0.5 * v * (x - s * s))
+    to_word(s + 0.5 * v * (x - s * s))
 }
 
 // The pattern of the root of x, from the pattern b of x, for a normal x above zero.
@@ -103,7 +101,11 @@ fn root_normal(x: f64, b: u64) -> u64
     requires { (2 ^ 52 ≤ b) × (b < 0x7ff0000000000000) }
     ensures { (result ≡ to_bits binary64 (root binary64 (from_bits binary64 b))) × (result < 0x7ff0000000000000) }
 {
-    root_scaled(FIELD + b % FIELD, b / FIELD + 1021, guess(x, b))
+    root_scaled(
+        f64::FIELD + b % f64::FIELD,
+        b / f64::FIELD + 1021,
+        guess(x, b),
+    )
 }
 
 // The same for a subnormal one, whose pattern is t. No guess is made.
@@ -119,13 +121,13 @@ fn root_subnormal(t: u64) -> u64
 pub fn root64_bits(b: u64) -> u64
     ensures { result ≡ to_bits binary64 (root binary64 (from_bits binary64 b)) }
 {
-    if (FIELD <= b) & (b < 0x7ff0_0000_0000_0000) {
+    if (f64::FIELD <= b) & (b < f64::LAST) {
         root_normal(f64::from_bits(b), b)
-    } else if b % SIGN == 0 {
+    } else if b % f64::SIGN == 0 {
         b
-    } else if b < FIELD {
+    } else if b < f64::FIELD {
         root_subnormal(b)
-    } else if b == 0x7ff0_0000_0000_0000 {
+    } else if b == f64::LAST {
         b
     } else {
         0x7ff8_0000_0000_0000
@@ -140,9 +142,9 @@ pub fn root64(x: f64) -> f64
         return x;
     }
     let b = f64::to_bits(x);
-    if (FIELD <= b) & (b < 0x7ff0_0000_0000_0000) {
+    if (f64::FIELD <= b) & (b < f64::LAST) {
         f64::from_bits(root_normal(x, b))
     } else {
-        f64_of(root64_bits(b))
+        float_of(root64_bits(b))
     }
 }

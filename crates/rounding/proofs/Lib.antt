@@ -1,3 +1,2 @@
 -- What the proofs of functions cite.
-mod Large
 mod Tiny

@@ -9,8 +9,5 @@ mod to_integer; // half away from zero, as an integer
 mod whole; // floor, ceiling, and rounding half away from zero
 
 pub use narrowing::{narrow, narrow_bits};
-pub use to_integer::{half_size, half_size32};
-pub use whole::{
-    ceiling32, ceiling32_bits, ceiling64, ceiling64_bits, floor32, floor32_bits, floor64,
-    floor64_bits, round32, round32_bits, round64, round64_bits,
-};
+pub use to_integer::half_size;
+pub use whole::{ceiling, ceiling_bits, floor, floor_bits, round, round_bits};

@@ -5,7 +5,7 @@ ghost use Rattle.ieee.specs.Rounded.{rounded};
 ghost use Rattle.rounding.specs.inner.Sizes.{narrow_size};
 
 use crate::ties_even::nearest_shift;
-use patterns::{FIELD, SIGN, f32_of};
+use patterns::{Binary, float_of};
 
 // The size of a normal `f32`, or of what a carry makes infinity. An `f32` has 29 digits less and counts its exponent from
 // 896 lower. Half of what goes is added, less one where the last digit that stays is even; a carry out of the digits runs
@@ -28,24 +28,24 @@ fn narrow_size(m: u64) -> u64
         0
     } else if m < 0x3810_0000_0000_0000 {
         // below the normal values more digits go
-        nearest_shift(FIELD + m % FIELD, 926 - m / FIELD)
+        nearest_shift(f64::FIELD + m % f64::FIELD, 926 - m / f64::FIELD)
     } else if m < 0x47f0_0000_0000_0000 {
         narrow_normal(m)
     } else {
         // 2^128 and up
-        0x7f80_0000
+        f32::LAST
     }
 }
 
 pub fn narrow_bits(b: u64) -> u32
     ensures { result ≡ to_bits binary32 (rounded binary32 (from_bits binary64 b)) }
 {
-    let s = b / SIGN * 0x8000_0000;
-    let m = b % SIGN;
-    if m < 0x7ff0_0000_0000_0000 {
+    let s = b / f64::SIGN * f32::SIGN;
+    let m = b % f64::SIGN;
+    if m < f64::LAST {
         (s + narrow_size(m)) as u32
-    } else if m == 0x7ff0_0000_0000_0000 {
-        (s + 0x7f80_0000) as u32
+    } else if m == f64::LAST {
+        (s + f32::LAST) as u32
     } else {
         0x7fc0_0000
     }
@@ -57,16 +57,16 @@ pub fn narrow(x: f64) -> f32
     ensures { result ≡ rounded binary32 x }
 {
     if x != x {
-        return 0.0 / 0.0;
+        return f32::nan();
     }
     let b = f64::to_bits(x);
-    let s = b / SIGN * 0x8000_0000;
-    let m = b % SIGN;
+    let s = b / f64::SIGN * f32::SIGN;
+    let m = b % f64::SIGN;
     if (0x3810_0000_0000_0000 <= m) & (m < 0x47f0_0000_0000_0000) {
         f32::from_bits((s + narrow_normal(m)) as u32)
     } else if m == 0 {
         f32::from_bits(s as u32)
     } else {
-        f32_of(narrow_bits(b))
+        float_of(narrow_bits(b))
     }
 }

@@ -264,7 +264,7 @@ fn less_above(m: f32, a: f32) -> f32
     ensures { result ≡ less_above m a }
 {
     if a > 1e-6 {
-        return floats::least32(m, a);
+        return floats::least(m, a);
     }
     m
 }

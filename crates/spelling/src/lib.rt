@@ -64,7 +64,7 @@ fn put_number(out: &mut [u8], at: usize, x: f32) -> usize
     requires { at + 8 ≤ length out.old }
     ensures { PutsText at (bits x) out.old result out.new }
 {
-    let mut rest = patterns::bits32(x);
+    let mut rest = patterns::bits(x);
     let mut i = 8;
     while i > 0 {
         i -= 1;

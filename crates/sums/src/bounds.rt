@@ -93,7 +93,7 @@ pub fn origin(b: Bounds) -> [f64; 3]
 pub fn extent(lo: f32, hi: f32) -> f32
     ensures { result ≡ extent_of lo hi }
 {
-    floats::greatest32(hi - lo, 0.0)
+    floats::greatest(hi - lo, 0.0)
 }
 
 pub fn box_volume(b: Bounds, cube: f32) -> f32

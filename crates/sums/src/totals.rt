@@ -47,7 +47,7 @@ fn slope_of(pair: Thresholds, z: f32) -> Slope
     if z < -pair.top {
         return Slope::Bottom;
     }
-    let magnitude = floats::magnitude32(z);
+    let magnitude = floats::magnitude(z);
     if magnitude < pair.side {
         return Slope::Side;
     }

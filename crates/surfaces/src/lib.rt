@@ -23,15 +23,15 @@ pub struct Key {
 fn tenfold(c: f32) -> u64
     ensures { (from_bits binary32 result ≡ c ⊗ ten) × (result < 2 ^ 32) }
 {
-    floats::bits32(c * 10.0) as u64
+    floats::bits(c * 10.0) as u64
 }
 
 // A component in tenths, half away from zero.
 fn tenths(c: f32) -> i32
     ensures { result ≡ tenths_of c }
 {
-    let y = floats::round32(c * 10.0);
-    floats::to_i32(y)
+    let y = floats::round(c * 10.0);
+    floats::to_integer(y)
 }
 
 pub fn quantize_normal(nx: f32, ny: f32, nz: f32) -> Key
@@ -62,7 +62,7 @@ fn pattern_code(b: u64) -> u64
     requires { (b < 2 ^ 32) × (b % 2147483648 / 8388608 < 150) }
     ensures { (c : Float) → from_bits binary32 b ≡ c ⊗ ten → result ≡ coded_of (tenths_of c) }
 {
-    let n = rounding::half_size32(b % 0x8000_0000 / 0x80_0000, b % 0x80_0000);
+    let n = rounding::half_size::<f32>(b);
     cells::coded_size(b / 0x8000_0000, n)
 }
 

@@ -123,7 +123,7 @@ fn judge(vertices: &[f32], indices: &[u32], eps: f32, s: Sizes, work: &mut [u32]
     if s.aabb <= 0.0 {
         return Quality::Degenerate;
     }
-    let size = floats::magnitude32(s.volume);
+    let size = floats::magnitude(s.volume);
     if size > s.aabb * 1.001 {
         return Quality::OpenShell;
     }

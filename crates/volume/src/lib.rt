@@ -93,7 +93,7 @@ fn prism_on(vertices: &[f32], indices: &[u32], s: Window, along: f32, raster: &m
 fn or_less(m: f32, p: f32) -> f32
     ensures { result ≡ or_less m p }
 {
-    if p > 0.0 { floats::least32(m, p) } else { m }
+    if p > 0.0 { floats::least(m, p) } else { m }
 }
 
 fn or_none(p: f32, cube: f32) -> f32
@@ -161,7 +161,7 @@ fn upper(prism: f32, aabb: f32) -> f32
 {
     if prism > 0.0 {
         if aabb > 0.0 {
-            return floats::least32(prism, aabb);
+            return floats::least(prism, aabb);
         }
         return prism;
     }
@@ -252,7 +252,7 @@ pub fn best_volume(
         × (result.pairs ≡ pairs_of quality (prism_pairs vertices.now indices.now b))
         × (raster.new ≡ replicate raster_bytes 0) }
 {
-    let volume = floats::magnitude32(s.volume);
+    let volume = floats::magnitude(s.volume);
     match quality {
         Quality::Closed => {
             raster::clear(raster, 65536);

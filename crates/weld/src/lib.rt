@@ -11,7 +11,7 @@ ghost use Rattle.weld.specs.inner.Mapped.{id_by, mapped, WeldFits};
 pub fn epsilon(distance: f32, unit: f32) -> f32
     ensures { result ≡ epsilon_of distance unit }
 {
-    distance / floats::greatest32(unit, 1e-12)
+    distance / floats::greatest(unit, 1e-12)
 }
 
 // ---- ids

@@ -45,7 +45,7 @@ pub fn put_floats(bytes: &[u8], area: &mut [f32])
 {
     let mut i = 0;
     while i < area.len() {
-        area[i] = floats::f32_of(u32_at(bytes, 4 * i));
+        area[i] = floats::float_of(u32_at(bytes, 4 * i));
         i += 1;
     }
 }

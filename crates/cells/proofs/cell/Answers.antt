@@ -26,7 +26,7 @@ unfolding coded cell_of mul integral to_signed
 nan-cell inv x h = let e = is_nan_lem x (sym (ne_self x) ∙ h) in rw e
 
 -- the coordinate times 1/ε, and its pattern
-module _ (c : lts.After-bits64 the-claims Pre Post) where
+module _ (c : lts.After-bits the-claims Pre Post) where
   abbrev x : Float
   x = c.args.x
 
@@ -37,13 +37,13 @@ module _ (c : lts.After-bits64 the-claims Pre Post) where
   y = mul binary64 x inv
 
   abbrev b : ℕ
-  b = c.bits64-b.result
+  b = c.bits-b.result
 
   is : of_bits binary64 b ≡ y
-  is = ap (of_bits binary64) c.bits64-b.ensures ∙ of_bits-to_bits binary64 y (mul-fits binary64 x inv)
+  is = ap (of_bits binary64) c.bits-b.ensures ∙ of_bits-to_bits binary64 y (mul-fits binary64 x inv)
 
   below : b < 2 ^ 64
-  below = rw c.bits64-b.ensures (to_bits-lt binary64 y (mul-fits binary64 x inv))
+  below = rw c.bits-b.ensures (to_bits-lt binary64 y (mul-fits binary64 x inv))
 
 -- below 2 ^ 52
 small : (c : lts.After-half_size the-claims Pre Post) → let n = c.half_size.result in
@@ -69,5 +69,5 @@ returns-then-e-lt1075 c = c.coded_size.ensures ∙ (small c.before).0
 pub returns-else-e-lt1075 : goal.returns-else-e-lt1075
 unfolding cell_of
 returns-else-e-lt1075 c =
-    rw (c.coded.ensures, c.to_i64.ensures) (ap coded (signed_kept w64 _
+    rw (c.coded.ensures, c.to_integer.ensures) (ap coded (signed_kept w64 _
     ∙ already (y c.before.before.before) (b c.before.before.before) (is c.before.before.before) (mul-fits binary64 (x c.before.before.before) (inv c.before.before.before)) c.if-e-lt1075.false))

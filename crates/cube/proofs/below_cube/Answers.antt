@@ -55,7 +55,9 @@ pub overflow_mul-square : goal.overflow_mul-square
 overflow_mul-square c = omega (arith, square_below c.args.a 24 c.requires.0)
 
 pub loop-i-init : goal.loop-i-init
-loop-i-init c = first c.args.a c.args.b c.args.e (omega arith) c.requires.1
+loop-i-init c =
+    let n = c.args.b * 2 ^ (c.args.e % 16) % 2 ^ 64 in
+    subst (Turn c.args.a c.args.b c.args.e (n / c.args.a) (n % c.args.a)) (omega arith) (first c.args.a c.args.b c.args.e (omega arith) c.requires.1)
 
 pub returns-then-square-q : goal.returns-then-square-q
 returns-then-square-q c = sym (le-ltb _ _ (reached c.loop-i.invariant c.if-square-q.true))
@@ -71,7 +73,10 @@ overflow_add-q c =
     omega (arith, square_below c.args.a 24 c.requires.0, digits_lt c.loop-i.invariant (omega arith))
 
 pub loop-i-preserved : goal.loop-i-preserved
-loop-i-preserved c = next c.loop-i.invariant (omega arith) (omega arith)
+loop-i-preserved c =
+    let l = c.loop-i in
+    subst (Turn c.args.a c.args.b c.args.e (l.q * 65536 + l.rest * 65536 / c.args.a) (l.rest * 65536 % c.args.a)) (omega arith)
+    (next l.invariant (omega arith) (omega arith))
 
 -- The quotient is below the square, or it is not: either way the last test says so, however it is written.
 ruleset tests = (lt-ltb, le-ltb, lt-leb, le-leb)
@@ -100,9 +105,3 @@ nonzero_div-q-in-loop-i c = omega arith
 
 pub nonzero_rem-rest-in-loop-i : goal.nonzero_rem-rest-in-loop-i
 nonzero_rem-rest-in-loop-i c = omega arith
-
-pub overflow_sub-i : goal.overflow_sub-i
-overflow_sub-i c = omega arith
-
-pub loop-i-smaller : goal.loop-i-smaller
-loop-i-smaller c = omega arith

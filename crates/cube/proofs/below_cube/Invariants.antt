@@ -1,6 +1,6 @@
--- What the loop keeps, and what grows less by each turn.
+-- What the loop keeps, with i turns to go.
 use mathlib.Core.Path.{◌≡◌}
-use Prim.Native.Nat.{ℕ, ◌+◌, ◌*◌, ◌^◌, ◌<◌}
+use Prim.Native.Nat.{ℕ, ◌+◌, ◌-◌, ◌*◌, ◌/◌, ◌^◌, ◌<◌}
 use Rattle.cube.proofs.below_cube.Given as goal
 
 pub record Turn (a b e q rest i : ℕ) : Type 0 where
@@ -8,7 +8,4 @@ pub record Turn (a b e q rest i : ℕ) : Type 0 where
   pub small : rest < a
 
 abbrev pub invariant-loop-i : goal.invariant-loop-i
-invariant-loop-i l = Turn l.a l.b l.e l.q l.rest l.i
-
-abbrev pub decreases-loop-i : goal.decreases-loop-i
-decreases-loop-i l = l.i
+invariant-loop-i l = Turn l.a l.b l.e l.q l.rest (l.e / 16 - l._i)

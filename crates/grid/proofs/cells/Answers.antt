@@ -5,12 +5,12 @@ use Rattle.grid.proofs.cells.Goals as goal
 
 pub returns-then-n-lt1 : goal.returns-then-n-lt1
 unfolding cells_in
-returns-then-n-lt1 c = rw (← c.ceiling32.ensures, ← c.to_u64-n.ensures) (omega arith)
+returns-then-n-lt1 c = rw (← c.ceiling.ensures, ← c.to_u64-n.ensures) (omega arith)
 
 pub returns-then-n-lt256 : goal.returns-then-n-lt256
 unfolding cells_in
-returns-then-n-lt256 c = rw (← c.ceiling32.ensures, ← c.to_u64-n.ensures) (omega arith)
+returns-then-n-lt256 c = rw (← c.ceiling.ensures, ← c.to_u64-n.ensures) (omega arith)
 
 pub returns-else-n-lt256 : goal.returns-else-n-lt256
 unfolding cells_in
-returns-else-n-lt256 c = rw (← c.ceiling32.ensures, ← c.to_u64-n.ensures) (omega arith)
+returns-else-n-lt256 c = rw (← c.ceiling.ensures, ← c.to_u64-n.ensures) (omega arith)

@@ -4,4 +4,4 @@ use Rattle.grid.proofs.first_cell.Goals as goal
 
 pub returns : goal.returns
 unfolding first_cell
-returns c = rw (← c.least32.ensures, ← c.least32-2.ensures) c.cell.ensures
+returns c = rw (← c.least.ensures, ← c.least-2.ensures) c.cell.ensures

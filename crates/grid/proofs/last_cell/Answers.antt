@@ -4,4 +4,4 @@ use Rattle.grid.proofs.last_cell.Goals as goal
 
 pub returns : goal.returns
 unfolding last_cell
-returns c = rw (← c.greatest32.ensures, ← c.greatest32-2.ensures) c.cell.ensures
+returns c = rw (← c.greatest.ensures, ← c.greatest-2.ensures) c.cell.ensures

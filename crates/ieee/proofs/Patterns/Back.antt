@@ -11,6 +11,10 @@ use Rattle.ieee.proofs.Patterns.Nan.{up_to_inf}
 pub read_back : (f : Format) (x : Float) → fits f x ≡ true → of_bits f (to_bits f x) ≡ x
 read_back f x h = of_bits-to_bits f x (subst T (sym h) tt)
 
+-- the same by a pattern b that x has
+pub read_word : (f : Format) (x : Float) (b : ℕ) → (b ≡ to_bits f x) × (fits f x ≡ true) → of_bits f b ≡ x
+read_word f x b h = rw h.0 (read_back f x h.1)
+
 -- from the pattern that an `f32`'s value has as an `f64`
 pub read_wide : (x : Float) → fits binary32 x ≡ true → of_bits binary64 (to_bits binary64 x) ≡ x
 read_wide x h = of_bits-to_bits binary64 x (fits_widens x (subst T (sym h) tt))

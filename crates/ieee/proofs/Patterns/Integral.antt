@@ -4,7 +4,7 @@ use mathlib.Core.Path.{◌≡◌, refl, sym, ◌∙◌, subst}
 use mathlib.Core.Logic.{inl, inr}
 use mathlib.Core.Bool.{Bool, true, false, cond}
 use Prim.Native.Nat.{ℕ, zero, suc, ◌+◌, ◌-◌, ◌*◌, ◌/◌, ◌%◌, ◌^◌, ◌≤◌, ◌<◌}
-use native.Mathlib.Nat.{div-lt_iff_lt-mul, eq-zero-or-pos, le-add_right, le_of_eq, le_trans, lt_of_lt_of_le, mod-lt, mul-le-mul_left}
+use native.Mathlib.Nat.{div-lt_iff_lt-mul, eq-zero-or-pos, le-add_right, le_of_eq, le_trans, lt_of_lt_of_le, mod-lt, mul-le-mul_left, mul-pos, mul_comm, zero-lt-suc}
 use native.Mathlib.Nat.{mul-le-mul_right, mul-lt-mul_of_pos_right}
 use native.Mathlib.Decide.{dec_lt}
 use native.Mathlib.Omega.{arith}
@@ -15,7 +15,7 @@ use lib.Pow.{pow-add, pow_mono, pow_pos, shl_lt}
 use lib.Ieee.{Float, nan, inf, fin, Format, binary32, binary64, prec, emax, low, up, down, hid, ones, top, round, neg, of_int, in_float, fits}
 use lib.Ieee.{of_bits}
 use lib.Ieee.Exact.{HasValue}
-use lib.Ieee.Fits.{down_pos, two}
+use lib.Ieee.Fits.{down_pos, reach, two}
 use Rattle.ieee.specs.inner.Fields.{exp, sized}
 use Rattle.ieee.specs.Integral.{Way, to_whole, integral}
 use Rattle.ieee.proofs.Patterns.Fields.{sig_lt, twice_hid, read_inf, read_nan, read_value}
@@ -99,39 +99,49 @@ in_format g f w b n h r =
     let m : n ≤ size_of g b / 2 ^ low g + 1 = rw r (whole_le w (size_of g b) (2 ^ low g) (pow_pos (low g))) in
     le→leb n (2 ^ prec f) (omega (arith, twice_hid f))
 
--- ---- the pattern as an `f64`
-module _ (f : Format) (above below : Way) (x : Float) (b : ℕ) (is : of_bits binary64 b ≡ x) where
+-- ---- by the pattern in the format itself
+module _ (f : Format) (above below : Way) (x : Float) (b : ℕ) (is : of_bits f b ≡ x) where
   -- the way is the sign's
   abbrev way : Way
-  way = cond (leb (2 ^ 63) b) below above
+  way = cond (leb (top f) b) below above
 
-  pub holds : (n : ℕ) → field binary64 b < 1022 + prec f → n ≡ to_whole way (size_of binary64 b) (2 ^ 1074) → T (in_float f (pos n))
-  holds n h r = in_format binary64 f way b n (omega (arith, two f)) r
+  pub holds : (n : ℕ) → field f b < low f + 1 → n ≡ to_whole way (size_of f b) (2 ^ low f) → T (in_float f (pos n))
+  holds n h r = in_format f f way b n (omega (arith, two f)) r
 
-  pub from_zero_up : {n : ℕ} → b < 2 ^ 63 → field binary64 b < 1075 → n ≡ to_whole way (size_of binary64 b) (2 ^ 1074)
+  finite : field f b < low f + 1 → field f b < ones f
+  finite h = omega (arith, two f, reach f)
+
+  pub from_zero_up : {n : ℕ} → b < top f → field f b < low f + 1 → n ≡ to_whole way (size_of f b) (2 ^ low f)
       → of_int f (pos n) ≡ integral f above below x
   unfolding of_int
-  from_zero_up {n} g h r = let e = lt-leb (2 ^ 63) b g in small binary64 f above below x b is false n e (omega arith) (rw e at r)
+  from_zero_up {n} g h r = let e = lt-leb (top f) b g in small f f above below x b is false n e (finite h) (rw e at r)
 
-  pub below_zero : {n : ℕ} → 2 ^ 63 ≤ b → field binary64 b < 1075 → n ≡ to_whole way (size_of binary64 b) (2 ^ 1074)
+  pub below_zero : {n : ℕ} → top f ≤ b → field f b < low f + 1 → n ≡ to_whole way (size_of f b) (2 ^ low f)
       → neg (of_int f (pos n)) ≡ integral f above below x
   unfolding of_int
   below_zero {n} g h r =
-      let e = le-leb (2 ^ 63) b g in round_neg f false n 1 ∙ small binary64 f above below x b is true n e (omega arith) (rw e at r)
+      let e = le-leb (top f) b g in round_neg f false n 1 ∙ small f f above below x b is true n e (finite h) (rw e at r)
 
-  pub whole_already : T (fits f x) → 1022 + prec f ≤ field binary64 b → x ≡ integral f above below x
+  pub whole_already : T (fits f x) → low f + 1 ≤ field f b → x ≡ integral f above below x
   whole_already t h =
-      elim (dec_lt (field binary64 b) 2047) [
+      elim (dec_lt (field f b) (ones f)) [
         | yes l ↦
-            sym (integral_large f above below x (leb (2 ^ 63) b) (size_of binary64 b) (2 ^ 1074) t (pow_pos 1074)
-            (value binary64 x b is (leb (2 ^ 63) b) refl l)
-            (at_least binary64 (prec f - 1) (field binary64 b) (b % 2 ^ 52) (omega (arith, two f))))
-        | no l ↦ subst (λ (v : Float). v ≡ integral f above below v) is (no_number (omega arith))
+            sym (integral_large f above below x (leb (top f) b) (size_of f b) (2 ^ low f) t (pow_pos (low f))
+            (value f x b is (leb (top f) b) refl l)
+            (at_least f (prec f - 1) (field f b) (b % hid f) (omega (arith, two f))))
+        | no l ↦ subst (λ (v : Float). v ≡ integral f above below v) is (no_number (let most = field_le in omega arith))
       ]
     where
-      no_number : field binary64 b ≡ 2047 → of_bits binary64 b ≡ integral f above below (of_bits binary64 b)
+      field_le : field f b ≤ ones f
+      field_le =
+          let h = pow_pos (prec f - 1) in
+          let l : field f b < suc (ones f) =
+          (div-lt_iff_lt-mul h).1 (subst (λ (z : ℕ). b % top f < z) (mul_comm (hid f) (suc (ones f))) (mod-lt b (mul-pos h (zero-lt-suc (ones f))))) in
+          omega arith
+
+      no_number : field f b ≡ ones f → of_bits f b ≡ integral f above below (of_bits f b)
       no_number k =
-          elim (eq-zero-or-pos (b % 2 ^ 52)) [
-            | inl z ↦ rw (read_inf binary64 b k z) (integral_inf f above below (leb (2 ^ 63) b))
-            | inr p ↦ rw (read_nan binary64 b k p) (integral_nan f above below)
+          elim (eq-zero-or-pos (b % hid f)) [
+            | inl z ↦ rw (read_inf f b k z) (integral_inf f above below (leb (top f) b))
+            | inr p ↦ rw (read_nan f b k p) (integral_nan f above below)
           ]

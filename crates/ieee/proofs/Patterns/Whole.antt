@@ -5,12 +5,13 @@ use native.Mathlib.Nat.{add-div_right, div-div-eq-div-mul, lt_of_lt_of_le, mul_a
 use native.Mathlib.Nat.{pow-succ'}
 use native.Mathlib.Omega.{arith}
 use lib.Pow.{pow-add, pow_mono, pow_pos, shl_lt}
-use lib.Ieee.{Format, binary64, prec, low, hid}
+use lib.Dec.{lit≤}
+use lib.Ieee.{Format, binary32, binary64, prec, low, hid}
 use Rattle.ieee.specs.inner.Fields.{exp, sized}
 use Rattle.ieee.specs.Integral.{Way, half, to_whole}
 use Rattle.ieee.proofs.Patterns.Fields.{exp_le, sig_lt, twice_hid}
 use Rattle.ieee.proofs.Numbers.Basic.{pow_half}
-use Rattle.ieee.proofs.Numbers.Wholes.{half_none, whole_same, whole_tiny}
+use Rattle.ieee.proofs.Numbers.Wholes.{half_none as none_at_all, whole_same, whole_tiny}
 
 -- a half of 2 ^ j is added, and the fraction dropped
 pub half_shift : (d j : ℕ) → 0 < j → (d + 2 ^ (j - 1)) / 2 ^ j ≡ to_whole half d (2 ^ j)
@@ -37,17 +38,22 @@ small_size f e t h l = twice_lt (sized f e t) (prec f + exp e) (low f) (shl_lt (
 pub none_size : (f : Format) (e t : ℕ) → prec f < 63 → prec f + e < low f → t < hid f
     → to_whole half (hid f + t) (2 ^ 63) ≡ to_whole half (sized f e t) (2 ^ low f)
 none_size f e t p h l =
-    half_none (hid f + t) (2 ^ 63) (twice_lt (hid f + t) (prec f) 63 (omega (arith, twice_hid f)) p)
-    ∙ sym (half_none (sized f e t) (2 ^ low f) (small_size f e t h l))
+    none_at_all (hid f + t) (2 ^ 63) (twice_lt (hid f + t) (prec f) 63 (omega (arith, twice_hid f)) p)
+    ∙ sym (none_at_all (sized f e t) (2 ^ low f) (small_size f e t h l))
 
-pub tiny_size : (w : Way) (e t : ℕ) → e < 1012 → t < 2 ^ 52 → to_whole w (e + t) (2 ^ 63) ≡ to_whole w (sized binary64 e t) (2 ^ 1074)
-tiny_size w e t h l =
-    whole_tiny w (e + t) (2 ^ 63) (sized binary64 e t) (2 ^ 1074) (omega arith)
-    (small_size binary64 e t (omega arith) l) (some e)
+-- how many digits and places the formats have
+pub few_places : (f : Format) → (hid f ≤ 2 ^ 52) × (prec f ≤ 53) × (149 ≤ low f) × (low f ≤ 1074)
+few_places binary32 = (lit≤ tt, lit≤ tt, lit≤ tt, lit≤ tt)
+few_places binary64 = (lit≤ tt, lit≤ tt, lit≤ tt, lit≤ tt)
+
+pub tiny_size : (f : Format) (w : Way) (e t : ℕ) → e + 62 < low f → t < hid f → to_whole w (e + t) (2 ^ 63) ≡ to_whole w (sized f e t) (2 ^ low f)
+tiny_size f w e t h l =
+    whole_tiny w (e + t) (2 ^ 63) (sized f e t) (2 ^ low f)
+    (let p = few_places f in omega arith) (small_size f e t (let p = few_places f in omega arith) l) (some e)
   where
-    some : (e : ℕ) → min (e + t) 1 ≡ min (sized binary64 e t) 1
+    some : (e : ℕ) → min (e + t) 1 ≡ min (sized f e t) 1
     some zero = omega arith
-    some (suc y) = let p : 0 < (2 ^ 52 + t) * 2 ^ y = mul-pos (omega arith) (pow_pos y) in omega arith
+    some (suc y) = let p : 0 < (hid f + t) * 2 ^ y = mul-pos (let q = pow_pos (prec f - 1) in omega arith) (pow_pos y) in omega arith
 
 -- the digits j places up, shifted down by k; with the field low f + 1 the last one counts 1
 pub placed_size : (f : Format) (w : Way) (j k e t : ℕ) → 0 < e → e + k ≡ j + low f + 1
@@ -66,6 +72,11 @@ pub digits_size : (f : Format) (w : Way) (e t : ℕ) → 0 < e → e ≤ low f +
 digits_size f w e t h l =
     let k = low f + 1 - e in ap (λ (z : ℕ). to_whole w z (2 ^ k)) (sym (mul-one (hid f + t))) ∙ placed_size f w 0 k e t h (omega arith)
 
-pub cut_size : (w : Way) (e t : ℕ) → 1012 ≤ e → e < 1075
-    → to_whole w (2 ^ 52 + t) (2 ^ (1075 - e)) ≡ to_whole w (sized binary64 e t) (2 ^ 1074)
-cut_size w e t h l = digits_size binary64 w e t (omega arith) (omega arith)
+-- the same of a word d with the digits and a shift k, of 63 at most
+pub few_shift : (f : Format) (w : Way) (e t d k : ℕ) → d ≡ hid f + t → k ≡ low f + 1 - e → low f + 1 - 63 ≤ e → e < low f + 1
+    → to_whole w d (2 ^ k) ≡ to_whole w (sized f e t) (2 ^ low f)
+few_shift f w e t d k r q h l = rw (r, q) (digits_size f w e t (let p = few_places f in omega arith) (omega arith))
+
+pub no_half : (f : Format) (e t d k : ℕ) → d ≡ hid f + t → k ≡ 63 → e ≤ low f + 1 - 63 → t < hid f
+    → to_whole half d (2 ^ k) ≡ to_whole half (sized f e t) (2 ^ low f)
+no_half f e t d k r q h l = rw (r, q) (let p = few_places f in none_size f e t (omega arith) (omega arith) l)

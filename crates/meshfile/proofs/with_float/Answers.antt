@@ -2,4 +2,4 @@
 use Rattle.meshfile.proofs.with_float.Goals as goal
 
 pub returns : goal.returns
-returns c = rw c.f32_of.ensures
+returns c = rw c.float_of.ensures

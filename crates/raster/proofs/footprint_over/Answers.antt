@@ -9,9 +9,9 @@ use Rattle.raster.proofs.footprint_over.Goals as goal
 pub returns-then-w-h : goal.returns-then-w-h
 returns-then-w-h c =
     let a = c.args in
-    let w = c.greatest32-w in
-    let h = c.greatest32-h in
-    let m = c.greatest32-size in (
+    let w = c.greatest-w in
+    let h = c.greatest-h in
+    let m = c.greatest-size in (
       foot_none a.vertices.now a.ids.now a.s w.result h.result m.result w.ensures h.ensures m.ensures
           c.no_footprint.result c.if-w-h.true c.no_footprint.ensures,
       refl,
@@ -29,9 +29,9 @@ pub returns : goal.returns
 returns c =
     let found = c.footprint_on in
     let a = c.args in
-    let w = c.greatest32-w in
-    let h = c.greatest32-h in
-    let m = c.greatest32-size in
+    let w = c.greatest-w in
+    let h = c.greatest-h in
+    let m = c.greatest-size in
     let z = c.grid_over-g in
     let few = few_cells z.result z.ensures.1 in (
       foot_some a.vertices.now a.ids.now a.s w.result h.result m.result w.ensures h.ensures m.ensures

@@ -13,7 +13,7 @@ loop-i-preserved c =
     let l = c.loop-i in (
       omega arith,
       fine_next c.args.vertices.now l.i l.fine _ _ (omega arith)
-          (ap (λ (y : Float). le y (of_bits binary32 0x5000_0000)) c.magnitude32-size.ensures) l.invariant.1,
+          (ap (λ (y : Float). le y (of_bits binary32 0x5000_0000)) c.magnitude-size.ensures) l.invariant.1,
     )
 
 pub returns : goal.returns

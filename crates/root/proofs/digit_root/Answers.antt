@@ -82,15 +82,15 @@ loop-i-preserved c =
     let l = c.loop-i in
     let m = c.args.m in
     elim c.if-d-n.branch [
-      | then-d-n w ↦ rw (w.q-is, w.rest-is) (one m l.a l.q l.rest l.i l.invariant (omega arith) w.if-d-n.true)
-      | else-d-n w ↦ rw (w.q-is, w.rest-is) (none m l.a l.q l.rest l.i l.invariant (omega arith) w.if-d-n.false)
+      | then-d-n w ↦ rw (w.q-is, w.rest-is) (one m l.a l.q l.rest l._i l.invariant (omega arith) w.if-d-n.true)
+      | else-d-n w ↦ rw (w.q-is, w.rest-is) (none m l.a l.q l.rest l._i l.invariant (omega arith) w.if-d-n.false)
     ]
 
 pub returns : goal.returns
 returns c =
     let l = c.loop-i in
     let m = c.args.m in
-    let all = done m l.a l.q l.rest l.i l.invariant (omega arith) in
+    let all = done m l.a l.q l.rest l._i l.invariant (omega arith) in
     let small = l.invariant.small in
     floor_root_at m l.q (omega arith, omega arith)
 
@@ -99,9 +99,3 @@ overflow_mul-a c = omega arith
 
 pub overflow_mul-a-in-loop-i : goal.overflow_mul-a-in-loop-i
 overflow_mul-a-in-loop-i c = omega arith
-
-pub overflow_add-i : goal.overflow_add-i
-overflow_add-i c = omega arith
-
-pub loop-i-smaller : goal.loop-i-smaller
-loop-i-smaller c = omega arith

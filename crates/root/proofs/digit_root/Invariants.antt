@@ -1,5 +1,5 @@
--- What the loop keeps, and what grows less by each turn.
-use Rattle.std.proofs.Common.{◌≡◌, ℕ, ◌+◌, ◌-◌, ◌*◌, ◌^◌, ◌<◌, ◌≤◌}
+-- What the loop keeps.
+use Rattle.std.proofs.Common.{◌≡◌, ℕ, ◌+◌, ◌*◌, ◌^◌, ◌<◌, ◌≤◌}
 use Rattle.root.proofs.digit_root.Given as goal
 
 pub record Turn (m a q rest i : ℕ) : Type 0 where
@@ -10,7 +10,4 @@ pub record Turn (m a q rest i : ℕ) : Type 0 where
   pub word : a < 2 ^ 64
 
 abbrev pub invariant-loop-i : goal.invariant-loop-i
-invariant-loop-i l = Turn l.m l.a l.q l.rest l.i
-
-abbrev pub decreases-loop-i : goal.decreases-loop-i
-decreases-loop-i l = 27 - l.i
+invariant-loop-i l = Turn l.m l.a l.q l.rest l._i

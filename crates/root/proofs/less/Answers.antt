@@ -9,4 +9,4 @@ byte a b true y n = (omega arith, inl (y tt, refl))
 byte a b false y n = (omega arith, inr (n tt, refl))
 
 pub returns : goal.returns
-returns c = let a = c.args.a in let b = c.args.b in byte a b (ltb a b) (ltb→lt a b) (nltb→le a b)
+returns c = rw c.from.ensures (let a = c.args.a in let b = c.args.b in byte a b (ltb a b) (ltb→lt a b) (nltb→le a b))

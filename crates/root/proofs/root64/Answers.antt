@@ -37,4 +37,4 @@ returns-then-b c =
 
 pub returns-else-b : goal.returns-else-b
 returns-else-b c =
-    c.f64_of.ensures ∙ back c.args.x _ c.well_formed.0.1 c.root64_bits.ensures
+    c.float_of.ensures ∙ back c.args.x _ c.well_formed.0.1 c.root64_bits.ensures

@@ -19,11 +19,11 @@ pub returns-then-b-eq0 : goal.returns-then-b-eq0
 returns-then-b-eq0 c =
     zero_bits c.args.b c.ranges.b.fits (no_digits c.args.b c.if-b-eq0.true)
 
-pub returns-then-b-eq9218868437227405312 : goal.returns-then-b-eq9218868437227405312
-returns-then-b-eq9218868437227405312 c = infinity_bits c.args.b c.if-b-eq9218868437227405312.true
+pub returns-then-b-eq-LAST : goal.returns-then-b-eq-LAST
+returns-then-b-eq-LAST c = infinity_bits c.args.b c.if-b-eq-LAST.true
 
-pub returns-else-b-eq9218868437227405312 : goal.returns-else-b-eq9218868437227405312
-returns-else-b-eq9218868437227405312 c =
+pub returns-else-b-eq-LAST : goal.returns-else-b-eq-LAST
+returns-else-b-eq-LAST c =
     let b = c.args.b in
     let past = outside b c.if-b.false (omega arith) in
     nan_bits b c.ranges.b.fits (omega arith) (λ z. omega arith)

@@ -5,7 +5,7 @@ use borrow.Author.Rules.{rules}
 use Rattle.spelling.proofs.put_number.Goals as goal
 
 pub loop-i-init : goal.loop-i-init
-loop-i-init c = (search rules, search rules, spelt_none _ c.bits32-rest.result _)
+loop-i-init c = (search rules, search rules, spelt_none _ c.bits-rest.result _)
 
 pub loop-i-preserved : goal.loop-i-preserved
 loop-i-preserved c =
@@ -13,4 +13,4 @@ loop-i-preserved c =
 
 pub returns : goal.returns
 unfolding bits
-returns c = rw (← c.bits32-rest.ensures) (spelt_all _ _ c.loop-i.invariant.2 (search rules))
+returns c = rw (← c.bits-rest.ensures) (spelt_all _ _ c.loop-i.invariant.2 (search rules))

@@ -12,10 +12,10 @@ use Rattle.surfaces.proofs.pattern_code.Tie.{the-claims}
 use Rattle.surfaces.proofs.pattern_code.Reads.{Pre, Post}
 
 -- the float y with the pattern b
-small : (c : lts.After-half_size32 the-claims Pre Post) (y : Float) → of_bits binary32 c.args.b ≡ y → let n = c.half_size32-n.result in
+small : (c : lts.After-half_size the-claims Pre Post) (y : Float) → of_bits binary32 c.args.b ≡ y → let n = c.half_size-n.result in
     (2 * n - min (c.args.b / 2 ^ 31) n ≡ coded (to_signed 31 (half_away binary32 y))) × (n < 2 ^ 31)
 small c y is =
-    by_pattern binary32 31 (omega arith) y c.args.b c.half_size32-n.result is c.requires.0 c.requires.1 c.half_size32-n.ensures
+    by_pattern binary32 31 (omega arith) y c.args.b c.half_size-n.result is c.requires.0 c.requires.1 c.half_size-n.ensures
 
 pub coded_size-requires : goal.coded_size-requires
 coded_size-requires c = omega (arith, (small c _ refl).1)

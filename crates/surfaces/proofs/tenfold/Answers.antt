@@ -11,6 +11,6 @@ pub returns : goal.returns
 returns c =
     let x = c.args.c in
     let fit = mul-fits binary32 x ten in (
-      ap (of_bits binary32) c.bits32.ensures ∙ of_bits-to_bits binary32 (x ⊗ ten) fit,
-      rw c.bits32.ensures (to_bits-lt binary32 (x ⊗ ten) fit),
+      ap (of_bits binary32) c.bits.ensures ∙ of_bits-to_bits binary32 (x ⊗ ten) fit,
+      rw c.bits.ensures (to_bits-lt binary32 (x ⊗ ten) fit),
     )

@@ -14,4 +14,4 @@ rounds x y z rounded cut = rw (cut, rounded) (signed_kept w32 (half_away binary3
 
 pub returns : goal.returns
 returns c =
-    rounds c.args.c c.round32-y.result c.to_i32.result c.round32-y.ensures c.to_i32.ensures
+    rounds c.args.c c.round-y.result c.to_integer.result c.round-y.ensures c.to_integer.ensures

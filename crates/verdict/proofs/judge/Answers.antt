@@ -23,12 +23,12 @@ unfolding too_large
 returns-then-size-s c =
     let a = c.args in
     sym (too_large_lem a.vertices.now a.indices.now a.eps a.s.volume a.s.aabb (some c.before.before.before.before)
-    (rw c.magnitude32-size.ensures at c.if-size-s.true))
+    (rw c.magnitude-size.ensures at c.if-size-s.true))
 
 pub returns : goal.returns
 unfolding too_large near_zero
 returns c =
     let a = c.args in
-    let is = c.magnitude32-size.ensures in
+    let is = c.magnitude-size.ensures in
     rw (within_box a.vertices.now a.indices.now a.eps a.s.volume a.s.aabb (some c.before.before.before.before.before.before.before.before.before)
     (rw is at c.if-size-s.false)) (rw is at c.by_chain.ensures)

@@ -8,7 +8,7 @@ use Rattle.volume.proofs.best_volume.Goals as goal
 pub returns-in-Closed : goal.returns-in-Closed
 unfolding best_of pairs_of
 returns-in-Closed c = (
-  rw (c.in-Closed.is, ← c.magnitude32-volume.ensures) c.closed_best.ensures,
+  rw (c.in-Closed.is, ← c.magnitude-volume.ensures) c.closed_best.ensures,
   rw c.in-Closed.is c.no_pairs.ensures,
   c.clear.ensures ∙ cleared_all _ _ c.requires,
 )
@@ -24,7 +24,7 @@ returns-in-Degenerate c = (
 pub returns-in-OpenShell : goal.returns-in-OpenShell
 unfolding best_of pairs_of
 returns-in-OpenShell c = (
-  rw (c.in-OpenShell.is, ← c.prism-p.ensures.0, ← c.magnitude32-volume.ensures) c.open_best.ensures,
+  rw (c.in-OpenShell.is, ← c.prism-p.ensures.0, ← c.magnitude-volume.ensures) c.open_best.ensures,
   rw c.in-OpenShell.is c.prism-p.ensures.1,
   c.prism-p.ensures.2,
 )

@@ -4,7 +4,7 @@ use Rattle.volume.proofs.or_less.Goals as goal
 
 pub returns-then-p : goal.returns-then-p
 unfolding or_less
-returns-then-p c = rw (c.if-p.true, ← c.least32.ensures)
+returns-then-p c = rw (c.if-p.true, ← c.least.ensures)
 
 pub returns-else-p : goal.returns-else-p
 unfolding or_less

@@ -4,7 +4,7 @@ use Rattle.volume.proofs.upper.Goals as goal
 
 pub returns-then-aabb : goal.returns-then-aabb
 unfolding upper
-returns-then-aabb c = rw (c.if-prism.true, c.if-aabb.true, ← c.least32.ensures)
+returns-then-aabb c = rw (c.if-prism.true, c.if-aabb.true, ← c.least.ensures)
 
 pub returns-then-prism : goal.returns-then-prism
 unfolding upper

@@ -4,4 +4,4 @@ use Rattle.weld.proofs.epsilon.Goals as goal
 
 pub returns : goal.returns
 unfolding epsilon_of
-returns c = rw c.greatest32.ensures
+returns c = rw c.greatest.ensures

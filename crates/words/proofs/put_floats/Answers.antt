@@ -15,7 +15,7 @@ loop-i-preserved c =
     let l = c.loop-i in
     let w = c.u32_at.ensures in
     let put = put_next (of_bits binary32) b l.i l.area _ (omega arith) (omega arith) w l.invariant.2 in
-    (search rules, search rules, rw c.f32_of.ensures put)
+    (search rules, search rules, rw c.float_of.ensures put)
 
 pub returns : goal.returns
 returns c =

@@ -8,4 +8,4 @@ returns-in-NotComputed c = rw c.in-NotComputed.is
 
 pub returns-in-Bound : goal.returns-in-Bound
 unfolding prism_bits
-returns-in-Bound c = rw c.in-Bound.is c.bits32.ensures
+returns-in-Bound c = rw c.in-Bound.is c.bits.ensures

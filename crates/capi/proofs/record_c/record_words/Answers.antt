@@ -13,16 +13,16 @@ returns c =
     ∷ byte_bit t.qto.volume_reliable i
     ∷ c.method_number.ensures i
     ∷ c.profile_number.ensures i
-    ∷ c.bits32.ensures i
-    ∷ c.bits32-2.ensures i
-    ∷ c.bits32-3.ensures i
-    ∷ c.bits32-4.ensures i
-    ∷ c.bits32-5.ensures i
-    ∷ c.bits32-6.ensures i
-    ∷ c.bits32-7.ensures i
-    ∷ c.bits32-8.ensures i
-    ∷ c.bits32-9.ensures i
-    ∷ c.bits32-10.ensures i
+    ∷ c.bits.ensures i
+    ∷ c.bits-2.ensures i
+    ∷ c.bits-3.ensures i
+    ∷ c.bits-4.ensures i
+    ∷ c.bits-5.ensures i
+    ∷ c.bits-6.ensures i
+    ∷ c.bits-7.ensures i
+    ∷ c.bits-8.ensures i
+    ∷ c.bits-9.ensures i
+    ∷ c.bits-10.ensures i
     ∷ c.prism_number.ensures i
     ∷ c.prism_bits.ensures i
     ∷ t.qto.surface_count

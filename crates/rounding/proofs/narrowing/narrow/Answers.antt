@@ -46,7 +46,7 @@ module _ (start : Start) where
   by_size r l h = answer (b / 2 ^ 63 * 2 ^ 31 + r) (narrow_finite b r fits (omega arith) h)
 
 pub returns-then-x : goal.returns-then-x
-returns-then-x c = unfold div of_bits in nan-stays c.args.x c.if-x.true
+returns-then-x c = c.nan.ensures ∙ nan-stays c.args.x c.if-x.true
 
 pub float_to_bits-b : goal.float_to_bits-b
 float_to_bits-b c = same_no_nan c.args.x c.if-x.false
@@ -85,4 +85,4 @@ returns-then-m-eq0 c =
     ∙ by_size c.before.before.before 0 (omega (arith, c.if-m-eq0.true)) (narrow_tiny (m / 2 ^ 52) (m % 2 ^ 52) (omega (arith, c.if-m-eq0.true)) (omega arith))
 
 pub returns-else-m-eq0 : goal.returns-else-m-eq0
-returns-else-m-eq0 c = c.f32_of.ensures ∙ answer c.before.before.before.before.before _ c.narrow_bits.ensures
+returns-else-m-eq0 c = c.float_of.ensures ∙ answer c.before.before.before.before.before _ c.narrow_bits.ensures

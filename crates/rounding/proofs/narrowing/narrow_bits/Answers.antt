@@ -18,12 +18,12 @@ overflow_add-result c = omega (arith, size_below c)
 pub overflow_cast-result : goal.overflow_cast-result
 overflow_cast-result c = omega (arith, size_below c)
 
-pub returns-then-m-lt9218868437227405312 : goal.returns-then-m-lt9218868437227405312
-returns-then-m-lt9218868437227405312 c =
-    narrow_finite c.args.b _ c.ranges.b.fits c.if-m-lt9218868437227405312.true c.narrow_size.ensures
+pub returns-then-m-lt-LAST : goal.returns-then-m-lt-LAST
+returns-then-m-lt-LAST c =
+    narrow_finite c.args.b _ c.ranges.b.fits c.if-m-lt-LAST.true c.narrow_size.ensures
 
-pub returns-then-m-eq9218868437227405312 : goal.returns-then-m-eq9218868437227405312
-returns-then-m-eq9218868437227405312 c = narrow_inf c.args.b c.ranges.b.fits c.if-m-eq9218868437227405312.true
+pub returns-then-m-eq-LAST : goal.returns-then-m-eq-LAST
+returns-then-m-eq-LAST c = narrow_inf c.args.b c.ranges.b.fits c.if-m-eq-LAST.true
 
-pub returns-else-m-eq9218868437227405312 : goal.returns-else-m-eq9218868437227405312
-returns-else-m-eq9218868437227405312 c = narrow_nan c.args.b (omega arith)
+pub returns-else-m-eq-LAST : goal.returns-else-m-eq-LAST
+returns-else-m-eq-LAST c = narrow_nan c.args.b (omega arith)

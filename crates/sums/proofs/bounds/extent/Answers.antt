@@ -4,4 +4,4 @@ use Rattle.sums.proofs.bounds.extent.Goals as goal
 
 pub returns : goal.returns
 unfolding extent
-returns c = c.greatest32.ensures
+returns c = c.greatest.ensures

@@ -1,5 +1,0 @@
--- `patterns::order::greatest64_bits` meets its contract. Assumes nothing.
-use Rattle.patterns.proofs.order.greatest64_bits.Goals as goal
-
-pub returns : goal.returns
-returns c = cc

@@ -1,5 +1,0 @@
--- `patterns::order::least64_bits` meets its contract. Assumes nothing.
-use Rattle.patterns.proofs.order.least64_bits.Goals as goal
-
-pub returns : goal.returns
-returns c = cc

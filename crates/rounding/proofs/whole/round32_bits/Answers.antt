@@ -1,5 +1,0 @@
--- `rounding::whole::round32_bits` meets its contract. Assumes nothing.
-use Rattle.rounding.proofs.whole.round32_bits.Goals as goal
-
-pub returns : goal.returns
-returns c = cc

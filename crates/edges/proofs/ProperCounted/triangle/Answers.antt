@@ -1,8 +1,8 @@
--- `edges::proper_triangle` meets its contract: three steps, each with room for those to come. Assumes nothing.
+-- `edges::Proper::triangle` meets its contract: three steps, each with room for those to come. Assumes nothing.
 use Rattle.ids.specs.EdgeChain.{around_proper}
 use Rattle.steps.proofs.Within.{first_fits, second_fits, third_fits, three_added}
-use Rattle.edges.proofs.Triangles.{step_length}
-use Rattle.edges.proofs.proper_triangle.Goals as goal
+use Rattle.edges.proofs.Triangles.{step_length, proper_added}
+use Rattle.edges.proofs.ProperCounted.triangle.Goals as goal
 
 pub proper_step-requires : goal.proper_step-requires
 proper_step-requires c = first_fits c.requires
@@ -20,4 +20,4 @@ proper_step-requires-3 c =
 pub returns : goal.returns
 unfolding around_proper
 returns c =
-    three_added c.proper_step.ensures c.proper_step-2.ensures c.proper_step-3.ensures
+    proper_added _ (three_added c.proper_step.ensures c.proper_step-2.ensures c.proper_step-3.ensures)

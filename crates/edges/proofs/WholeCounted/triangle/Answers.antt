@@ -1,16 +1,16 @@
--- `edges::triangle` meets its contract: a triangle that repeats an id makes no use, another makes three, each with room for those to
+-- `edges::Whole::triangle` meets its contract: a triangle that repeats an id makes no use, another makes three, each with room for those to
 -- come. Assumes nothing.
 use mathlib.Core.Path.{sym, ◌∙◌}
 use native.Mathlib.Omega.{arith}
 use Rattle.ids.proofs.Triangles.{append_none}
 use Rattle.steps.proofs.Within.{first_fits, second_fits, third_fits, three_added}
-use Rattle.edges.proofs.Triangles.{around_none, around_all}
-use Rattle.edges.proofs.triangle.Goals as goal
+use Rattle.edges.proofs.Triangles.{around_none, around_all, whole_added}
+use Rattle.edges.proofs.WholeCounted.triangle.Goals as goal
 
 pub returns-then-not-distinct : goal.returns-then-not-distinct
 returns-then-not-distinct c =
     let none = around_none _ (sym c.distinct.ensures ∙ c.if-not-distinct.true) in
-    record { adds = λ es m. rw (none, append_none) m }
+    whole_added _ (record { adds = λ es m. rw (none, append_none) m })
 
 pub walk-requires : goal.walk-requires
 walk-requires c = first_fits c.requires
@@ -26,4 +26,4 @@ walk-requires-3 c =
 pub returns : goal.returns
 returns c =
     let all = around_all _ (sym c.distinct.ensures ∙ c.if-not-distinct.false) in
-    rw all (three_added c.walk.ensures c.walk-2.ensures c.walk-3.ensures)
+    whole_added _ (rw all (three_added c.walk.ensures c.walk-2.ensures c.walk-3.ensures))

@@ -1,6 +1,7 @@
 -- What the classifier's own steps say: of one list of ids, given or welded, and of the area that it is lent. No definition of document 01
 -- is here.
-use Rattle.std.specs.Prelude.{◌≡◌, ℕ, ◌*◌, ◌≤◌, Bool, cond, List, length, Float}
+use Rattle.std.specs.Prelude.{◌≡◌, ℕ, ◌*◌, ◌≤◌, Bool, cond, List, length, Option, Some, None, Float}
+use Rattle.std.specs.Option.{unwrap_or}
 use Rattle.ids.specs.EdgeChain.{boundary_free, over_incident}
 use Rattle.ids.specs.Lent.{most_entries}
 use Rattle.ids.specs.Triangles.{triangle_count}
@@ -14,9 +15,8 @@ unfoldable pub chained : List ℕ → Bool → Option Quality
 chained ids near = cond (boundary_free ids) (Some (by_faces ids near)) None
 
 -- ids that are not boundary-free, the last ones asked, are an open shell's
-unfoldable pub open_unless_free : Option Quality → Quality
-open_unless_free (Some q) = q
-open_unless_free None = OpenShell
+abbrev pub open_unless_free : Option Quality → Quality
+open_unless_free said = unwrap_or said OpenShell
 
 -- ---- the lent area
 

@@ -1,17 +1,14 @@
--- The part that is lent, cleared, is an empty table of edges, or of faces, with the rows that the ids need. Assumes nothing.
+-- The part that is lent, cleared, is an empty table of edges with the rows that the ids need. Assumes nothing.
 use mathlib.Core.Path.{◌≡◌}
 use mathlib.Core.List.{List}
 use Prim.Native.Nat.{ℕ, ◌*◌, ◌/◌}
 use native.Mathlib.Omega.{arith}
 use lib.ListN.{length}
-use Rattle.ids.specs.Triangles.{triangle_count}
 use Rattle.ids.specs.Lent.{cleared}
 use Rattle.ids.proofs.Lent.{cleared_all}
 use Rattle.table.specs.inner.Words.{Lends}
 use Rattle.edges.specs.inner.Gather.{EdgesToCome}
-use Rattle.faces.specs.inner.Rows.{FacesToCome}
 use Rattle.edges.proofs.Tally as edge-tables
-use Rattle.faces.proofs.Rows as face-tables
 
 module _ (ids t u : List ℕ) (long : length u ≡ length t) where
   pub emptied_edges : (n : ℕ) → Lends (4 * length ids) ids t → n ≡ length ids * 4 / 3 → u ≡ cleared (4 * length ids) t → EdgesToCome ids n u
@@ -22,16 +19,4 @@ module _ (ids t u : List ℕ) (long : length u ≡ length t) where
         rows = omega arith;
         space = record { most = omega (arith, lent.few); fits = omega (arith, lent.long) };
         empty = rw (is, cleared_all m t lent.long) (edge-tables.zero_table n m (omega arith));
-      }
-
-  pub emptied_faces : Lends (4 * triangle_count ids) ids t → u ≡ cleared (4 * triangle_count ids) t
-      → FacesToCome ids (2 * triangle_count ids) u
-  emptied_faces lent is =
-      let m : ℕ = 4 * triangle_count ids in
-      record {
-        few = lent.few;
-        rows = omega arith;
-        space = record { most = omega (arith, lent.few); fits = omega (arith, lent.long) };
-        empty =
-            rw (is, cleared_all m t lent.long) (face-tables.zero_table ids (2 * triangle_count ids) m (omega arith) (λ l. omega arith));
       }

@@ -4,10 +4,9 @@
 
 ghost use Rattle.std.specs.Prelude.{◌≡◌, ◌&&◌, List, ℕ, ◌*◌, length};
 ghost use Rattle.ids.specs.Triangles.{triangle_count};
-ghost use Rattle.ids.specs.EdgeChain.{enough, chain, proper_edges, closed_manifold, winding_coherent};
+ghost use Rattle.ids.specs.EdgeChain.{enough, proper_edges, closed_manifold, winding_coherent};
 ghost use Rattle.table.specs.inner.Words.{Lends, Leaves};
 ghost use Rattle.steps.specs.inner.Rows.{EdgeTable, EdgeRows};
-ghost use Rattle.edges.specs.inner.Gather.{EdgesToCome};
 ghost use Rattle.chain.specs.Answers.{incidence_of, net_of};
 ghost use Rattle.chain.specs.Answers.{EdgeChainGiven, FaceNetGiven, VerdictGiven};
 ghost use Rattle.chain.specs.Answers.{ClosedManifoldGiven, WindingCoherentGiven};
@@ -38,28 +37,13 @@ pub enum Verdict {
 
 // ---- over an area of just the words needed, which is zero afterwards
 
-// Adds the uses of the chain to an empty table: none unless there are enough ids.
-fn gather_chain(ids: &[u32], part: &mut [u32], n: usize)
-    requires { EdgesToCome ids.now n part.old }
-    ensures { EdgeTable n part.new (chain ids.now) }
-{
-    let go = tally::enough(ids.len());
-    if go {
-        edges::gather(ids, part, n, true);
-    }
-}
-
 // Makes the chain and reads it.
 fn chain_in(ids: &[u32], part: &mut [u32]) -> Incidence
     requires { Lends (4 * length ids.now) ids.now part.old }
     ensures { Leaves (4 * length ids.now) (incidence_of ids.now) result part.new }
 {
-    let m = 4 * ids.len();
-    let n = edges::rows(ids.len());
-    table::clear(part, m);
-    gather_chain(ids, part, n);
-    let said = tally::tally_edges(part, n);
-    table::clear(part, m);
+    let said = tally::chain_of(ids, part);
+    table::clear(part, 4 * ids.len());
     said
 }
 
@@ -68,12 +52,8 @@ fn net_in(ids: &[u32], part: &mut [u32]) -> Net
     requires { Lends (4 * triangle_count ids.now) ids.now part.old }
     ensures { Leaves (4 * triangle_count ids.now) (net_of ids.now) result part.new }
 {
-    let n = 2 * (ids.len() / 3);
-    let m = 4 * (ids.len() / 3);
-    table::clear(part, m);
-    faces::gather(ids, part, n);
-    let said = tally::tally_faces(part, n);
-    table::clear(part, m);
+    let said = tally::net_of(ids, part);
+    table::clear(part, 4 * (ids.len() / 3));
     said
 }
 
@@ -85,7 +65,7 @@ fn all_paired(part: &[u32], n: usize) -> bool
     ensures { (ids : List ℕ) → EdgeTable n part.now (proper_edges ids)
         → (enough (length ids) && result) ≡ closed_manifold ids }
 {
-    let unpaired = edges::count(part, n, edges::UNPAIRED);
+    let unpaired = edges::count::<edges::Unpaired>(part, n);
     unpaired == 0
 }
 
@@ -95,8 +75,8 @@ fn most_cohere(part: &[u32], n: usize) -> bool
     ensures { (ids : List ℕ) → EdgeTable n part.now (proper_edges ids)
         → (enough (length ids) && result) ≡ winding_coherent ids }
 {
-    let present = edges::count(part, n, edges::PRESENT);
-    let incoherent = edges::count(part, n, edges::INCOHERENT);
+    let present = edges::count::<edges::Present>(part, n);
+    let incoherent = edges::count::<edges::Incoherent>(part, n);
     (0 < present) & (50 * incoherent <= present)
 }
 
@@ -121,7 +101,7 @@ fn question_in(ids: &[u32], part: &mut [u32], winding: bool) -> bool
     let m = 4 * ids.len();
     let n = edges::rows(ids.len());
     table::clear(part, m);
-    edges::gather(ids, part, n, false);
+    edges::gather::<edges::Proper>(ids, part, n);
     let said = rows_say(part, n, winding);
     table::clear(part, m);
     tally::enough(ids.len()) & said

@@ -2,6 +2,4 @@
 pub mod Triangles
 pub mod Tally
 mod Gathering
-mod Behind
-mod Pairs
-mod Crowded
+mod Tested

@@ -1,18 +1,21 @@
 -- What the table's rows say of the uses: a table of zeros means none, and what its rows count is what the edges count. Assumes nothing.
-use mathlib.Core.Path.{◌≡◌, refl}
+use mathlib.Core.Path.{◌≡◌}
 use mathlib.Core.Bool.{Bool}
 use mathlib.Core.List.{List, []}
-use Prim.Native.Nat.{ℕ, zero, suc, ◌+◌, ◌*◌, ◌≤◌, ◌<◌}
+use Prim.Native.Nat.{ℕ, ◌+◌, ◌*◌, ◌≤◌, ◌<◌}
 use native.Mathlib.Omega.{arith}
+use mir.Val.{bool_byte}
 use lib.ListN.{replicate, get_or-replicate}
-use Rattle.ids.specs.Uses.{Use}
-use Rattle.ids.specs.EdgeChain.{Edge, same_edge, incoherent, edges_that}
+use Rattle.ids.specs.Uses.{Use, bit}
+use Rattle.ids.proofs.Bits.{byte_bit, byte_small}
+use Rattle.ids.specs.EdgeChain.{Edge, same_edge, edges_that}
 use Rattle.table.specs.inner.Rows.{sum_to}
 use Rattle.table.proofs.Counts.{none_used, none_up}
 use Rattle.table.proofs.Probe.{empty}
+use Rattle.table.proofs.Sums.{sum_to_next}
 use Rattle.table.proofs.Tally.{rows_that}
 use Rattle.steps.specs.inner.Rows.{EdgeTable, edge_home, edge_at, edge_word, edge_uses, edge_ups}
-use Rattle.edges.specs.inner.Tests.{test_of, row_bit}
+use Rattle.edges.specs.inner.Tests.{use_bit, row_bit}
 
 -- rows whose words are 0 mean no uses
 pub empty_table : (n : ℕ) (t : List ℕ) → ((i : ℕ) → i < n → edge_word t i ≡ 0) → EdgeTable n t []
@@ -24,14 +27,13 @@ zero_table n m l = empty_table n (replicate m 0) (λ i b. get_or-replicate m (3 
 -- the rows' count is the edges'
 pub table_tally : (n : ℕ) (t : List ℕ) (es : List (Use Edge)) (test : ℕ → ℕ → Bool) → EdgeTable n t es
     → sum_to (row_bit test t) n ≡ edges_that test es
-unfolding row_bit
+unfolding use_bit
 table_tally n t es test m = rows_that same_edge n (edge_at t) (edge_uses t) (edge_ups t) es m.rows test
 
--- every test number from 4 on is the last test's
-pub test_rest : (t : ℕ) → 4 ≤ t → test_of t ≡ incoherent
-unfolding test_of
-test_rest zero l = absurd (omega arith)
-test_rest (suc zero) l = absurd (omega arith)
-test_rest (suc (suc zero)) l = absurd (omega arith)
-test_rest (suc (suc (suc zero))) l = absurd (omega arith)
-test_rest (suc (suc (suc (suc t)))) l = refl
+-- a turn of a loop that counts the rows that pass: row i has n uses, u of them upwards, and b says whether they pass
+pub counted_next : (test : ℕ → ℕ → Bool) (t : List ℕ) (i total n u : ℕ) (b : Bool) → (u ≡ edge_ups t i) × (n ≡ edge_uses t i)
+    → bit b ≡ use_bit test n u → total ≡ sum_to (row_bit test t) i → total ≤ i
+    → (total + bool_byte b ≡ sum_to (row_bit test t) (i + 1)) × (total + bool_byte b ≤ i + 1)
+counted_next test t i total n u b row passes sum few =
+    let here : bit b ≡ row_bit test t i = rw (row.0, row.1) at passes in
+    (omega (arith, sum, here, byte_bit b, sum_to_next (row_bit test t) i), omega (arith, byte_small b))

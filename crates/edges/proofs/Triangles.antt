@@ -15,8 +15,8 @@ use Rattle.ids.specs.Uses.{Use, uses, bit}
 use Rattle.ids.specs.EdgeChain.{Edge, same_edge, step, around, proper_step, around_proper}
 use Rattle.table.specs.inner.Table.{ups}
 use Rattle.ids.proofs.Triangles.{repeats_ab, repeats_bc, repeats_ca, repeats_none}
-use Rattle.steps.specs.inner.Rows.{UsesWithin}
-use Rattle.edges.specs.inner.Tests.{edges_of}
+use Rattle.steps.specs.inner.Rows.{UsesWithin, EdgesAdded}
+use Rattle.edges.specs.inner.Gather.{TriangleAdded}
 use Rattle.ids.proofs.Same.{edge_eq}
 use Rattle.ids.proofs.Uses.{uses_append}
 use Rattle.steps.proofs.Within.{ups_append, within_length}
@@ -137,12 +137,12 @@ none_or_proper P t none all =
 
 -- ---- one triangle, either way of dropping
 
-pub triangle_within : (whole : Bool) (t : Triangle) → UsesWithin 1 (edges_of whole t)
-unfolding edges_of
-triangle_within true t = none_or_proper (UsesWithin 1) t (within_length 1 [] (omega arith)) (proper_within t)
-triangle_within false t = proper_within t
+pub proper_added : {n : ℕ} {t u : List ℕ} (r : Triangle) → EdgesAdded n t u (around_proper r) → TriangleAdded n t u (around_proper r)
+proper_added r a = record { added = a; few = proper_length r; within = proper_within r }
 
-pub triangle_length : (whole : Bool) (t : Triangle) → length (edges_of whole t) ≤ 3
-unfolding edges_of
-triangle_length true t = none_or_proper (λ es. length es ≤ 3) t (omega arith) (proper_length t)
-triangle_length false t = proper_length t
+pub whole_added : {n : ℕ} {t u : List ℕ} (r : Triangle) → EdgesAdded n t u (around r) → TriangleAdded n t u (around r)
+whole_added r a = record {
+  added = a;
+  few = none_or_proper (λ es. length es ≤ 3) r (omega arith) (proper_length r);
+  within = none_or_proper (UsesWithin 1) r (within_length 1 [] (omega arith)) (proper_within r);
+}

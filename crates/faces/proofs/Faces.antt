@@ -9,9 +9,9 @@ use Rattle.table.proofs.Search.{home_below}
 use Rattle.faces.specs.inner.Rows.{face_hash, face_home}
 
 -- a face by its three ids
-pub face_of : (f : Face) (low mid high : ℕ) → f.low ≡ low → f.mid ≡ mid → f.high ≡ high
+face_by : (f : Face) (low mid high : ℕ) → f.low ≡ low → f.mid ≡ mid → f.high ≡ high
     → f ≡ record { low = low; mid = mid; high = high }
-face_of f low mid high p q r = λ i. record { low = p i; mid = q i; high = r i }
+face_by f low mid high p q r = λ i. record { low = p i; mid = q i; high = r i }
 
 -- the three ids sorted as the code does it
 pub sorted_by : (t : Triangle) → sorted_ids t ≡ record {
@@ -20,7 +20,7 @@ pub sorted_by : (t : Triangle) → sorted_ids t ≡ record {
   high = max (max t.a t.b) t.c;
 }
 unfolding sorted_ids
-sorted_by t = face_of (sorted_ids t) _ _ _ (omega arith) refl (omega arith)
+sorted_by t = face_by (sorted_ids t) _ _ _ (omega arith) refl (omega arith)
 
 pub home_in_lem : (n : ℕ) (f : Face) → 0 < n → face_home n f < n
 unfolding face_home face_hash

@@ -2,10 +2,10 @@
 // it.
 #![tactic(auto)]
 
-ghost use Rattle.std.specs.Prelude.{◌≡◌, cond, [], ◌∷◌, ◌+◌, ◌*◌, ◌<◌, ltb, length};
+ghost use Rattle.std.specs.Prelude.{◌≡◌, cond, [], ◌∷◌, ◌+◌, ◌*◌, ◌<◌, ltb, min, max, length};
 ghost use Rattle.ids.specs.EdgeChain.{step as step_use};
 ghost use Rattle.table.specs.inner.Rows.{Found};
-ghost use Rattle.steps.specs.inner.Rows.{edge_at, edge_word, edge_uses, put_edge, edge_hash, EdgeSearch, EdgesFit, EdgesAdded};
+ghost use Rattle.steps.specs.inner.Rows.{edge_at, edge_word, edge_uses, put_edge, edge_hash, edge_of, EdgeSearch, EdgesFit, EdgesAdded};
 
 // What a step from u to v adds to the word that counts its edge: 65536 upwards, 1 downwards.
 fn weight(u: u32, v: u32) -> u32
@@ -14,43 +14,67 @@ fn weight(u: u32, v: u32) -> u32
     if u < v { 65536 } else { 1 }
 }
 
-// The hash of an edge. The two factors were chosen so that the edges of grids, fans, boxes, strips and mirrored rims
-// spread about as well at every size.
-fn hash(low: u32, high: u32) -> u32
-    ensures { result ≡ edge_hash (record { low = low; high = high }) }
-{
-    ((low as u64 * 517785211 + high as u64 * 3599898067) % 0x1_0000_0000) as u32
+// The two ids of an edge, the lower one first.
+#[derive(Clone, Copy, PartialEq)]
+struct Edge {
+    low: u32,
+    high: u32,
+}
+
+impl Edge {
+    // The edge between two ids.
+    fn between(u: u32, v: u32) -> Edge
+        ensures { (result.low ≡ min u v) × (result.high ≡ max u v) }
+    {
+        Edge {
+            low: u.min(v),
+            high: u.max(v),
+        }
+    }
+
+    // Its hash. The two factors were chosen so that the edges of grids, fans, boxes, strips and mirrored rims
+    // spread about as well at every size.
+    #[tactic(auto, unfolding(crate::specs::inner::Rows::edge_hash))]
+    fn hash(self) -> u32
+        ensures { result ≡ edge_hash (edge_of self) }
+    {
+        ((self.low as u64 * 517785211 + self.high as u64 * 3599898067) % 0x1_0000_0000) as u32
+    }
 }
 
 // The first row, from `start` on and round, that holds the edge or is free.
+// Stays: a loop, since the search ends by what it finds and goes round: a range would need an answer for a full table, which there is not.
 #[tactic(auto, using(table::proofs::Counts::none_used))]
-fn find(work: &[u32], n: usize, low: u32, high: u32, start: usize) -> usize
+fn find(work: &[u32], n: usize, edge: Edge, start: usize) -> usize
     requires { EdgeSearch n start work.now }
-    ensures { Found n start (edge_at work.now) (edge_uses work.now)
-        (record { low = low; high = high }) result }
+    ensures { Found n start (edge_at work.now) (edge_uses work.now) (edge_of edge) result }
 {
     let mut r = start;
-    loop {
+    'search: loop {
         let at = 3 * r;
         if work[at + 2] == 0 {
-            break r;
+            break 'search r;
         }
-        if (work[at] == low) & (work[at + 1] == high) {
-            break r;
+        let here = Edge {
+            low: work[at],
+            high: work[at + 1],
+        };
+        if here == edge {
+            break 'search r;
         }
         r = table::next(r, n);
     }
 }
 
 // Counts one more use in row r, which is then the edge's.
-fn bump(work: &mut [u32], r: usize, low: u32, high: u32, by: u32)
+fn bump(work: &mut [u32], r: usize, edge: Edge, by: u32)
     requires { (r < 131072) × (3 * r + 2 < length work.old) × (edge_word work.old r + by < 4294967296) }
-    ensures { work.new ≡ put_edge work.old r low high (edge_word work.old r + by) }
+    ensures { work.new ≡ put_edge work.old r edge.low edge.high (edge_word work.old r + by) }
 {
     let at = 3 * r;
     let word = work[at + 2] + by;
-    work[at] = low;
-    work[at + 1] = high;
+    work[at] = edge.low;
+    work[at + 1] = edge.high;
     work[at + 2] = word;
 }
 
@@ -59,9 +83,8 @@ pub fn walk(work: &mut [u32], n: usize, u: u32, v: u32)
     requires { EdgesFit n 1 work.old }
     ensures { EdgesAdded n work.old work.new (step_use u v ∷ []) }
 {
-    let low = table::lesser(u, v);
-    let high = table::greater(u, v);
-    let start = table::home(hash(low, high), n);
-    let r = find(work, n, low, high, start);
-    bump(work, r, low, high, weight(u, v));
+    let edge = Edge::between(u, v);
+    let start = table::home(edge.hash(), n);
+    let r = find(work, n, edge, start);
+    bump(work, r, edge, weight(u, v));
 }

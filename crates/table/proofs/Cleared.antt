@@ -1,5 +1,4 @@
--- An area whose first words were cleared: they are 0, also in a part that starts the area, and what stands behind them is as it was.
--- Assumes nothing.
+-- An area whose first words were cleared: they are 0, also in a part that starts the area. Assumes nothing.
 use mathlib.Core.Path.{◌≡◌, sym, ap, ◌∙◌}
 use mathlib.Core.List.{List, ◌++◌}
 use Prim.Native.Nat.{ℕ, ◌+◌, ◌-◌, ◌≤◌, ◌<◌}
@@ -14,11 +13,3 @@ module _ (k m : ℕ) (t u : List ℕ) (is : u ≡ cleared k t) where
   front_zero x l b =
       get_or-take m u x 0 b ∙ ap (λ (v : List ℕ). get_or v x 0) is
       ∙ get_or-append (replicate k 0) (drop k t) 0 x (rw length-replicate l) ∙ get_or-replicate {A = ℕ} k x 0 0 l
-
-  pub behind_kept : k ≤ m → drop m u ≡ drop m t
-  unfolding cleared
-  behind_kept l =
-      let e : length (replicate {A = ℕ} k 0) + (m - k) ≡ m = rw length-replicate (omega arith) in
-      let f : k + (m - k) ≡ m = omega arith in
-      ap (drop m) is ∙ ap (λ (n : ℕ). drop n (replicate k 0 ++ drop k t)) (sym e) ∙ drop-append-add (replicate k 0) (drop k t) (m - k)
-      ∙ drop-drop (m - k) k t ∙ ap (λ (n : ℕ). drop n t) f

@@ -1,5 +1,4 @@
--- Laws of tables whatever they hold, of those that count uses, and of areas: cleared in front, with ids behind, or lent to just the words
--- needed.
+-- Laws of tables whatever they hold, of those that count uses, and of areas: cleared in front, or lent to just the words needed.
 pub mod Search
 pub mod Turn
 pub mod Sums
@@ -10,5 +9,4 @@ pub mod Signed
 pub mod Counts
 pub mod Tally
 pub mod Cleared
-pub mod Front
 pub mod Words

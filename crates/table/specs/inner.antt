@@ -2,5 +2,4 @@
 pub mod Rows
 pub mod Counts
 pub mod Table
-pub mod Front
 pub mod Words

@@ -5,11 +5,10 @@ use mathlib.Core.List.{List, []}
 use Prim.Native.Nat.{ℕ}
 use lib.ListN.{length}
 use Rattle.ids.specs.Triangles.{over_triangles}
-use Rattle.ids.specs.EdgeChain.{enough, chain}
-use Rattle.edges.specs.inner.Tests.{edges_of}
+use Rattle.ids.specs.EdgeChain.{enough, around, chain}
 
-pub chain_all : (ids : List ℕ) → enough (length ids) ≡ true → chain ids ≡ over_triangles (edges_of true) ids
-unfolding chain edges_of
+pub chain_all : (ids : List ℕ) → enough (length ids) ≡ true → chain ids ≡ over_triangles around ids
+unfolding chain
 chain_all ids e = rw e
 
 pub chain_none : (ids : List ℕ) → enough (length ids) ≡ false → chain ids ≡ []

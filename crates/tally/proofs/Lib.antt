@@ -1,3 +1,3 @@
--- The chain by the number of ids; a cleared front as an empty table.
+-- The chain by the number of ids; a cleared part as an empty table.
 pub mod Chain
-mod Behind
+mod Cleared

@@ -1,17 +1,17 @@
-// What a table of edges or of faces says of a list of ids, and the edge chain and face net of ids that stand in the lent
-// area itself, behind their table. Internal: `chain` and `verdict` ask it. Nothing is refused here, and what the
-// `_behind` forms counted is left in front of the ids.
+// What a table of edges or of faces says of a list of ids, and the edge chain and face net of ids, counted in a lent part. Internal:
+// `chain` and `verdict` ask it. Nothing is refused here, and what was counted is left in the part.
 #![tactic(auto)]
 
-ghost use Rattle.std.specs.Prelude.{◌≡◌, List, ℕ, ◌+◌, ◌-◌, ◌*◌, ◌≤◌, length, take, drop};
+ghost use Rattle.std.specs.Prelude.{◌≡◌, List, ℕ, ◌*◌, ◌≤◌, length};
 ghost use Rattle.ids.specs.Triangles.{triangle_count};
 ghost use Rattle.ids.specs.Lent.{most_entries};
 ghost use Rattle.ids.specs.EdgeChain.{enough as enough_ids, chain, boundary_free, over_incident};
 ghost use Rattle.ids.specs.FaceNet.{faces, max_abs, all_cancel};
-ghost use Rattle.table.specs.inner.Front.{IdsBehind, InFront};
 ghost use Rattle.steps.specs.inner.Rows.{EdgeTable, EdgeRows};
 ghost use Rattle.edges.specs.inner.Gather.{EdgesToCome};
 ghost use Rattle.faces.specs.inner.Rows.{FaceTable, FaceRows};
+
+use edges::Whole;
 
 // What the edge chain and the face net say of ids.
 #[derive(Clone, Copy)]
@@ -61,43 +61,37 @@ pub fn tally_faces(part: &[u32], n: usize) -> Net
     }
 }
 
-// ---- where the ids stand in the lent area itself: from `at` on, and in front of them the words of the table
+// ---- what ids say, counted in a lent part
 
 // Adds the uses of the chain to an empty table: none unless there are enough ids.
-fn gather_chain_behind(area: &mut [u32], at: usize, n: usize)
-    requires { IdsBehind at area.old × EdgesToCome (drop at area.old) n (take at area.old) }
-    ensures { InFront at area.old area.new
-        (λ t. EdgeTable n t (chain (drop at area.old))) }
+#[tactic(auto, using(crate::proofs::Chain::chain_all, crate::proofs::Chain::chain_none))]
+fn gather_chain(ids: &[u32], part: &mut [u32], n: usize)
+    requires { EdgesToCome ids.now n part.old }
+    ensures { EdgeTable n part.new (chain ids.now) }
 {
-    let go = enough(area.len() - at);
-    if go {
-        edges::gather_behind(area, at, n);
+    if enough(ids.len()) {
+        edges::gather::<Whole>(ids, part, n);
     }
 }
 
-// Is the chain of these ids boundary-free, is it over-incident? The ids stay.
-pub fn chain_behind(area: &mut [u32], at: usize) -> Incidence
-    requires { (at ≤ length area.old) × (length area.old ≤ at + most_entries) × (4 * (length area.old - at) ≤ at) }
-    ensures { (result.boundary_free ≡ boundary_free (drop at area.old))
-        × (result.over_incident ≡ over_incident (drop at area.old))
-        × (drop at area.new ≡ drop at area.old) }
+// Are these ids boundary-free, are they over-incident?
+pub fn chain_of(ids: &[u32], part: &mut [u32]) -> Incidence
+    requires { (length ids.now ≤ most_entries) × (4 * length ids.now ≤ length part.old) }
+    ensures { (result.boundary_free ≡ boundary_free ids.now) × (result.over_incident ≡ over_incident ids.now) }
 {
-    let i = area.len() - at;
-    let n = edges::rows(i);
-    table::clear(area, 4 * i);
-    gather_chain_behind(area, at, n);
-    tally_edges(&area[..at], n)
+    let n = edges::rows(ids.len());
+    table::clear(part, 4 * ids.len());
+    gather_chain(ids, part, n);
+    tally_edges(part, n)
 }
 
-// The face net of these ids. They stay.
-pub fn net_behind(area: &mut [u32], at: usize) -> Net
-    requires { (at ≤ length area.old) × (length area.old ≤ at + most_entries) × (4 * triangle_count (drop at area.old) ≤ at) }
-    ensures { (result.max_abs ≡ max_abs (drop at area.old))
-        × (result.all_cancel ≡ all_cancel (drop at area.old))
-        × (drop at area.new ≡ drop at area.old) }
+// Their face net.
+pub fn net_of(ids: &[u32], part: &mut [u32]) -> Net
+    requires { (length ids.now ≤ most_entries) × (4 * triangle_count ids.now ≤ length part.old) }
+    ensures { (result.max_abs ≡ max_abs ids.now) × (result.all_cancel ≡ all_cancel ids.now) }
 {
-    let n = 2 * ((area.len() - at) / 3);
-    table::clear(area, 2 * n);
-    faces::gather_behind(area, at, n);
-    tally_faces(&area[..at], n)
+    let n = 2 * (ids.len() / 3);
+    table::clear(part, 2 * n);
+    faces::gather(ids, part, n);
+    tally_faces(part, n)
 }

@@ -1,18 +1,20 @@
 -- The verdict case by case: each law is one clause of document 01's paragraph. Assumes nothing.
 use mathlib.Core.Path.{◌≡◌, refl, sym, ap, ◌∙◌}
-use mathlib.Core.Bool.{Bool, true, false, ◌&&◌, ◌||◌}
+use mathlib.Core.Bool.{Bool, true, false, cond, ◌&&◌, ◌||◌}
 use mathlib.Core.List.{List}
 use Prim.Native.Nat.{ℕ}
 use lib.Dec.{leb}
 use lib.Ieee.{Float, le}
+use Rattle.std.specs.Prelude.{Some, None}
+use Rattle.std.specs.Option.{unwrap_or}
 use Rattle.ieee.specs.Single.{nought}
 use Rattle.ids.specs.EdgeChain.{boundary_free, over_incident}
 use Rattle.ids.specs.FaceNet.{max_abs, all_cancel}
 use Rattle.weld.specs.Weld.{welded}
 use Rattle.verdict.specs.Verdict.{too_large, near_zero, by_faces, by_chain, quality}
-use Rattle.verdict.specs.inner.Steps.{chained, is_free, open_unless_free}
+use Rattle.verdict.specs.inner.Steps.{chained, open_unless_free}
+use Rattle.verdict.specs.declared.Quality.{Quality}
 use Rattle.verdict.specs.declared.Quality.TheVariants.{Closed, OpenShell, Degenerate}
-use Rattle.verdict.specs.declared.Chained.TheVariants.{Boundary, Free}
 
 -- ---- the box and the volume, then the ids
 
@@ -53,22 +55,13 @@ module _ (ids : List ℕ) (near : Bool) where
 
   -- ---- what the chain says of ids
 
-  pub free : boundary_free ids ≡ true → chained ids near ≡ Free (by_faces ids near)
+  pub free : boundary_free ids ≡ true → chained ids near ≡ Some (by_faces ids near)
   unfolding chained
   free h = rw h
 
-  pub bounded : boundary_free ids ≡ false → chained ids near ≡ Boundary
+  pub bounded : boundary_free ids ≡ false → chained ids near ≡ None
   unfolding chained
   bounded h = rw h
-
-  -- so by what it says
-  pub free_is : boundary_free ids ≡ is_free (chained ids near)
-  unfolding is_free
-  free_is = go (boundary_free ids) refl
-    where
-      go : (b : Bool) → boundary_free ids ≡ b → boundary_free ids ≡ is_free (chained ids near)
-      go true h = h ∙ sym (ap is_free (free h))
-      go false h = h ∙ sym (ap is_free (bounded h))
 
 -- ---- given ids that are boundary-free are not welded; if they are not, the welded ones decide
 
@@ -77,10 +70,6 @@ module _ (vs : List Float) (ids : List ℕ) (ε : Float) (near : Bool) where
     pub as_given : by_chain vs ids ε near ≡ by_faces ids near
     unfolding by_chain
     as_given = rw given
-
-    pub by_given : by_chain vs ids ε near ≡ open_unless_free (chained ids near)
-    unfolding open_unless_free
-    by_given = as_given ∙ sym (ap open_unless_free (free ids near given))
 
   module _ (not-given : boundary_free ids ≡ false) where
     pub as_welded : boundary_free (welded vs ids ε) ≡ true → by_chain vs ids ε near ≡ by_faces (welded vs ids ε) near
@@ -91,13 +80,20 @@ module _ (vs : List Float) (ids : List ℕ) (ε : Float) (near : Bool) where
     unfolding by_chain
     open_still h = rw (not-given, h)
 
-    pub by_welded : by_chain vs ids ε near ≡ open_unless_free (chained (welded vs ids ε) near)
-    unfolding open_unless_free
-    by_welded = go (boundary_free (welded vs ids ε)) refl
-      where
-        go : (b : Bool) → boundary_free (welded vs ids ε) ≡ b → by_chain vs ids ε near ≡ open_unless_free (chained (welded vs ids ε) near)
-        go true h = as_welded h ∙ sym (ap open_unless_free (free (welded vs ids ε) near h))
-        go false h = open_still h ∙ sym (ap open_unless_free (bounded (welded vs ids ε) near h))
+  -- as the code asks them, one after the other
+  pub given_then_welded : by_chain vs ids ε near ≡ unwrap_or (chained ids near) (open_unless_free (chained (welded vs ids ε) near))
+  unfolding by_chain chained
+  given_then_welded = go (boundary_free ids) (boundary_free (welded vs ids ε))
+    where
+      go : (b w : Bool) → cond b (by_faces ids near) (cond w (by_faces (welded vs ids ε) near) OpenShell)
+          ≡ unwrap_or (cond b (Some (by_faces ids near)) None)
+          (open_unless_free (cond w (Some (by_faces (welded vs ids ε) near)) None))
+      go true w = refl
+      go false true = refl
+      go false false = refl
 
--- these three, by which a function is by_chain that asks the given ids and then, or not, the welded ones
-pub ruleset given_then_welded = (free_is, by_given, by_welded)
+  pub given_some : (q : Quality) → chained ids near ≡ Some q → q ≡ by_chain vs ids ε near
+  given_some q said = sym (given_then_welded ∙ ap (λ o. unwrap_or o (open_unless_free (chained (welded vs ids ε) near))) said)
+
+  pub given_none : chained ids near ≡ None → open_unless_free (chained (welded vs ids ε) near) ≡ by_chain vs ids ε near
+  given_none said = sym (given_then_welded ∙ ap (λ o. unwrap_or o (open_unless_free (chained (welded vs ids ε) near))) said)

@@ -1,57 +1,31 @@
 // `classify_mesh_quality`: closed, open shell or degenerate. Internal: `qto` asks it; the record has its enum.
 #![tactic(auto)]
 
-ghost use Rattle.std.specs.Prelude.{◌≡◌, ◌+◌, ◌*◌, ◌/◌, ◌≤◌, length, drop, replicate};
+ghost use Rattle.std.specs.Prelude.{◌≡◌, ◌+◌, ◌*◌, ◌≤◌, length, replicate};
 ghost use Rattle.ids.specs.Lent.{most_entries};
+ghost use Rattle.ids.specs.Triangles.{triangle_count};
 ghost use Rattle.vertices.specs.Areas.{work_words};
 ghost use Rattle.weld.specs.Weld.{welded};
 ghost use Rattle.verdict.specs.Verdict.{by_faces, by_chain, quality as quality_of};
-ghost use Rattle.verdict.specs.inner.Steps.{chained, is_free, open_unless_free, PartsFit, FacesFit};
+ghost use Rattle.verdict.specs.inner.Steps.{chained, open_unless_free, PartsFit, FacesFit};
 
-#[derive(Clone, Copy)]
+#[derive(Clone, Copy, PartialEq)]
 pub enum Quality {
     Closed,
     OpenShell,
     Degenerate,
 }
 
-// What a list of ids says: that it is not boundary-free, or a quality.
-#[derive(Clone, Copy)]
-pub enum Chained {
-    Boundary,
-    Free(Quality),
-}
-
-// Were the ids boundary-free?
-fn is_free(said: Chained) -> bool
-    ensures { result ≡ is_free said }
-{
-    match said {
-        Chained::Free(_) => true,
-        Chained::Boundary => false,
-    }
-}
-
-// The quality, which is open where the ids were not boundary-free.
-fn open_unless_free(said: Chained) -> Quality
-    ensures { result ≡ open_unless_free said }
-{
-    match said {
-        Chained::Free(q) => q,
-        Chained::Boundary => Quality::OpenShell,
-    }
-}
-
-// The quality of ids that are boundary-free. They stand behind the first `at` words; the face part starts the area.
+// The quality of ids that are boundary-free. The part has room for their faces.
 #[tactic(auto, unfolding(crate::specs::Verdict::by_faces))]
-fn by_faces(area: &mut [u32], at: usize, over_incident: bool, near: bool) -> Quality
-    requires { FacesFit area.old at over_incident }
-    ensures { result ≡ by_faces (drop at area.old) near }
+fn by_faces(ids: &[u32], part: &mut [u32], over_incident: bool, near: bool) -> Quality
+    requires { FacesFit ids.now part.old over_incident }
+    ensures { result ≡ by_faces ids.now near }
 {
     if !(over_incident | near) {
         return Quality::Closed;
     }
-    let net = tally::net_behind(area, at);
+    let net = tally::net_of(ids, part);
     if 2 <= net.max_abs {
         return Quality::OpenShell;
     }
@@ -61,20 +35,20 @@ fn by_faces(area: &mut [u32], at: usize, over_incident: bool, near: bool) -> Qua
     Quality::Closed
 }
 
-// What the i ids say that stand behind the first `at` words; in front lie the edge part, then the face part.
-fn by_ids(work: &mut [u32], i: usize, at: usize, near: bool) -> Chained
-    requires { (i ≤ most_entries) × (length work.old ≡ at + i) × (4 * i + 4 * (i / 3) ≤ at) }
-    ensures { result ≡ chained (drop at work.old) near }
+// What ids say: none where they are not boundary-free, else a quality. The parts are the edge part and the face part.
+fn by_ids(ids: &[u32], parts: &mut [u32], near: bool) -> Option<Quality>
+    requires { (length ids.now ≤ most_entries) × (4 * length ids.now + 4 * triangle_count ids.now ≤ length parts.old) }
+    ensures { result ≡ chained ids.now near }
 {
-    let e = 4 * i;
-    let edges = tally::chain_behind(work, at);
+    let (edge_part, face_part) = parts.split_at_mut(4 * ids.len());
+    let edges = tally::chain_of(ids, edge_part);
     if !edges.boundary_free {
-        return Chained::Boundary;
+        return None;
     }
-    Chained::Free(by_faces(&mut work[e..], at - e, edges.over_incident, near))
+    Some(by_faces(ids, face_part, edges.over_incident, near))
 }
 
-// What the welded ids say.
+// What the welded ids say: open where they are not boundary-free.
 fn by_welded(vertices: &[f32], indices: &[u32], eps: f32, near: bool, work: &mut [u32]) -> Quality
     requires { PartsFit vertices.now indices.now work.old }
     ensures { result ≡ open_unless_free (chained (welded vertices.now indices.now eps) near) }
@@ -83,12 +57,11 @@ fn by_welded(vertices: &[f32], indices: &[u32], eps: f32, near: bool, work: &mut
     let front = 4 * i + 4 * (i / 3);
     let m = 8 * (vertices.len() / 3);
     weld::welded_indices(vertices, indices, eps, &mut work[front..]);
-    let said = by_ids(work, i, front + m, near);
-    open_unless_free(said)
+    let (parts, ids) = work.split_at_mut(front + m);
+    by_ids(ids, parts, near).unwrap_or(Quality::OpenShell)
 }
 
 // What the given ids say, or if they are not boundary-free the welded ones.
-#[tactic(auto, using(crate::proofs::Parts::behind_place, crate::proofs::Parts::behind_kept, crate::proofs::Meaning::given_then_welded))]
 fn by_chain(vertices: &[f32], indices: &[u32], eps: f32, near: bool, work: &mut [u32]) -> Quality
     requires { PartsFit vertices.now indices.now work.old }
     ensures { result ≡ by_chain vertices.now indices.now eps near }
@@ -97,12 +70,11 @@ fn by_chain(vertices: &[f32], indices: &[u32], eps: f32, near: bool, work: &mut 
     let front = 4 * i + 4 * (i / 3);
     let m = 8 * (vertices.len() / 3);
     weld::lay(indices, &mut work[front..], m);
-    let said = by_ids(work, i, front + m, near);
-    let free = is_free(said);
-    if !free {
-        return by_welded(vertices, indices, eps, near, work);
+    let (parts, ids) = work.split_at_mut(front + m);
+    match by_ids(ids, parts, near) {
+        Some(quality) => quality,
+        None => by_welded(vertices, indices, eps, near, work),
     }
-    open_unless_free(said)
 }
 
 // ---- the whole

@@ -5,14 +5,13 @@ use native.Mathlib.Decide.{ℕ_discrete}
 use native.Mathlib.Omega.{arith}
 use borrow.Author.Tests.{lt-ltb, le-ltb, lt-leb, le-leb, eq-eqb, ne_eqb}
 use Rattle.ids.specs.EdgeChain.{proper_edges, edges_that, unpaired, closed_manifold}
-use Rattle.edges.specs.inner.Tests.{test_of}
 use Rattle.edges.proofs.Tally.{table_tally}
 use Rattle.chain.proofs.all_paired.Goals as goal
 
 ruleset tests = (lt-ltb, le-ltb, lt-leb, le-leb, eq-eqb, ne_eqb)
 
 pub returns : goal.returns
-unfolding test_of closed_manifold
+unfolding closed_manifold
 returns c =
     λ ids m.
     let e : c.count-unpaired.result ≡ edges_that unpaired (proper_edges ids) = c.count-unpaired.ensures.0

@@ -6,14 +6,13 @@ use native.Mathlib.Decide.{dec_lt, dec_le}
 use native.Mathlib.Omega.{arith}
 use borrow.Author.Tests.{lt-ltb, le-ltb, lt-leb, le-leb}
 use Rattle.ids.specs.EdgeChain.{proper_edges, edges_that, present, incoherent, winding_coherent}
-use Rattle.edges.specs.inner.Tests.{test_of}
 use Rattle.edges.proofs.Tally.{table_tally}
 use Rattle.chain.proofs.most_cohere.Goals as goal
 
 ruleset tests = (lt-ltb, le-ltb, lt-leb, le-leb)
 
 pub returns : goal.returns
-unfolding test_of winding_coherent
+unfolding winding_coherent
 returns c =
     λ ids m.
     let n = c.args.n in

@@ -2,7 +2,6 @@
 -- nothing.
 use mathlib.Core.Path.{ap, ◌∙◌}
 use mathlib.Core.Bool.{Bool, ◌&&◌}
-use Rattle.edges.specs.inner.Tests.{edges_of}
 use Rattle.table.proofs.Words.{leaves}
 use Rattle.chain.proofs.Chain.{emptied_edges}
 use borrow.Author.Rules.{rules}
@@ -13,7 +12,6 @@ gather-requires c =
     emptied_edges _ _ _ c.clear.auto.work _ c.requires c.rows-n.ensures c.clear.ensures
 
 pub returns : goal.returns
-unfolding edges_of
 returns c =
     let said = c.rows_say-said.ensures _ c.gather.ensures in
     leaves _ (ap (λ (b : Bool). b && c.rows_say-said.result) c.enough.ensures ∙ said) (search rules)

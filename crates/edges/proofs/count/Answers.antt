@@ -1,27 +1,16 @@
 -- `edges::count` meets its contract: after i turns the total is the sum over the first i rows. Assumes nothing.
-use mathlib.Core.Path.{◌≡◌, refl}
+use mathlib.Core.Path.{refl}
 use native.Mathlib.Omega.{arith}
 use Rattle.table.specs.inner.Rows.{sum_to}
-use Rattle.table.proofs.Sums.{sum_to_next}
-use Rattle.edges.specs.inner.Tests.{test_of, row_bit}
+use Rattle.edges.proofs.Tally.{counted_next}
 use Rattle.edges.proofs.count.Goals as goal
 
 pub loop-i-init : goal.loop-i-init
 unfolding sum_to
-loop-i-init c = (omega arith, refl, omega arith)
+loop-i-init g c = (refl, omega arith)
 
 pub loop-i-preserved : goal.loop-i-preserved
-unfolding row_bit
-loop-i-preserved c =
+loop-i-preserved g c =
     let l = c.loop-i in
-    let e : c.passes-total.result ≡ row_bit (test_of c.args.test) c.args.work.now l.i = c.passes-total.ensures.0 in (
-      omega arith,
-      omega (arith, sum_to_next (row_bit (test_of c.args.test) c.args.work.now) l.i),
-      omega (arith, c.passes-total.ensures.1),
-    )
-
-pub returns : goal.returns
-returns c =
-    let l = c.loop-i in
-    let e : l.i ≡ c.args.n = omega arith in
-    (rw (← e) l.invariant.1, omega arith)
+    counted_next g.T.EdgeTest.holds c.args.work.now l.i l.total _ _ c.passes.result c.from.ensures c.passes.ensures l.invariant.0
+    l.invariant.1

@@ -1,12 +1,9 @@
--- What the loop keeps, and what grows less by each turn.
+-- What the loop keeps.
 use mathlib.Core.Path.{◌≡◌}
-use Prim.Native.Nat.{◌-◌, ◌≤◌}
+use Prim.Native.Nat.{◌≤◌}
 use Rattle.table.specs.inner.Rows.{sum_to}
-use Rattle.edges.specs.inner.Tests.{test_of, row_bit}
+use Rattle.edges.specs.inner.Tests.{row_bit}
 use Rattle.edges.proofs.count.Given as goal
 
 abbrev pub invariant-loop-i : goal.invariant-loop-i
-invariant-loop-i l = (l.i ≤ l.n) × (l.total ≡ sum_to (row_bit (test_of l.test) l.work) l.i) × (l.total ≤ l.i)
-
-abbrev pub decreases-loop-i : goal.decreases-loop-i
-decreases-loop-i l = l.n - l.i
+invariant-loop-i g l = (l.total ≡ sum_to (row_bit g.T.EdgeTest.holds l.work) l.i) × (l.total ≤ l.i)

@@ -1,20 +1,19 @@
--- `edges::gather` meets its contract: turn by turn the table means the uses of the triangles before i, by the laws of `Gathering`.
--- Assumes nothing.
-use mathlib.Core.Path.{refl, ◌∙◌}
+-- `edges::gather` meets its contract: turn by turn the table means the uses of the triangles so far, by the laws of `Gathering`. Assumes
+-- nothing.
+use mathlib.Core.Path.{◌≡◌, refl, ◌∙◌}
+use Prim.Native.Nat.{◌+◌, ◌*◌}
 use native.Mathlib.Omega.{arith}
-use Rattle.edges.proofs.Gathering.{gathering_none, gathering_fits, gathering_next, gathering_last}
+use Rattle.edges.proofs.Gathering.{gathering_none, gathering_next, gathering_last}
 use Rattle.edges.proofs.gather.Goals as goal
 
-pub loop-i-init : goal.loop-i-init
-loop-i-init c = (omega arith, refl, gathering_none c.requires)
+pub loop-t-init : goal.loop-t-init
+loop-t-init g c = (refl, gathering_none c.requires)
 
-pub triangle_by-requires : goal.triangle_by-requires
-triangle_by-requires c =
-    gathering_fits c.loop-i.invariant.2 (omega arith) c.requires c.loop-i.invariant.1
-
-pub loop-i-preserved : goal.loop-i-preserved
-loop-i-preserved c =
-    (omega arith, c.triangle_by.auto.work ∙ c.loop-i.invariant.1, gathering_next c.loop-i.invariant.2 (omega arith) c.triangle_by.ensures)
+pub loop-t-preserved : goal.loop-t-preserved
+loop-t-preserved g c =
+    let l = c.loop-t in
+    let on : 3 * (l.t + 1) ≡ 3 * l.t + 3 = omega arith in
+    (c.triangle.auto.work ∙ l.invariant.0, rw on (gathering_next l.invariant.1 (omega arith) c.triangle.ensures))
 
 pub returns : goal.returns
-returns c = gathering_last c.loop-i.invariant.2 (omega arith)
+returns g c = gathering_last c.loop-t.invariant.1 (omega arith)

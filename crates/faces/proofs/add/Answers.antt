@@ -1,6 +1,6 @@
 -- `faces::add` meets its contract: from what the search found and what was written, by the law `adding`. Assumes nothing.
 use Rattle.faces.proofs.Adding.{FaceSought, seekable, bump_fits, adding}
-use Rattle.faces.specs.declared.Sorted.{Sorted}
+use Rattle.faces.specs.inner.Rows.{face_of}
 use Rattle.faces.proofs.add.Goals as goal
 use Rattle.faces.proofs.add.Lts as lts
 use Rattle.faces.proofs.add.Tie.{the-claims}
@@ -10,14 +10,11 @@ pub find-r-requires : goal.find-r-requires
 find-r-requires c = seekable c.requires c.home-start.ensures.1
 
 module _ (c : lts.After-weight the-claims Pre Post) where
-  abbrev ids : Sorted
-  ids = c.sort-s.result
-
   sought : FaceSought c.args.ids.now c.args.n c.args.work.now c.args.t
-      (record { low = ids.low; mid = ids.mid; high = ids.high })
+      (face_of c.of-face.result)
       c.hash.result c.home-start.result c.find-r.result c.weight.result
   sought = record {
-    sorting = c.sort-s.ensures;
+    sorting = c.of-face.ensures;
     hashing = c.hash.ensures;
     homing = c.home-start.ensures.0;
     found = c.find-r.ensures;

@@ -6,15 +6,14 @@ use Rattle.faces.proofs.Summing.{summing_none, summing_fits, summing_next, summi
 use Rattle.faces.proofs.gather.Goals as goal
 
 pub loop-t-init : goal.loop-t-init
-loop-t-init c = (omega arith, refl, summing_none c.requires)
+loop-t-init c = (refl, summing_none c.requires)
 
 pub triangle-requires : goal.triangle-requires
-triangle-requires c =
-    summing_fits c.loop-t.invariant.2 (omega arith) c.requires c.loop-t.invariant.1
+triangle-requires c = summing_fits c.loop-t.invariant.1 (omega arith) c.requires c.loop-t.invariant.0
 
 pub loop-t-preserved : goal.loop-t-preserved
 loop-t-preserved c =
-    (omega arith, c.triangle.auto.work ∙ c.loop-t.invariant.1, summing_next c.loop-t.invariant.2 (omega arith) c.triangle.ensures)
+    (c.triangle.auto.work ∙ c.loop-t.invariant.0, summing_next c.loop-t.invariant.1 (omega arith) c.triangle.ensures)
 
 pub returns : goal.returns
-returns c = summing_last c.loop-t.invariant.2 (omega arith)
+returns c = summing_last c.loop-t.invariant.1 (omega arith)

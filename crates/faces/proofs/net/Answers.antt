@@ -14,26 +14,17 @@ use Rattle.faces.proofs.net.Goals as goal
 
 pub loop-i-init : goal.loop-i-init
 unfolding sum_to max_to
-loop-i-init c = (omega arith, refl, refl, omega arith)
-
-pub overflow_add-off : goal.overflow_add-off
-overflow_add-off c = omega (arith, byte_small (ltb 0 c.size-s.result))
+loop-i-init c = (refl, refl, omega arith)
 
 pub loop-i-preserved : goal.loop-i-preserved
 loop-i-preserved c =
     let l = c.loop-i in
     let t = c.args.work.now in
-    let s : c.size-s.result ≡ row_size t l.i = c.size-s.ensures ∙ sym (row_size_lem t l.i) in
-    let o : bool_byte (ltb 0 c.size-s.result) ≡ row_off t l.i =
+    let u = c.from.ensures in
+    let s : c.size-size.result ≡ row_size t l.i = (rw (u.1, u.0) at c.size-size.ensures) ∙ sym (row_size_lem t l.i) in
+    let o : bool_byte (ltb 0 c.size-size.result) ≡ row_off t l.i =
     rw s (byte_bit (ltb 0 (row_size t l.i)) ∙ sym (row_off_lem t l.i)) in (
-      omega arith,
-      omega (arith, c.greater-most.ensures, max_to_next (row_size t) l.i),
-      omega (arith, sum_to_next (row_off t) l.i),
-      omega (arith, byte_small (ltb 0 c.size-s.result)),
+      omega (arith, c.max.ensures, s, max_to_next (row_size t) l.i),
+      omega (arith, o, sum_to_next (row_off t) l.i),
+      omega (arith, byte_small (ltb 0 c.size-size.result)),
     )
-
-pub returns : goal.returns
-returns c =
-    let l = c.loop-i in
-    let e : l.i ≡ c.args.n = omega arith in
-    rw (← e) (l.invariant.1, l.invariant.2)

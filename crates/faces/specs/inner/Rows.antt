@@ -10,6 +10,11 @@ use Rattle.table.specs.inner.Rows.{home_row, Free}
 use Rattle.table.specs.inner.Words.{TriangleOf}
 use Rattle.table.specs.inner.Counts.{ups_in, uses_in, sum_size}
 use Rattle.table.specs.inner.Table.{gate, MeansUses}
+use Rattle.faces.specs.declared.Face as faces
+
+-- the face that the code's three ids are
+abbrev pub face_of : faces.Face → Face
+face_of f = record { low = f.low; mid = f.mid; high = f.high }
 
 -- the triangle that row i names, and its face
 abbrev pub named_at : List ℕ → ℕ → ℕ

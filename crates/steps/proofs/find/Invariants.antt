@@ -2,11 +2,11 @@
 use Prim.Native.Nat.{◌-◌}
 use Rattle.table.specs.inner.Rows.{dist}
 use Rattle.table.proofs.Turn.{Looking}
-use Rattle.steps.specs.inner.Rows.{edge_at, edge_uses}
+use Rattle.steps.specs.inner.Rows.{edge_at, edge_of, edge_uses}
 use Rattle.steps.proofs.find.Given as goal
 
-abbrev pub invariant-loop-at : goal.invariant-loop-at
-invariant-loop-at l = Looking l.n l.start (edge_at l.work) (edge_uses l.work) (record { low = l.low; high = l.high }) l.r
+abbrev pub invariant-search : goal.invariant-search
+invariant-search l = Looking l.n l.start (edge_at l.work) (edge_uses l.work) (edge_of l.edge) l.r
 
-abbrev pub decreases-loop-at : goal.decreases-loop-at
-decreases-loop-at l = l.n - dist l.n l.start l.r
+abbrev pub decreases-search : goal.decreases-search
+decreases-search l = l.n - dist l.n l.start l.r

@@ -13,12 +13,11 @@ find-r-requires c =
     }
 
 module _ (c : After-weight) where
-  reached : Reached c.args.n c.args.work.now c.args.u c.args.v c.lesser-low.result
-      c.greater-high.result
+  reached : Reached c.args.n c.args.work.now c.args.u c.args.v c.between-edge.result.low c.between-edge.result.high
       c.hash.result c.home-start.result c.find-r.result c.weight.result
   reached = record {
-    lower = c.lesser-low.ensures;
-    higher = c.greater-high.ensures;
+    lower = c.between-edge.ensures.0;
+    higher = c.between-edge.ensures.1;
     hashed = c.hash.ensures;
     homed = c.home-start.ensures.0;
     found = c.find-r.ensures;

@@ -1,7 +1,7 @@
 -- `verdict::by_welded` meets its contract: the ids asked are the welded ones, which the weld wrote behind its table. Assumes nothing.
 use mathlib.Core.Path.{ap, ◌∙◌}
-use Prim.Native.Nat.{◌*◌}
-use lib.ListN.{length, replicate, length-replicate}
+use Prim.Native.Nat.{ℕ, ◌*◌}
+use lib.ListN.{replicate, length-replicate}
 use Rattle.vertices.specs.Vertices.{vertex_count}
 use Rattle.verdict.specs.inner.Steps.{open_unless_free}
 use Rattle.verdict.proofs.Parts.{asked_behind}
@@ -10,9 +10,7 @@ use Rattle.verdict.proofs.by_welded.Goals as goal
 pub returns : goal.returns
 returns c =
     let a = c.args in
-    let k = c.welded_indices in
-    let asked = c.by_ids-said in
-    c.open_unless_free.ensures
-    ∙ ap open_unless_free (asked_behind (length a.indices.now) (vertex_count a.vertices.now) a.work.now
-    k.new.part (replicate (8 * vertex_count a.vertices.now) 0) _ a.near asked.result c.requires.words
-    (length-replicate (8 * vertex_count a.vertices.now) 0) k.ensures asked.ensures)
+    let m = 8 * vertex_count a.vertices.now in
+    c.unwrap_or.ensures
+    ∙ ap open_unless_free (asked_behind _ _ a.work.now c.welded_indices.new.part a.near c.by_ids.result c.requires.words (replicate m 0) _
+    (length-replicate m 0) c.welded_indices.ensures c.split_at_mut-parts.ensures.back c.by_ids.ensures)

@@ -8,7 +8,7 @@ ghost use Rattle.cells.specs.Cells.{cell_of};
 ghost use Rattle.cells.specs.inner.Table.{coded as coded_of, vertex_code, Welds, Weldable};
 
 use patterns::Binary;
-use slots::Code;
+use slots::{Code, Wide};
 
 // ---- the cell of a vertex
 
@@ -23,18 +23,12 @@ pub fn coded(z: i64) -> u64
     }
 }
 
-fn lesser(a: u64, b: u64) -> u64
-    ensures { result ≡ min a b }
-{
-    if a < b { a } else { b }
-}
-
 // The same of a size and a sign, which is 1 below zero: twice the size, and one less below zero, unless that is 0.
 pub fn coded_size(sign: u64, n: u64) -> u64
     requires { n < 2 ^ 63 }
     ensures { result ≡ 2 * n - min sign n }
 {
-    2 * n - lesser(sign, n)
+    2 * n - sign.min(n)
 }
 
 // The cell of a coordinate. A NaN, whose cell is 0, goes first. Below 2^52 the number comes from the pattern's fields, with no
@@ -56,6 +50,7 @@ fn cell(x: f32, inv: f64) -> u64
 }
 
 // The cell of vertex v.
+#[tactic(auto, unfolding(crate::specs::Cells::cell_at))]
 fn cell_at(vertices: &[f32], v: usize, inv: f64) -> Code
     requires { v < vertex_count vertices.now }
     ensures { result ≡ vertex_code vertices.now inv v }
@@ -85,13 +80,12 @@ fn enter(vertices: &[f32], inv: f64, part: &mut [u32], v: usize)
 {
     let n = vertices.len() / 3;
     let k = cell_at(vertices, v, inv);
-    let r = slots::find(part, n, true, k);
-    let s = slots::mark(part, true, r);
-    if s == 0 {
-        slots::claim(part, n, true, r, v, k);
-        note(part, v, v);
-    } else {
-        note(part, v, s - 1);
+    match slots::find::<Wide>(part, n, k) {
+        Ok(first) => note(part, v, first),
+        Err(free) => {
+            slots::claim::<Wide>(part, n, free, v, k);
+            note(part, v, v);
+        }
     }
 }
 
@@ -101,10 +95,7 @@ pub fn gather(vertices: &[f32], inv: f64, part: &mut [u32])
     ensures { Welds (vertex_count vertices.now) vertices.now inv part.new
         (vertex_count vertices.now) }
 {
-    let n = vertices.len() / 3;
-    let mut v = 0;
-    while v < n {
+    for v in 0..vertices.len() / 3 {
         enter(vertices, inv, part, v);
-        v += 1;
     }
 }

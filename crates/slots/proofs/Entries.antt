@@ -1,7 +1,6 @@
 -- A table with no entry, one that can be searched, and one with an entry more. Assumes nothing.
 use mathlib.Core.Path.{◌≡◌, ap, ◌∙◌}
 use mathlib.Core.Logic.{◌≢◌}
-use mathlib.Core.Bool.{Bool}
 use mathlib.Core.List.{List}
 use Prim.Native.Nat.{ℕ, ◌+◌, ◌-◌, ◌*◌, ◌≤◌, ◌<◌}
 use native.Mathlib.Omega.{arith}
@@ -10,6 +9,7 @@ use Rattle.table.specs.inner.Rows.{Found}
 use Rattle.table.proofs.Search.{other, Written, spread_step}
 use Rattle.table.proofs.Used.{used_none, used_few, used_more}
 use Rattle.slots.specs.declared.Code.{Code}
+use Rattle.slots.specs.inner.Forms.{Form}
 use Rattle.slots.specs.inner.Slots.{mark_in, entry_key, held, held_key, code_home, HasWords, Entries, Searchable, Claimed}
 use Rattle.slots.proofs.Codes.{home_in_lem}
 
@@ -30,36 +30,36 @@ module _ (n : ℕ) (mark : ℕ → ℕ) (key : ℕ → Code) where
       → (i : ℕ) → i < 2 * n → 0 < mark i → i ≢ r → held mark key i ≢ k
   others e m k r f = other (2 * n) (code_home n) (held mark key) mark k r (home_in_lem n k (omega (arith, f.within))) m.spread f
 
-module _ (wide : Bool) (n : ℕ) (t : List ℕ) (e : ℕ) (m : Entries n (mark_in wide t) (entry_key wide n t) e) where
-  pub entries_searchable : e < n → HasWords wide n t → Searchable wide n t
+module _ (form : Form) (n : ℕ) (t : List ℕ) (e : ℕ) (m : Entries n (mark_in form t) (entry_key form n t) e) where
+  pub entries_searchable : e < n → HasWords form n t → Searchable form n t
   entries_searchable l words = record {
     words = words;
     within = λ r b. omega (arith, m.within r b);
-    free = used_few (mark_in wide t) (2 * n) (omega (arith, m.few));
+    free = used_few (mark_in form t) (2 * n) (omega (arith, m.few));
   }
 
   -- the slot r that a search for k found, and that was free, is given to the entry v
-  module _ (k : Code) (r : ℕ) (f : Found (2 * n) (code_home n k) (held_key wide n t) (mark_in wide t) k r)
-      (v : ℕ) (w : List ℕ) (next : e ≤ v) (c : Claimed wide n r v k t w) where
-    pub held_now : held_key wide n w r ≡ k
-    held_now = let s : mark_in wide w r - 1 ≡ v = omega (arith, c.mark_at) in ap (entry_key wide n w) s ∙ c.key_at
+  module _ (k : Code) (r : ℕ) (f : Found (2 * n) (code_home n k) (held_key form n t) (mark_in form t) k r)
+      (v : ℕ) (w : List ℕ) (next : e ≤ v) (c : Claimed form n r v k t w) where
+    pub held_now : held_key form n w r ≡ k
+    held_now = let s : mark_in form w r - 1 ≡ v = omega (arith, c.mark_at) in ap (entry_key form n w) s ∙ c.key_at
 
     -- another used slot is of another entry, whose key stands as before
-    pub held_kept : (i : ℕ) → i < 2 * n → i ≢ r → 0 < mark_in wide t i → held_key wide n w i ≡ held_key wide n t i
+    pub held_kept : (i : ℕ) → i < 2 * n → i ≢ r → 0 < mark_in form t i → held_key form n w i ≡ held_key form n t i
     held_kept i l ne p =
-        ap (λ (x : ℕ). entry_key wide n w (x - 1)) (c.mark_off i l ne)
-        ∙ c.key_off (mark_in wide t i - 1) (λ z. omega (arith, m.within i l))
+        ap (λ (x : ℕ). entry_key form n w (x - 1)) (c.mark_off i l ne)
+        ∙ c.key_off (mark_in form t i - 1) (λ z. omega (arith, m.within i l))
 
-    written : Written (2 * n) r k (held_key wide n t) (held_key wide n w) (mark_in wide t) (mark_in wide w)
+    written : Written (2 * n) r k (held_key form n t) (held_key form n w) (mark_in form t) (mark_in form w)
     written = record { key_at = held_now; mark_at = omega (arith, c.mark_at); key_off = held_kept; mark_off = c.mark_off }
 
-    pub entries_claimed : Entries n (mark_in wide w) (entry_key wide n w) (v + 1)
+    pub entries_claimed : Entries n (mark_in form w) (entry_key form n w) (v + 1)
     entries_claimed = record {
       spread =
-          spread_step (2 * n) (code_home n) (held_key wide n t) (mark_in wide t) k r (home_in_lem n k (omega (arith, f.within)))
-          m.spread f (held_key wide n w) (mark_in wide w) written;
+          spread_step (2 * n) (code_home n) (held_key form n t) (mark_in form t) k r (home_in_lem n k (omega (arith, f.within)))
+          m.spread f (held_key form n w) (mark_in form w) written;
       few =
-          omega (arith, m.few, used_more (mark_in wide t) (mark_in wide w) (2 * n) r f.within c.mark_off (omega (arith, c.mark_at)));
+          omega (arith, m.few, used_more (mark_in form t) (mark_in form w) (2 * n) r f.within c.mark_off (omega (arith, c.mark_at)));
       within = λ i l. elim (ℕ_discrete i r) [
         | yes q ↦ rw q (omega (arith, c.mark_at))
         | no q ↦ omega (arith, c.mark_off i l q, m.within i l)

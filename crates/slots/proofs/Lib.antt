@@ -2,3 +2,4 @@
 pub mod Codes
 pub mod Words
 pub mod Entries
+mod Search

@@ -1,15 +1,16 @@
 -- What the words of a table mean after an entry's are written: slots and the other entries stand apart. Assumes nothing.
-use mathlib.Core.Path.{◌≡◌, refl, ◌∙◌}
+use mathlib.Core.Path.{◌≡◌, refl, ap, ◌∙◌}
 use mathlib.Core.Logic.{◌≢◌}
-use mathlib.Core.Bool.{Bool, true, false}
 use mathlib.Core.List.{List, [], ◌∷◌}
-use Prim.Native.Nat.{ℕ, zero, suc, ◌+◌, ◌*◌, ◌/◌, ◌%◌, ◌≤◌, ◌<◌}
+use Prim.Native.Nat.{ℕ, zero, suc, ◌+◌, ◌*◌, ◌≤◌, ◌<◌}
 use native.Mathlib.Omega.{arith}
-use native.Mathlib.Decide.{ℕ_discrete}
+use native.Mathlib.Nat.{mul-le-mul_left, mul-suc}
+use native.Mathlib.Decide.{ℕ_discrete, dec_lt}
 use lib.ListN.{length, get_or, set, length-set}
 use lib.Seq.{sets, get_or-set_same, get_or-set_other}
 use Rattle.slots.specs.declared.Code.{Code}
-use Rattle.slots.specs.inner.Slots.{key_words, key_from, key_into, mark_of, mark_in, entry_key, HasWords, Claimable, Claimed}
+use Rattle.slots.specs.inner.Forms.{Form, FormLaws}
+use Rattle.slots.specs.inner.Slots.{mark_in, entry_key, Claimable, Claimed}
 
 -- ---- several words written
 
@@ -44,107 +45,63 @@ six_set t at a b c d e f =
     let five : at + 5 ≡ suc (suc (suc (suc (suc at)))) = omega arith in
     rw (three_set t at a b c, three, four, five)
 
--- ---- a key and its words
+-- ---- the words of an entry end where those of the table do, and no other entry has one of them
 
-pub key_kept : (wide : Bool) (f g : ℕ → ℕ) → ((d : ℕ) → d < key_words wide → f d ≡ g d) → key_from wide f ≡ key_from wide g
-unfolding key_from
-key_kept true f g h =
-    rw (h 0 (omega arith), h 1 (omega arith), h 2 (omega arith), h 3 (omega arith), h 4 (omega arith), h 5 (omega arith))
-key_kept false f g h = rw (h 0 (omega arith), h 1 (omega arith), h 2 (omega arith))
+pub entry_ends : (w n v : ℕ) → v < n → w * v + w ≤ w * n
+entry_ends w n v l = let m : w * suc v ≤ w * n = mul-le-mul_left w (omega arith) in omega (arith, mul-suc w v)
 
-key_into_lem : (wide : Bool) (k : Code) → key_from wide (λ d. get_or (key_into wide k) d 0) ≡ k
-unfolding key_from key_into
-key_into_lem true k = λ i. record { x = whole k.x i; y = whole k.y i; z = whole k.z i }
-  where
-    whole : (x : ℕ) → x % 4294967296 + 4294967296 * (x / 4294967296) ≡ x
-    whole x = omega arith
-key_into_lem false k = refl
-
-length_into : (wide : Bool) (k : Code) → length (key_into wide k) ≡ key_words wide
-unfolding key_into
-length_into true k = refl
-length_into false k = refl
-
--- the words of an entry end where those of the table do, and no other entry has one of them
-entry_ends : (wide : Bool) (n v : ℕ) → v < n → key_words wide * v + key_words wide ≤ key_words wide * n
-entry_ends true n v l = omega arith
-entry_ends false n v l = omega arith
-
-entries_apart : (wide : Bool) (j v d e : ℕ) → j ≢ v → d < key_words wide → e < key_words wide → key_words wide * j + d ≢ key_words wide * v + e
-entries_apart true j v d e ne l m q = ne (omega arith)
-entries_apart false j v d e ne l m q = ne (omega arith)
-
--- ---- an entry, where the code has tested the layout
-
-module _ (wide b : Bool) (told : wide ≡ b) (n v : ℕ) (t : List ℕ) where
-  pub entry_is : key_from b (λ d. get_or t (2 * n + key_words b * v + d) 0) ≡ entry_key wide n t v
-  unfolding entry_key
-  entry_is = rw told
-
-  pub entry_fits : HasWords wide n t → v < n → 2 * n + key_words b * v + key_words b ≤ length t
-  entry_fits words l = let long = (rw told at words).long in omega (arith, entry_ends b n v l)
+entries_apart : (w j v d e : ℕ) → j ≢ v → d < w → e < w → w * j + d ≢ w * v + e
+entries_apart w j v d e ne l m q = elim (dec_lt j v) [
+  | yes b ↦ omega (arith, entry_ends w v j b)
+  | no b ↦ (let c : v < j = omega arith in omega (arith, entry_ends w j v c))
+]
 
 -- ---- a slot is given to an entry
 
--- the entry's number and 1 more are added to a word that is free
-pub word_fits : (wide : Bool) (x v : ℕ) → mark_of wide x ≡ 0 → v < 32768 → x < 4294967296 → x + (v + 1) < 4294967296
-unfolding mark_of
-word_fits true x v free small l = omega arith
-word_fits false x v free small l = omega arith
+module _ (form : Form) (laws : FormLaws form) where
+  -- the entry's number and 1 more are added to a word that is free
+  pub word_fits : (x v : ℕ) → form.mark x ≡ 0 → v < 32768 → x < 4294967296 → x + (v + 1) < 4294967296
+  word_fits x v free small l = omega (arith, laws.upper x v free small)
 
-mark_given : (wide : Bool) (x v : ℕ) → mark_of wide x ≡ 0 → v < 32768 → mark_of wide (x + (v + 1)) ≡ v + 1
-unfolding mark_of
-mark_given true x v free small = omega arith
-mark_given false x v free small = omega arith
+  module _ (n r v : ℕ) (k : Code) (t w : List ℕ) (can : Claimable form n r v k t)
+      (is : w ≡ sets (set t r (get_or t r 0 + (v + 1))) (2 * n + form.words * v) (form.into k)) where
+    abbrev at : ℕ
+    at = 2 * n + form.words * v
 
-upper_given : (wide : Bool) (x v : ℕ) → mark_of wide x ≡ 0 → v < 32768 → (x + (v + 1)) / 65536 ≡ x / 65536
-unfolding mark_of
-upper_given true x v free small = omega arith
-upper_given false x v free small = omega arith
+    abbrev marked : List ℕ
+    marked = set t r (get_or t r 0 + (v + 1))
 
-module _ (wide : Bool) (n r v : ℕ) (k : Code) (t w : List ℕ) (can : Claimable wide n r v k t)
-    (is : w ≡ sets (set t r (get_or t r 0 + (v + 1))) (2 * n + key_words wide * v) (key_into wide k)) where
-  abbrev at : ℕ
-  at = 2 * n + key_words wide * v
+    room : at + length (form.into k) ≤ length marked
+    room = omega (arith, length-set t r (get_or t r 0 + (v + 1)), laws.long k, entry_ends form.words n v can.entry, can.words.long)
 
-  abbrev marked : List ℕ
-  marked = set t r (get_or t r 0 + (v + 1))
+    -- off the entry's words
+    off : (i : ℕ) → ((d : ℕ) → d < form.words → i ≢ at + d) → get_or w i 0 ≡ get_or marked i 0
+    off i out = rw is (sets_off (form.into k) marked at i (λ d b. out d (omega (arith, laws.long k))))
 
-  room : at + length (key_into wide k) ≤ length marked
-  room = omega (arith, length-set t r (get_or t r 0 + (v + 1)), length_into wide k, entry_ends wide n v can.entry, can.words.long)
+    slot : (i : ℕ) → i < 2 * n → get_or w i 0 ≡ get_or marked i 0
+    slot i l = off i (λ d b e. omega arith)
 
-  -- off the entry's words
-  off : (i : ℕ) → ((d : ℕ) → d < key_words wide → i ≢ at + d) → get_or w i 0 ≡ get_or marked i 0
-  off i out = rw is (sets_off (key_into wide k) marked at i (λ d b. out d (omega (arith, length_into wide k))))
+    word_at : get_or w r 0 ≡ get_or t r 0 + (v + 1)
+    word_at = slot r can.slot ∙ get_or-set_same t r (get_or t r 0 + (v + 1)) 0 (omega (arith, can.slot, can.words.long))
 
-  slot : (i : ℕ) → i < 2 * n → get_or w i 0 ≡ get_or marked i 0
-  slot i l = off i (λ d b e. omega arith)
+    word_off : (i : ℕ) → i < 2 * n → i ≢ r → get_or w i 0 ≡ get_or t i 0
+    word_off i l ne = slot i l ∙ get_or-set_other t r i (get_or t r 0 + (v + 1)) 0 ne
 
-  word_at : get_or w r 0 ≡ get_or t r 0 + (v + 1)
-  word_at = slot r can.slot ∙ get_or-set_same t r (get_or t r 0 + (v + 1)) 0 (omega (arith, can.slot, can.words.long))
-
-  word_off : (i : ℕ) → i < 2 * n → i ≢ r → get_or w i 0 ≡ get_or t i 0
-  word_off i l ne = slot i l ∙ get_or-set_other t r i (get_or t r 0 + (v + 1)) 0 ne
-
-  claimed : Claimed wide n r v k t w
-  unfolding mark_in entry_key
-  claimed =
-      let small : v < 32768 = omega (arith, can.entry, can.words.small) in
-      record {
-        mark_at = rw word_at (mark_given wide (get_or t r 0) v can.free small);
-        mark_off = λ i l ne. rw (word_off i l ne);
-        key_at =
-            key_kept wide _ (λ d. get_or (key_into wide k) d 0)
-            (λ d b. rw is (sets_at (key_into wide k) marked at d (omega (arith, length_into wide k)) room)) ∙ key_into_lem wide k;
-        key_off = λ j ne. key_kept wide _ _ (λ d b.
-            off (2 * n + key_words wide * j + d) (λ e l q. entries_apart wide j v d e ne b l (omega arith))
-            ∙ get_or-set_other t r (2 * n + key_words wide * j + d) (get_or t r 0 + (v + 1)) 0 (omega (arith, can.slot)));
-        upper = λ i l. elim (ℕ_discrete i r) [
-          | yes e ↦ rw (e, word_at) (upper_given wide (get_or t r 0) v can.free small)
-          | no ne ↦ rw (word_off i l ne)
-        ];
-      }
-
-pub claimed_as : (wide b : Bool) (n r v : ℕ) (k : Code) (t w : List ℕ) → wide ≡ b → Claimable wide n r v k t
-    → w ≡ sets (set t r (get_or t r 0 + (v + 1))) (2 * n + key_words b * v) (key_into b k) → Claimed wide n r v k t w
-claimed_as wide b n r v k t w told can is = rw told (claimed b n r v k t w (rw told at can) is)
+    pub claimed : Claimed form n r v k t w
+    unfolding mark_in entry_key
+    claimed =
+        let small : v < 32768 = omega (arith, can.entry, can.words.small) in
+        record {
+          mark_at = ap form.mark word_at ∙ laws.marked (get_or t r 0) v can.free small;
+          mark_off = λ i l ne. ap form.mark (word_off i l ne);
+          key_at =
+              laws.told _ (λ d. get_or (form.into k) d 0)
+              (λ d b. rw is (sets_at (form.into k) marked at d (omega (arith, laws.long k)) room)) ∙ laws.back k;
+          key_off = λ j ne. laws.told _ _ (λ d b.
+              off (2 * n + form.words * j + d) (λ e l q. entries_apart form.words j v d e ne b l (omega arith))
+              ∙ get_or-set_other t r (2 * n + form.words * j + d) (get_or t r 0 + (v + 1)) 0 (omega (arith, can.slot)));
+          upper = λ i l. elim (ℕ_discrete i r) [
+            | yes e ↦ rw (e, word_at) (laws.upper (get_or t r 0) v can.free small)
+            | no ne ↦ rw (word_off i l ne)
+          ];
+        }

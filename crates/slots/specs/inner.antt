@@ -1,2 +1,4 @@
 -- What only the contracts of this crate's own functions speak of: nobody has to believe it.
+pub mod Forms
+pub mod Laws
 pub mod Slots

@@ -2,20 +2,21 @@
 // one each.
 #![tactic(auto)]
 
-ghost use Rattle.std.specs.Prelude.{◌≡◌, true, false, ◌+◌, ◌*◌, ◌<◌, length, get_or};
+ghost use Rattle.std.specs.Prelude.{◌≡◌, ℕ, ◌+◌, ◌*◌, ◌/◌, ◌%◌, ◌<◌, ◌≤◌, length, get_or, set, refl};
 ghost use Rattle.std.proofs.lemmas.List.Edits.{sets};
-ghost use Rattle.table.specs.inner.Rows.{Found};
-ghost use Rattle.slots.specs.inner.Slots.{key_from, key_into, KeyFits, entry_key, same_code, mark_in, held_key, code_hash, code_home};
-ghost use Rattle.slots.specs.inner.Slots.{HasWords, Searchable, Claimable, Claimed};
+ghost use Rattle.slots.specs.inner.Forms.{Form, FormLaws, wide, narrow};
+ghost use Rattle.slots.specs.inner.Slots.{entry_key, code_hash, code_home, HasWords, Searchable, Finds, Claimable, Claimed};
+ghost use Rattle.slots.specs.inner.Laws.{wide_laws, narrow_laws};
 
 // A key as three numbers.
-#[derive(Clone, Copy)]
+#[derive(Clone, Copy, PartialEq, Eq)]
 pub struct Code {
     pub x: u64,
     pub y: u64,
     pub z: u64,
 }
 
+#[tactic(auto, unfolding(crate::specs::inner::Slots::code_hash))]
 fn hash(k: Code) -> u32
     ensures { result ≡ code_hash k }
 {
@@ -25,9 +26,36 @@ fn hash(k: Code) -> u32
     ((x * 1640531527 + y * 1052792407 + z * 779470673) % 0x1_0000_0000) as u32
 }
 
-// ---- whose key it is
+// ---- layouts
 
-// The number in two words.
+// How a table lies in its words: which part of a slot's word is the mark, and in how many words a key stands, and how.
+pub trait Layout {
+    ghost form: { Form };
+
+    ghost WORDS: { ℕ };
+
+    const WORDS: usize;
+
+    // The mark in a slot's word.
+    fn mark(word: u32) -> u32
+        ensures { result ≡ form.mark word };
+
+    // The key that stands from a word on.
+    fn key(part: &[u32], at: usize) -> Code
+        requires { at + form.words ≤ length part.now }
+        ensures { result ≡ form.key (λ d. get_or part.now (at + d) 0) };
+
+    // Writes a key from a word on.
+    fn put(part: &mut [u32], at: usize, k: Code)
+        requires { (at + form.words ≤ length part.old) × form.Fits k }
+        ensures { part.new ≡ sets part.old at (form.into k) };
+
+    ghost laws: { FormLaws form };
+
+    ghost counted: { WORDS ≡ form.words };
+}
+
+// A number in two words.
 fn pair(part: &[u32], at: usize) -> u64
     requires { at + 1 < length part.now }
     ensures { result ≡ get_or part.now at 0 + 4294967296 * get_or part.now (at + 1) 0 }
@@ -35,111 +63,128 @@ fn pair(part: &[u32], at: usize) -> u64
     part[at] as u64 + 0x1_0000_0000 * part[at + 1] as u64
 }
 
-// Is k the key in six words, two a number?
-fn same_wide(part: &[u32], at: usize, k: Code) -> bool
-    requires { at + 5 < length part.now }
-    ensures { result ≡ same_code (key_from true (λ d. get_or part.now (at + d) 0)) k }
+fn put_pair(part: &mut [u32], at: usize, x: u64)
+    requires { at + 1 < length part.old }
+    ensures { part.new ≡ set (set part.old at (x % 4294967296)) (at + 1) (x / 4294967296) }
 {
-    (pair(part, at) == k.x) & ((pair(part, at + 2) == k.y) & (pair(part, at + 4) == k.z))
+    part[at] = (x % 0x1_0000_0000) as u32;
+    part[at + 1] = (x / 0x1_0000_0000) as u32;
 }
 
-// Is k the key in three words, one a number?
-fn same_narrow(part: &[u32], at: usize, k: Code) -> bool
-    requires { (at + 2 < length part.now) × KeyFits false k }
-    ensures { result ≡ same_code (key_from false (λ d. get_or part.now (at + d) 0)) k }
-{
-    (part[at] == k.x as u32) & ((part[at + 1] == k.y as u32) & (part[at + 2] == k.z as u32))
-}
+// Two words for each of a key's numbers. The mark is the lower half of its word: the upper half is for whoever has the table.
+pub struct Wide;
 
-// Is k the key of entry v?
-fn same(part: &[u32], n: usize, wide: bool, v: usize, k: Code) -> bool
-    requires { HasWords wide n part.now × (v < n) × KeyFits wide k }
-    ensures { result ≡ same_code (entry_key wide n part.now v) k }
-{
-    if wide {
-        same_wide(part, 2 * n + 6 * v, k)
-    } else {
-        same_narrow(part, 2 * n + 3 * v, k)
+impl Layout for Wide {
+    ghost form = { wide };
+
+    ghost WORDS = { 6 };
+
+    const WORDS: usize = 6;
+
+    fn mark(word: u32) -> u32 {
+        word % 65536
     }
+
+    fn key(part: &[u32], at: usize) -> Code {
+        Code {
+            x: pair(part, at),
+            y: pair(part, at + 2),
+            z: pair(part, at + 4),
+        }
+    }
+
+    fn put(part: &mut [u32], at: usize, k: Code) {
+        put_pair(part, at, k.x);
+        put_pair(part, at + 2, k.y);
+        put_pair(part, at + 4, k.z);
+    }
+
+    ghost laws = { wide_laws };
+
+    ghost counted = { refl };
+}
+
+// A word for each of them, and the mark is its whole word.
+pub struct Narrow;
+
+impl Layout for Narrow {
+    ghost form = { narrow };
+
+    ghost WORDS = { 3 };
+
+    const WORDS: usize = 3;
+
+    fn mark(word: u32) -> u32 {
+        word
+    }
+
+    fn key(part: &[u32], at: usize) -> Code {
+        Code {
+            x: part[at] as u64,
+            y: part[at + 1] as u64,
+            z: part[at + 2] as u64,
+        }
+    }
+
+    fn put(part: &mut [u32], at: usize, k: Code) {
+        part[at] = k.x as u32;
+        part[at + 1] = k.y as u32;
+        part[at + 2] = k.z as u32;
+    }
+
+    ghost laws = { narrow_laws };
+
+    ghost counted = { refl };
 }
 
 // ---- the search
 
-// The mark of slot r: 0 where it is free, else one more than its entry's number.
-pub fn mark(part: &[u32], wide: bool, r: usize) -> usize
-    requires { r < length part.now }
-    ensures { result ≡ mark_in wide part.now r }
+// The key of entry v.
+#[tactic(auto, unfolding(crate::specs::inner::Slots::entry_key))]
+fn key_of<L: Layout>(part: &[u32], n: usize, v: usize) -> Code
+    requires { HasWords L.form n part.now × (v < n) }
+    ensures { result ≡ entry_key L.form n part.now v }
 {
-    if wide {
-        (part[r] % 65536) as usize
-    } else {
-        part[r] as usize
-    }
+    L::key(part, 2 * n + L::WORDS * v)
 }
 
-// The first slot, from `start` on and round, that holds the key or is free.
-fn find_from(part: &[u32], n: usize, wide: bool, k: Code, start: usize) -> usize
-    requires { Searchable wide n part.now × (start < 2 * n) × KeyFits wide k }
-    ensures { Found (2 * n) start (held_key wide n part.now) (mark_in wide part.now) k result }
+// The search from slot `start` on and round.
+fn find_from<L: Layout>(part: &[u32], n: usize, k: Code, start: usize) -> Result<usize, usize>
+    requires { Searchable L.form n part.now × (start < 2 * n) }
+    ensures { Finds L.form n part.now start k result }
 {
     let m = 2 * n;
     let mut r = start;
     loop {
-        let s = mark(part, wide, r);
+        let s = L::mark(part[r]) as usize;
         if s == 0 {
-            break r;
+            return Err(r);
         }
-        if same(part, n, wide, s - 1, k) {
-            break r;
+        let v = s - 1;
+        if key_of::<L>(part, n, v) == k {
+            return Ok(v);
         }
         r = table::next(r, m);
     }
 }
 
-// The slot that holds the key, or the free one that it would have.
-pub fn find(part: &[u32], n: usize, wide: bool, k: Code) -> usize
-    requires { Searchable wide n part.now × KeyFits wide k }
-    ensures { Found (2 * n) (code_home n k) (held_key wide n part.now) (mark_in wide part.now) k result }
+// The entry that has the key, or the free slot that it would have.
+pub fn find<L: Layout>(part: &[u32], n: usize, k: Code) -> Result<usize, usize>
+    requires { Searchable L.form n part.now }
+    ensures { Finds L.form n part.now (code_home n k) k result }
 {
     let start = table::home(hash(k), 2 * n);
-    find_from(part, n, wide, k, start)
+    find_from::<L>(part, n, k, start)
 }
 
 // ---- an entry more
 
-// Writes a key into six words.
-fn put_wide(part: &mut [u32], at: usize, k: Code)
-    requires { at + 5 < length part.old }
-    ensures { part.new ≡ sets part.old at (key_into true k) }
-{
-    part[at] = (k.x % 0x1_0000_0000) as u32;
-    part[at + 1] = (k.x / 0x1_0000_0000) as u32;
-    part[at + 2] = (k.y % 0x1_0000_0000) as u32;
-    part[at + 3] = (k.y / 0x1_0000_0000) as u32;
-    part[at + 4] = (k.z % 0x1_0000_0000) as u32;
-    part[at + 5] = (k.z / 0x1_0000_0000) as u32;
-}
-
-// Writes a key into three words.
-fn put_narrow(part: &mut [u32], at: usize, k: Code)
-    requires { (at + 2 < length part.old) × KeyFits false k }
-    ensures { part.new ≡ sets part.old at (key_into false k) }
-{
-    part[at] = k.x as u32;
-    part[at + 1] = k.y as u32;
-    part[at + 2] = k.z as u32;
-}
-
 // Gives the free slot r to entry v, whose key is k.
-pub fn claim(part: &mut [u32], n: usize, wide: bool, r: usize, v: usize, k: Code)
-    requires { Claimable wide n r v k part.old }
-    ensures { Claimed wide n r v k part.old part.new }
+pub fn claim<L: Layout>(part: &mut [u32], n: usize, r: usize, v: usize, k: Code)
+    requires { Claimable L.form n r v k part.old }
+    ensures { Claimed L.form n r v k part.old part.new }
 {
     let word = part[r];
     part[r] = word + (v as u32 + 1);
-    if wide {
-        put_wide(part, 2 * n + 6 * v, k);
-        return;
-    }
-    put_narrow(part, 2 * n + 3 * v, k);
+    L::put(part, 2 * n + L::WORDS * v, k);
 }

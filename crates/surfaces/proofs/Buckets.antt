@@ -1,6 +1,7 @@
 -- What one area more does to the buckets by their numbers, and to the floats that they are: a new key is a row more behind the others,
 -- a known key grows its row's area and nothing else. Assumes nothing.
-use Rattle.std.proofs.Common.{◌≡◌, ℕ, zero, suc, ◌+◌, ◌*◌, ◌<◌, ◌≤◌, ◌≢◌, List, [], ◌∷◌, ◌++◌, length, get_or, drop, set, sym, refl, ap, ◌∙◌, arith, length-append, drop-drop, take_at}
+use Rattle.std.proofs.Common.{◌≡◌, ℕ, zero, suc, ◌+◌, ◌-◌, ◌*◌, ◌<◌, ◌≤◌, ◌≢◌, List, [], ◌∷◌, ◌++◌, length, get_or, take, drop, set, sym, refl, ap, ◌∙◌, arith, append_assoc, length-append, drop-drop, take_at}
+use borrow.Rule.Slice.PartMut.{put_mid}
 use lib.Ieee.{Float, nan}
 use lib.Seq.{sets, sets-eq, drop-append-add}
 use Rattle.ieee.specs.Single.{◌⊕◌, nought}
@@ -21,7 +22,7 @@ unfolding flatten rows
 length_floats [] = refl
 length_floats (b ∷ bs) = omega (arith, length_floats bs)
 
-abbrev floats : Bucket → List Float
+abbrev pub floats : Bucket → List Float
 floats b = b.area ∷ tenth b.key.x ∷ tenth b.key.y ∷ tenth b.key.z ∷ []
 
 floats_more : (bs : List Bucket) (b : Bucket) → flatten (rows (bs ++ b ∷ [])) ≡ flatten (rows bs) ++ floats b
@@ -45,6 +46,14 @@ module _ (k : Key) (a : Float) where
       let two : 4 * n + 2 ≡ suc (suc (4 * n)) = omega arith in
       let three : 4 * n + 3 ≡ suc (suc (suc (4 * n))) = omega arith in
       rw (one, two, three)
+
+  -- as code writes them
+  pub row_written : (u v : List Float) (n : ℕ) → v ≡ floats (fresh k a) → 4 * n + 3 < length u
+      → put_mid (4 * n) (4 * n + 4 - 4 * n) u v ≡ with_row u n k a
+  row_written u v n e room =
+      let long : 4 * n + 4 - 4 * n ≡ 4 = omega arith in
+      rw (long, e, drop-drop 4 (4 * n) u)
+      (sym (written u n ∙ sets-eq (floats (fresh k a)) u (4 * n) (omega arith) ∙ append_assoc (take (4 * n) u) (floats (fresh k a)) _))
 
   pub row_more : (bs : List Bucket) (s : List Float)
       → let u = flatten (rows bs) ++ drop (4 * length bs) s in let more = bs ++ fresh k a ∷ [] in

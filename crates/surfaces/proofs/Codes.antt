@@ -1,11 +1,11 @@
 -- A key as three words: one to one, so that equal codes are equal keys. An i32 has a code below 2 ^ 32, and is read back from it.
 -- Assumes nothing.
-use Rattle.std.proofs.Common.{◌≡◌, ℕ, zero, suc, ◌/◌, ◌%◌, ◌<◌, false, ℤ, pos, negsuc, ◌-ℤ◌, refl, ap, ◌∙◌, ◌≢◌, arith, w32, w64, SFits, to_z, of_z}
+use Rattle.std.proofs.Common.{◌≡◌, ℕ, zero, suc, ◌/◌, ◌%◌, ◌<◌, ℤ, pos, negsuc, ◌-ℤ◌, refl, ap, ◌∙◌, ◌≢◌, arith, w32, w64, SFits, to_z, of_z}
 use mir.ValLaws.{to_z_pos, to_z-of_z}
 use lib.Ieee.{Float}
 use Rattle.ieee.proofs.Order.Ranges.{signed_fits, signed_kept}
 use Rattle.slots.specs.declared.Code.{Code}
-use Rattle.slots.specs.inner.Slots.{KeyFits}
+use Rattle.slots.specs.inner.Forms.{narrow}
 use Rattle.cells.specs.inner.Table.{coded}
 use Rattle.cells.proofs.Codes.{coded_one}
 use Rattle.surfaces.specs.declared.Key.{Key}
@@ -73,6 +73,6 @@ code_one k l e = λ i. record {
 }
 
 -- the code of a normal's key has room in three words
-pub normal_fits : (nx ny nz : Float) → KeyFits false (key_code (normal_key nx ny nz))
-unfolding KeyFits key_code normal_key
+pub normal_fits : (nx ny nz : Float) → narrow.Fits (key_code (normal_key nx ny nz))
+unfolding key_code normal_key
 normal_fits nx ny nz = (tenths_small nx, tenths_small ny, tenths_small nz)

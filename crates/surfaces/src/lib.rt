@@ -1,17 +1,25 @@
 // The surface rows while they are summed: the key of a normal, and its row, found by an index in lent words. Internal: `walk` asks it.
 #![tactic(auto)]
 
-ghost use Rattle.std.specs.Prelude.{◌≡◌, ◌+◌, ◌*◌, ◌/◌, ◌%◌, ◌^◌, ◌<◌, false, length, ℤ, from_bits, slice_index_or, slice_set, Float};
-ghost use Rattle.std.specs.Float.{nan, binary32};
-ghost use Rattle.ieee.specs.Single.{◌⊕◌, ◌⊗◌, nought};
-ghost use Rattle.slots.specs.inner.Slots.{KeyFits};
+ghost use Rattle.std.specs.Prelude.{◌≡◌, ◌+◌, ◌*◌, ◌/◌, ◌%◌, ◌^◌, ◌<◌, length, ℤ, from_bits, Bool, IsTrue, ltb, Float};
+ghost use Rattle.std.specs.Float.{binary32};
+ghost use Rattle.ieee.specs.Single.{◌⊗◌};
+ghost use Rattle.slots.specs.inner.Forms.{narrow};
 ghost use Rattle.cells.specs.inner.Table.{coded as coded_of};
 ghost use Rattle.surfaces.specs.Surfaces.{ten, tenths as tenths_of, tenth as tenth_of, normal_key};
 ghost use Rattle.surfaces.specs.inner.Index.{key_code, with_row, Ready, AddsArea};
 
-use slots::Code;
+use slots::{Code, Narrow};
 
-// A unit normal in tenths.
+// A unit normal.
+#[derive(Clone, Copy)]
+pub struct Normal {
+    pub x: f32,
+    pub y: f32,
+    pub z: f32,
+}
+
+// The same in tenths.
 #[derive(Clone, Copy)]
 pub struct Key {
     pub x: i32,
@@ -34,13 +42,14 @@ fn tenths(c: f32) -> i32
     floats::to_integer(y)
 }
 
-pub fn quantize_normal(nx: f32, ny: f32, nz: f32) -> Key
-    ensures { result ≡ normal_key nx ny nz }
+#[tactic(auto, using(crate::proofs::Codes::tenths_kept), unfolding(crate::specs::Surfaces::normal_key))]
+pub fn quantize_normal(n: Normal) -> Key
+    ensures { result ≡ normal_key n.x n.y n.z }
 {
     Key {
-        x: tenths(nx),
-        y: tenths(ny),
-        z: tenths(nz),
+        x: tenths(n.x),
+        y: tenths(n.y),
+        z: tenths(n.z),
     }
 }
 
@@ -49,12 +58,6 @@ fn tenth(k: i32) -> f32
     ensures { result ≡ tenth_of k }
 {
     std::num::nearest_i32_to_f32(k) / 10.0
-}
-
-fn coded(k: i32) -> u64
-    ensures { result ≡ coded_of k }
-{
-    cells::coded(k as i64)
 }
 
 // The code of a component by the pattern of ten times it, below 2^23 tenths: no float or signed integer between.
@@ -66,37 +69,42 @@ fn pattern_code(b: u64) -> u64
     cells::coded_size(b / 0x8000_0000, n)
 }
 
-// The code of a normal's key, by the key.
-fn code_of(k: Key) -> Code
-    ensures { result ≡ key_code k }
-{
-    Code {
-        x: coded(k.x),
-        y: coded(k.y),
-        z: coded(k.z),
+// A key has room in three words.
+impl From<Key> for Code {
+    ghost from_gives = { λ k l. l ≡ key_code k };
+
+    #[tactic(auto, unfolding(crate::specs::inner::Index::key_code))]
+    fn from(k: Key) -> Code {
+        Code {
+            x: cells::coded(i64::from(k.x)),
+            y: cells::coded(i64::from(k.y)),
+            z: cells::coded(i64::from(k.z)),
+        }
     }
 }
 
-// The same by the patterns, where they have so few tenths, as those of a unit normal do.
-fn code_of_normal(nx: f32, ny: f32, nz: f32) -> Code
-    ensures { result ≡ key_code (normal_key nx ny nz) }
+// Has the pattern of a component so few tenths?
+fn few_tenths(b: u64) -> bool
+    ensures { result ≡ ltb (b % 2147483648 / 8388608) 150 }
 {
-    let x = tenfold(nx);
-    let y = tenfold(ny);
-    let z = tenfold(nz);
-    if 150 <= x % 0x8000_0000 / 0x80_0000 {
-        return code_of(quantize_normal(nx, ny, nz));
-    }
-    if 150 <= y % 0x8000_0000 / 0x80_0000 {
-        return code_of(quantize_normal(nx, ny, nz));
-    }
-    if 150 <= z % 0x8000_0000 / 0x80_0000 {
-        return code_of(quantize_normal(nx, ny, nz));
-    }
-    Code {
-        x: pattern_code(x),
-        y: pattern_code(y),
-        z: pattern_code(z),
+    b % 0x8000_0000 / 0x80_0000 < 150
+}
+
+// The code of a normal's key: by the patterns, where they have so few tenths, as those of a unit normal do.
+fn code_of_normal(n: Normal) -> Code
+    ensures { result ≡ key_code (normal_key n.x n.y n.z) }
+{
+    let x = tenfold(n.x);
+    let y = tenfold(n.y);
+    let z = tenfold(n.z);
+    if few_tenths(x) & (few_tenths(y) & few_tenths(z)) {
+        Code {
+            x: pattern_code(x),
+            y: pattern_code(y),
+            z: pattern_code(z),
+        }
+    } else {
+        Code::from(quantize_normal(n))
     }
 }
 
@@ -111,8 +119,9 @@ fn decoded(x: u64) -> i32
 }
 
 // The key of a normal by its code.
+// Stays: no TryFrom, since the code is always a normal's, and its one caller would have no use for an error.
 fn key_of(l: Code) -> Key
-    requires { KeyFits false l }
+    requires { narrow.Fits l }
     ensures { (x y z : Float) → l ≡ key_code (normal_key x y z) → result ≡ normal_key x y z }
 {
     Key {
@@ -122,32 +131,14 @@ fn key_of(l: Code) -> Key
     }
 }
 
-// The area of a new row: that of a triangle, added to 0.
-fn first_area(rows: &mut [f32], at: usize, area: f32)
-    requires { at < length rows.old }
-    ensures { rows.new ≡ slice_set rows.old at (nought ⊕ area) }
-{
-    rows[at] = 0.0 + area;
-}
-
-// More for an area.
-fn grow(rows: &mut [f32], at: usize, area: f32)
-    requires { at < length rows.old }
-    ensures { rows.new ≡ slice_set rows.old at (slice_index_or rows.old at nan ⊕ area) }
-{
-    rows[at] = rows[at] + area;
-}
-
-// Writes row n: the area, and the key over 10.
+// Writes row n: the area of a triangle, added to 0, and the key over 10.
 fn new_row(rows: &mut [f32], n: usize, k: Key, area: f32)
     requires { (n < 32768) × (4 * n + 3 < length rows.old) }
     ensures { rows.new ≡ with_row rows.old n k area }
 {
     let at = 4 * n;
-    first_area(rows, at, area);
-    rows[at + 1] = tenth(k.x);
-    rows[at + 2] = tenth(k.y);
-    rows[at + 3] = tenth(k.z);
+    let row = [0.0 + area, tenth(k.x), tenth(k.y), tenth(k.z)];
+    rows[at..at + 4].copy_from_slice(&row);
 }
 
 // An area more for the key of a normal, in the n rows of m at most. The answer is how many rows there are then. The key itself
@@ -157,24 +148,23 @@ pub fn put_normal(
     rows: &mut [f32],
     m: usize,
     n: usize,
-    nx: f32,
-    ny: f32,
-    nz: f32,
+    normal: Normal,
     area: f32,
 ) -> usize
     requires { Ready m n index.old rows.old }
-    ensures { AddsArea m n (normal_key nx ny nz) area
+    ensures { AddsArea m n (normal_key normal.x normal.y normal.z) area
         index.old index.new rows.old rows.new result }
 {
-    let l = code_of_normal(nx, ny, nz);
-    let r = slots::find(index, m, false, l);
-    let s = slots::mark(index, false, r);
-    if s == 0 {
-        slots::claim(index, m, false, r, n, l);
-        new_row(rows, n, key_of(l), area);
-        n + 1
-    } else {
-        grow(rows, 4 * (s - 1), area);
-        n
+    let l = code_of_normal(normal);
+    match slots::find::<Narrow>(index, m, l) {
+        Ok(row) => {
+            rows[4 * row] += area;
+            n
+        }
+        Err(free) => {
+            slots::claim::<Narrow>(index, m, free, n, l);
+            new_row(rows, n, key_of(l), area);
+            n + 1
+        }
     }
 }

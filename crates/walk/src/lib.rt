@@ -7,6 +7,7 @@ ghost use Rattle.walk.specs.inner.Steps.{state, Takeable, Takes};
 ghost use Rattle.walk.specs.inner.Walks.{Walkable, Walks};
 
 use sums::{Prepared, Thresholds, Totals};
+use surfaces::Normal;
 
 // What the triangles done so far add up to, how many rows they have, and how many were used and were slivers.
 #[derive(Clone, Copy)]
@@ -57,7 +58,12 @@ fn take(
     let used = s.used + 1;
     let f = sums::facet_by(p);
     let totals = s.totals;
-    let n = surfaces::put_normal(index, rows, m, s.rows, f.nx, f.ny, f.nz, f.area32);
+    let normal = Normal {
+        x: f.nx,
+        y: f.ny,
+        z: f.nz,
+    };
+    let n = surfaces::put_normal(index, rows, m, s.rows, normal, f.area32);
     Sums {
         totals: totals.add(pair, f),
         rows: n,

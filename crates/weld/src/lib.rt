@@ -2,12 +2,13 @@
 // and has given ids laid into its area by `lay`; `qto` asks for ε.
 #![tactic(auto)]
 
-ghost use Rattle.std.specs.Prelude.{◌≡◌, ◌+◌, ◌*◌, ◌≤◌, ◌++◌, length, take, replicate};
+ghost use Rattle.std.specs.Prelude.{◌≡◌, ◌+◌, ◌*◌, ◌≤◌, ◌++◌, length, take, map, replicate};
 ghost use Rattle.vertices.specs.Vertices.{vertex_count};
 ghost use Rattle.weld.specs.Weld.{epsilon_of, weld_all, welded};
-ghost use Rattle.weld.specs.inner.Mapped.{id_by, mapped, WeldFits};
+ghost use Rattle.weld.specs.inner.Mapped.{id_by, WeldFits};
 
 // ε of a distance in metres and the metres a unit.
+#[tactic(auto, unfolding(crate::specs::Weld::epsilon_of))]
 pub fn epsilon(distance: f32, unit: f32) -> f32
     ensures { result ≡ epsilon_of distance unit }
 {
@@ -16,25 +17,24 @@ pub fn epsilon(distance: f32, unit: f32) -> f32
 
 // ---- ids
 
-// An id by the table.
-fn id_by(part: &[u32], n: usize, id: u32) -> u32
-    requires { n ≤ length part.now }
-    ensures { result ≡ id_by n part.now id }
+// An id by the words of the vertices' names.
+#[tactic(auto, unfolding(crate::specs::inner::Mapped::id_by, cells::specs::inner::Table::name_in))]
+fn id_by(names: &[u32], id: u32) -> u32
+    ensures { result ≡ id_by names.now id }
 {
-    let i = id as usize;
-    if i < n { part[i] / 65536 } else { id }
+    match names.get(id as usize) {
+        Some(word) => *word / 65536,
+        None => id,
+    }
 }
 
-// All ids by the table of m words in front of them.
-fn map_ids(ids: &[u32], part: &mut [u32], m: usize, n: usize)
-    requires { (n ≤ m) × (length part.old ≡ m + length ids.now) }
-    ensures { part.new ≡ take m part.old ++ mapped n part.old ids.now }
+// All ids by them.
+fn map_ids(ids: &[u32], names: &[u32], to: &mut [u32])
+    requires { length to.old ≡ length ids.now }
+    ensures { to.new ≡ map (id_by names.now) ids.now }
 {
-    let mut i = 0;
-    while i < ids.len() {
-        let id = id_by(part, n, ids[i]);
-        part[m + i] = id;
-        i += 1;
+    for (i, id) in ids.iter().enumerate() {
+        to[i] = id_by(names, *id);
     }
 }
 
@@ -45,11 +45,11 @@ fn weld(vertices: &[f32], ids: &[u32], inv: f64, part: &mut [u32])
         ≡ replicate (8 * vertex_count vertices.now) 0 ++ weld_all vertices.now inv ids.now }
 {
     let n = vertices.len() / 3;
-    let m = 8 * n;
-    table::clear(part, 2 * n);
-    cells::gather(vertices, inv, &mut part[0..m]);
-    map_ids(ids, part, m, n);
-    table::clear(part, m);
+    let (front, back) = part.split_at_mut(8 * n);
+    table::clear(front, 2 * n);
+    cells::gather(vertices, inv, front);
+    map_ids(ids, &front[..n], back);
+    front.fill(0);
 }
 
 // The ids as they are, behind m words that stay.
@@ -57,7 +57,7 @@ pub fn lay(ids: &[u32], part: &mut [u32], m: usize)
     requires { length part.old ≡ m + length ids.now }
     ensures { part.new ≡ take m part.old ++ ids.now }
 {
-    map_ids(ids, part, m, 0);
+    part[m..].copy_from_slice(ids);
 }
 
 // The same, behind m words that are then zero.
@@ -66,7 +66,7 @@ fn keep(ids: &[u32], part: &mut [u32], m: usize)
     ensures { part.new ≡ replicate m 0 ++ ids.now }
 {
     lay(ids, part, m);
-    table::clear(part, m);
+    part[..m].fill(0);
 }
 
 // The ids after the weld at eps, behind 8 words a vertex that are then zero: no cell is left that tells the position.

@@ -1,8 +1,9 @@
 -- The table of cells, in 8 words a vertex: a vertex is an entry (`slots`), and its cell the key, in wide numbers. The upper half of word
 -- v, one of the slots, is the vertex that v becomes.
-use Rattle.std.specs.Prelude.{◌≡◌, ℕ, ◌+◌, ◌-◌, ◌*◌, ◌/◌, ◌≤◌, ◌<◌, true, List, ℤ, pos, negsuc, length, get_or, Float}
+use Rattle.std.specs.Prelude.{◌≡◌, ℕ, ◌+◌, ◌-◌, ◌*◌, ◌/◌, ◌≤◌, ◌<◌, List, ℤ, pos, negsuc, length, get_or, Float}
 use Rattle.ids.specs.Lent.{most_entries}
 use Rattle.slots.specs.declared.Code.{Code}
+use Rattle.slots.specs.inner.Forms.{wide}
 use Rattle.slots.specs.inner.Slots.{mark_in, entry_key, held, Entries}
 use Rattle.vertices.specs.Vertices.{vertex_count}
 use Rattle.cells.specs.Cells.{Cell, cell_at, named}
@@ -36,7 +37,7 @@ name_in t v = get_or t v 0 / 65536
 
 -- and each becomes the vertex that names its cell
 pub record Welds (n : ℕ) (vs : List Float) (inv : Float) (t : List ℕ) (v : ℕ) : Type 0 where
-  pub celled : Celled n vs inv (mark_in true t) (entry_key true n t) v
+  pub celled : Celled n vs inv (mark_in wide t) (entry_key wide n t) v
   pub sent : (j : ℕ) → j < v → name_in t j ≡ named vs inv j
 
 -- and t has room for all vertices

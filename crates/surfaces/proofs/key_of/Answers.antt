@@ -1,23 +1,10 @@
 -- `surfaces::key_of` meets its contract: each component is read back from its code. Assumes nothing.
 use Rattle.std.proofs.Common.{ap}
 use Rattle.slots.specs.declared.Code.{Code}
-use Rattle.slots.specs.inner.Slots.{KeyFits}
 use Rattle.surfaces.specs.Surfaces.{normal_key, tenths}
 use Rattle.surfaces.specs.inner.Index.{key_code}
 use Rattle.surfaces.proofs.Codes.{tenths_kept}
 use Rattle.surfaces.proofs.key_of.Goals as goal
-
-pub decoded-requires : goal.decoded-requires
-unfolding KeyFits
-decoded-requires c = c.requires.0
-
-pub decoded-requires-2 : goal.decoded-requires-2
-unfolding KeyFits
-decoded-requires-2 c = c.requires.1
-
-pub decoded-requires-3 : goal.decoded-requires-3
-unfolding KeyFits
-decoded-requires-3 c = c.requires.2
 
 pub returns : goal.returns
 unfolding key_code normal_key

@@ -1,8 +1,9 @@
 -- The index to the rows, in 5 words for each of m rows at most: a row is an entry (`slots`), and its key's three codes have a word each.
 -- So the key of a normal finds its row with no search through all rows.
-use Rattle.std.specs.Prelude.{◌≡◌, ℕ, zero, suc, ◌+◌, ◌*◌, ◌<◌, ◌≤◌, false, List, [], ◌∷◌, ◌++◌, length, drop, pos, slice_set, Float}
+use Rattle.std.specs.Prelude.{◌≡◌, ℕ, zero, suc, ◌+◌, ◌*◌, ◌<◌, ◌≤◌, List, [], ◌∷◌, ◌++◌, length, drop, pos, slice_set, Float}
 use Rattle.ieee.specs.Single.{◌⊕◌, nought}
 use Rattle.slots.specs.declared.Code.{Code}
+use Rattle.slots.specs.inner.Forms.{narrow}
 use Rattle.slots.specs.inner.Slots.{mark_in, entry_key, Entries}
 use Rattle.cells.specs.inner.Table.{coded}
 use Rattle.rows.specs.Rows.{flatten}
@@ -22,10 +23,10 @@ key_code k = record { x = coded k.x; y = coded k.y; z = coded k.z }
 -- what the index t and the floats u of the surface area say while the rows are summed: they are the buckets bs, and behind these the
 -- area is as it was, s
 pub record Gathered (m : ℕ) (s : List Float) (t : List ℕ) (u : List Float) (bs : List Bucket) : Type 0 where
-  pub entries : Entries m (mark_in false t) (entry_key false m t) (length bs)
+  pub entries : Entries m (mark_in narrow t) (entry_key narrow m t) (length bs)
   -- each row has its key's words and a slot
-  pub holds : (j : ℕ) → j < length bs → entry_key false m t j ≡ key_code (key_at bs j)
-  pub has : (j : ℕ) → j < length bs → (r : ℕ) × (r < 2 * m) × (mark_in false t r ≡ j + 1)
+  pub holds : (j : ℕ) → j < length bs → entry_key narrow m t j ≡ key_code (key_at bs j)
+  pub has : (j : ℕ) → j < length bs → (r : ℕ) × (r < 2 * m) × (mark_in narrow t r ≡ j + 1)
   pub filled : u ≡ flatten (rows bs) ++ drop (4 * length bs) s
 
 -- ---- one triangle more

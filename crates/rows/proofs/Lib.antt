@@ -2,6 +2,7 @@
 -- ones.
 pub mod Flat
 mod Counts
+pub mod Fours
 pub mod Comparing
 pub mod Order
 mod Sinking

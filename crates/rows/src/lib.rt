@@ -2,12 +2,12 @@
 // asks it.
 #![tactic(auto)]
 
-ghost use Rattle.std.specs.Prelude.{◌≡◌, ◌+◌, ◌*◌, ◌≤◌, ◌<◌, T, length, set};
+ghost use Rattle.std.specs.Prelude.{◌≡◌, ◌+◌, ◌<◌, T, length, set, fold};
 ghost use Rattle.rows.specs.Rows.{flatten, rows_of, then_by, precedes as precedes_of, sorted, scaled, scaled_row};
 ghost use Rattle.rows.specs.Rows.{largest as largest_of, smallest as smallest_of, less_above};
 ghost use Rattle.rows.specs.Plain.{all_plain};
 ghost use Rattle.rows.specs.Sorting.{row_at};
-ghost use Rattle.rows.specs.inner.Passes.{Inside, Few, swapped, Keeps, Rising, AfterPass};
+ghost use Rattle.rows.specs.inner.Passes.{Inside, Whole, swapped, Keeps, Rising, AfterPass, least_four};
 
 // One planar surface: the summed area of the triangles with one key, and the key's direction.
 #[derive(Clone, Copy)]
@@ -26,6 +26,7 @@ fn then_by(less: bool, more: bool, rest: bool) -> bool
 }
 
 // Does r's row come before s's? Two areas are seldom equal.
+// Stays: by `<`, since `precedes` of the specs goes on to the next number where one is a NaN, and neither a tuple's order nor OrderedFloat does.
 fn precedes(r: PlanarSurface, s: PlanarSurface) -> bool
     ensures { result ≡ precedes_of r s }
 {
@@ -43,24 +44,15 @@ fn get(rows: &[f32], j: usize) -> PlanarSurface
     requires { Inside j rows.now }
     ensures { result ≡ row_at (rows_of rows.now) j }
 {
-    let at = 4 * j;
-    PlanarSurface {
-        area: rows[at],
-        nx: rows[at + 1],
-        ny: rows[at + 2],
-        nz: rows[at + 3],
-    }
+    let [area, nx, ny, nz] = rows.as_chunks::<4>().0[j];
+    PlanarSurface { area, nx, ny, nz }
 }
 
 fn put(rows: &mut [f32], j: usize, r: PlanarSurface)
     requires { Inside j rows.old }
     ensures { rows_of rows.new ≡ set (rows_of rows.old) j r }
 {
-    let at = 4 * j;
-    rows[at] = r.area;
-    rows[at + 1] = r.nx;
-    rows[at + 2] = r.ny;
-    rows[at + 3] = r.nz;
+    rows[4 * j..4 * j + 4].copy_from_slice(&[r.area, r.nx, r.ny, r.nz]);
 }
 
 // Rows i and j change places.
@@ -84,16 +76,15 @@ fn ahead(rows: &[f32], i: usize, j: usize) -> bool
 
 // ---- a quick sort, but for parts of 16 rows or fewer: proved to lose and to double no row, which is all that the last pass needs
 
-// Of the rows at a quarter, at half and at three quarters of the way from a to b, the one that comes between the other two. Not of the
+// Of the rows at a quarter, at half and at three quarters of the way, where the one stands that comes between the other two. Not of the
 // ends: what `divide` leaves of rows in order has its last one first.
-fn middle(rows: &[f32], a: usize, b: usize) -> usize
-    requires { (a < b) × Few b rows.now }
-    ensures { (a ≤ result) × (result < b) }
+fn middle(rows: &[f32]) -> usize
+    requires { Inside 0 rows.now }
+    ensures { Inside result rows.now }
 {
-    let quarter = (b - a) / 4;
-    let first = a + quarter;
-    let half = first + quarter;
-    let last = half + quarter;
+    let first = rows.len() / 16;
+    let half = first + first;
+    let last = half + first;
     if ahead(rows, first, half) {
         if ahead(rows, half, last) {
             return half;
@@ -110,59 +101,46 @@ fn middle(rows: &[f32], a: usize, b: usize) -> usize
     if ahead(rows, half, last) { last } else { half }
 }
 
-// 1 where r's row comes before s's, else 0.
-fn before(r: PlanarSurface, s: PlanarSurface) -> usize
-    ensures { result ≤ 1 }
+// The rows that precede the first one come next behind it: where the last of them stands, or 0. All change places, whether they precede
+// it or not: a processor would guess a branch here wrongly every other time.
+fn divide(rows: &mut [f32]) -> usize
+    requires { Inside 0 rows.old }
+    ensures { Inside result rows.old × Keeps rows.old rows.new }
 {
-    if precedes(r, s) { 1 } else { 0 }
-}
-
-// The rows behind row a and in front of b that precede row a come first of these: where the last of them stands, or a. All change places,
-// whether they precede it or not: a processor would guess a branch here wrongly every other time.
-fn divide(rows: &mut [f32], a: usize, b: usize) -> usize
-    requires { (a < b) × Few b rows.old }
-    ensures { (a ≤ result) × (result < b) × Keeps rows.old rows.new }
-{
-    let p = get(rows, a);
-    let mut last = a;
-    let mut i = a + 1;
-    while i < b {
-        let n = before(get(rows, i), p);
+    let p = get(rows, 0);
+    let mut last = 0;
+    for i in 1..rows.len() / 4 {
+        let n = usize::from(precedes(get(rows, i), p));
         swap(rows, last + 1, i);
         last += n;
-        i += 1;
     }
     last
 }
 
-// The middle one goes to where it belongs among rows a to b, those that precede it in front of it: where that is.
-fn split(rows: &mut [f32], a: usize, b: usize) -> usize
-    requires { (a < b) × Few b rows.old }
-    ensures { (a ≤ result) × (result < b) × Keeps rows.old rows.new }
+// The middle one goes to where it belongs, those that precede it in front of it: where that is.
+fn split(rows: &mut [f32]) -> usize
+    requires { Inside 0 rows.old }
+    ensures { Inside result rows.old × Keeps rows.old rows.new }
 {
-    let m = middle(rows, a, b);
-    swap(rows, a, m);
-    let last = divide(rows, a, b);
-    swap(rows, a, last);
+    let m = middle(rows);
+    swap(rows, 0, m);
+    let last = divide(rows);
+    swap(rows, 0, last);
     last
 }
 
-// Splits the rows from a to b, and what is in front and behind, until the parts are small. False where they are not after so many turns.
-fn quick(rows: &mut [f32], a: usize, b: usize, turns: usize) -> bool
-    requires { (a ≤ b) × Few b rows.old }
+// Splits the rows, and what is in front and behind, until the parts are small. False where they are not after so many turns.
+fn quick(rows: &mut [f32], turns: usize) -> bool
     ensures { Keeps rows.old rows.new }
 {
-    if b - a <= 16 {
+    if rows.len() / 4 <= 16 {
         return true;
     }
     if turns == 0 {
         return false;
     }
-    let p = split(rows, a, b);
-    if !quick(rows, a, p, turns - 1) {
-        return false;
-    }
-    quick(rows, p + 1, b, turns - 1)
+    let p = 4 * split(rows);
+    quick(&mut rows[..p], turns - 1) && quick(&mut rows[p + 4..], turns - 1)
 }
 
 // ---- passes by insertion: rows a gap apart are put in order. The last pass, with a gap of 1, is what proves the order
@@ -182,103 +160,73 @@ fn settle(rows: &mut [f32], i: usize, gap: usize)
     }
 }
 
-fn insertion(rows: &mut [f32], n: usize, gap: usize)
-    requires { (0 < gap) × Few n rows.old }
-    ensures { AfterPass gap n rows.old rows.new }
+fn insertion(rows: &mut [f32], gap: usize)
+    requires { 0 < gap }
+    ensures { AfterPass gap (length (rows_of rows.old)) rows.old rows.new }
 {
-    let mut next = 0;
-    while next < n {
+    for next in 0..rows.len() / 4 {
         settle(rows, next, gap);
-        next += 1;
     }
 }
 
 // Puts the rows in order, but for what the last pass does. Rows that are split badly every time are left to passes with smaller and
-// smaller gaps, each a third of the one before (9841, 3280, .. 13, 4), so that no rows take the square of their number.
-fn presort(rows: &mut [f32], n: usize)
-    requires { Few n rows.old }
+// smaller gaps, each a third of the one before, so that no rows take the square of their number.
+fn presort(rows: &mut [f32])
     ensures { Keeps rows.old rows.new }
 {
-    if quick(rows, 0, n, 32) {
+    if quick(rows, 32) {
         return;
     }
-    let mut gap = 9841;
-    while gap > 1 {
-        insertion(rows, n, gap);
-        gap /= 3;
+    for gap in [9841, 3280, 1093, 364, 121, 40, 13, 4] {
+        insertion(rows, gap);
     }
 }
 
-pub fn sort(rows: &mut [f32], n: usize)
-    requires { (n ≤ 32768) × (length rows.old ≡ 4 * n) × T (all_plain (rows_of rows.old)) }
+pub fn sort(rows: &mut [f32])
+    requires { Whole rows.old × T (all_plain (rows_of rows.old)) }
     ensures { rows.new ≡ flatten (sorted (rows_of rows.old)) }
 {
-    presort(rows, n);
-    insertion(rows, n, 1);
+    presort(rows);
+    insertion(rows, 1);
 }
 
 // ---- areas
 
-// Row j's area times `by`.
-fn scale_row(rows: &mut [f32], j: usize, by: f32)
-    requires { Inside j rows.old }
-    ensures { rows_of rows.new
-        ≡ set (rows_of rows.old) j (scaled_row by (row_at (rows_of rows.old) j)) }
-{
-    let r = get(rows, j);
-    put(
-        rows,
-        j,
-        PlanarSurface {
-            area: r.area * by,
-            nx: r.nx,
-            ny: r.ny,
-            nz: r.nz,
-        },
-    );
-}
-
-pub fn scale(rows: &mut [f32], n: usize, by: f32)
-    requires { (n ≤ 32768) × (length rows.old ≡ 4 * n) }
+// Each area times `by`.
+pub fn scale(rows: &mut [f32], by: f32)
+    requires { Whole rows.old }
     ensures { rows.new ≡ flatten (scaled by (rows_of rows.old)) }
 {
-    let mut i = 0;
-    while i < n {
-        scale_row(rows, i, by);
-        i += 1;
+    for j in 0..rows.len() / 4 {
+        rows[4 * j] *= by;
     }
 }
 
-pub fn largest(rows: &[f32], n: usize) -> f32
-    requires { (n ≤ 32768) × (length rows.now ≡ 4 * n) }
+pub fn largest(rows: &[f32]) -> f32
+    requires { Whole rows.now }
     ensures { result ≡ largest_of (rows_of rows.now) }
 {
-    if n == 0 {
-        return 0.0;
-    }
-    rows[0]
+    rows.first().copied().unwrap_or(0.0)
 }
 
 // The least of m and an area, if that is above 1e-6.
 fn less_above(m: f32, a: f32) -> f32
     ensures { result ≡ less_above m a }
 {
-    if a > 1e-6 {
-        return floats::least(m, a);
-    }
-    m
+    if a > 1e-6 { floats::least(m, a) } else { m }
 }
 
-pub fn smallest(rows: &[f32], n: usize) -> f32
-    requires { (n ≤ 32768) × (length rows.now ≡ 4 * n) }
+// The least of m and the areas above 1e-6.
+fn least_above(rows: &[[f32; 4]], m: f32) -> f32
+    ensures { result ≡ fold least_four m rows.now }
+{
+    rows.iter().fold(m, |m, row| less_above(m, row[0]))
+}
+
+pub fn smallest(rows: &[f32]) -> f32
     ensures { result ≡ smallest_of (rows_of rows.now) }
 {
     let most = f32::from_bits(0x7f80_0000);
-    let mut m = most;
-    let mut i = 0;
-    while i < n {
-        m = less_above(m, rows[4 * i]);
-        i += 1;
-    }
+    let m = least_above(rows.as_chunks().0, most);
     if m < most { m } else { 0.0 }
 }

@@ -1,59 +1,42 @@
 // What the programs that read one file and print one text share: reading standard input to its end, and writing standard output.
 #![tactic(auto)]
 
-ghost use Rattle.std.specs.Prelude.{◌+◌, ◌≤◌, ◌≡◌, cond, length, take};
+ghost use Rattle.std.specs.Prelude.{◌+◌, ◌≤◌, ◌≡◌, IfOk, MatchResult, length, take};
 
 use std::io;
 use std::io::Read;
 
-// What one read did: whether it failed, and how many bytes came, 0 at the end of the input.
+// A read failed. So many bytes were there before it.
 #[derive(Clone, Copy)]
-struct Turn {
-    failed: bool,
-    came: usize,
-}
-
-// What was read: whether a read failed, and how many bytes there are.
-#[derive(Clone, Copy)]
-pub struct Input {
-    pub failed: bool,
+pub struct Broken {
     pub n: usize,
 }
 
-// One read to the front of the area. Where it fails it says why.
-fn read_some(rt: &impl Eprint, from: &mut impl Read, area: &mut [u8]) -> Turn
-    ensures { result.came ≤ length area.old }
+// One read to the front of the area: how many bytes came, 0 at the end of the input. Where it fails it says why.
+fn read_some(rt: &impl Eprint, from: &mut impl Read, area: &mut [u8]) -> io::Result<usize>
+    ensures { IfOk result (λ came. came ≤ length area.old) }
 {
-    match from.read(area) {
-        Ok(came) => Turn {
-            failed: false,
-            came,
-        },
-        Err(e) => {
-            let _ = eprintln!(rt; "standard input: {e}");
-            Turn {
-                failed: true,
-                came: 0,
-            }
-        }
-    }
+    from.read(area).inspect_err(|e| {
+        let _ = eprintln!(rt; "standard input: {e}");
+    })
 }
 
 // One read behind the n bytes that are there: these stay as they are, and so many came behind them.
-fn read_behind(rt: &impl Eprint, from: &mut impl Read, bytes: &mut [u8], n: usize) -> Turn
+fn read_behind(
+    rt: &impl Eprint,
+    from: &mut impl Read,
+    bytes: &mut [u8],
+    n: usize,
+) -> io::Result<usize>
     requires { n ≤ length bytes.old }
-    ensures { (take n bytes.new ≡ take n bytes.old) × (n + result.came ≤ length bytes.old) }
+    ensures { (take n bytes.new ≡ take n bytes.old) × IfOk result (λ came. n + came ≤ length bytes.old) }
 {
     read_some(rt, from, &mut bytes[n..])
 }
 
 // Reads on and keeps nothing.
 fn skip_some(from: &mut impl Read) -> bool {
-    let mut rest = [0u8; 4096];
-    match from.read(&mut rest) {
-        Ok(came) => came > 0,
-        Err(_) => false,
-    }
+    from.read(&mut [0u8; 4096]).is_ok_and(|came| came > 0)
 }
 
 // Reads to the end of the input, so that whoever writes it is not cut off. A proved loop has to end: it counts up to a
@@ -67,44 +50,35 @@ fn skip_rest(from: &mut impl Read) {
 }
 
 // Reads behind the n bytes that are there to the end of the input, and keeps as much as the area holds.
-// The n bytes stay as they are, and are counted.
-pub fn read_input(rt: &(impl io::Input + Eprint), bytes: &mut [u8], n: usize) -> Input
+// The n bytes stay as they are, and are counted, where a read fails too.
+pub fn read_input(
+    rt: &(impl io::Input + Eprint),
+    bytes: &mut [u8],
+    n: usize,
+) -> Result<usize, Broken>
     requires { n ≤ length bytes.old }
-    ensures { (take n bytes.new ≡ take n bytes.old) × (n ≤ result.n) × (result.n ≤ length bytes.new) }
+    ensures { (take n bytes.new ≡ take n bytes.old)
+        × MatchResult result (λ have. (n ≤ have) × (have ≤ length bytes.new)) (λ e. (n ≤ e.n) × (e.n ≤ length bytes.new)) }
 {
     let mut from = rt.reader();
     let mut have = n;
+    // Stays: a `while`, since a turn goes as far as the read that it makes.
     while have < bytes.len() {
-        let turn = read_behind(rt, &mut from, bytes, have);
-        if turn.failed {
-            return Input {
-                failed: true,
-                n: have,
-            };
+        let came = read_behind(rt, &mut from, bytes, have).map_err(|_| Broken { n: have })?;
+        if came == 0 {
+            return Ok(have);
         }
-        if turn.came == 0 {
-            return Input {
-                failed: false,
-                n: have,
-            };
-        }
-        have += turn.came;
+        have += came;
     }
     skip_rest(&mut from);
-    Input {
-        failed: false,
-        n: have,
-    }
+    Ok(have)
 }
 
 // How many bytes count. Where a read fails what came before is no whole file, even where it looks like one: then nothing of it counts.
-pub fn counted(input: Input) -> usize
-    ensures { result ≡ cond input.failed 0 input.n }
+pub fn counted(input: Result<usize, Broken>) -> usize
+    ensures { MatchResult input (λ n. result ≡ n) (λ _. result ≡ 0) }
 {
-    if input.failed {
-        return 0;
-    }
-    input.n
+    input.unwrap_or(0)
 }
 
 // Writes the text, and where that fails says why.

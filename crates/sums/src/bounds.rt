@@ -5,6 +5,7 @@ ghost use Rattle.ieee.specs.Single.{extent as extent_of};
 ghost use Rattle.vertices.specs.Vertices.{vertex_count};
 ghost use Rattle.sums.specs.Box.{box_to, box, origin as origin_of, box_volume};
 
+// Stays: six fields by name, since 01's definitions `box_to`, `origin` and `box_volume`, and `volume` over them, name each.
 #[derive(Clone, Copy)]
 pub struct Bounds {
     pub xmin: f32,
@@ -68,12 +69,9 @@ fn no_bounds(vertices: &[f32]) -> Bounds
 pub fn box_of(vertices: &[f32]) -> Bounds
     ensures { result ≡ box vertices.now }
 {
-    let n = vertices.len() / 3;
     let mut b = no_bounds(vertices);
-    let mut v = 0;
-    while v < n {
+    for v in 0..vertices.len() / 3 {
         b = with_vertex(vertices, v, b);
-        v += 1;
     }
     b
 }

@@ -21,6 +21,7 @@ pub struct Thresholds {
 }
 
 // The pair of an edition: 2 has that of 2027, 1 has 01's. Any other number gets 01's too; it is refused before it comes here.
+// Stays: by the number, since the C interface passes it, and the definition `thresholds_of` is of every number.
 #[tactic(auto, using(crate::proofs::Editions::pair_of_2, crate::proofs::Editions::pair_of_others))]
 pub fn thresholds_of(edition: u32) -> Thresholds
     ensures { result ≡ thresholds_of edition }
@@ -65,16 +66,27 @@ pub struct Areas {
 
 impl Areas {
     // An area more on a slope.
-    pub fn on_slope(mut self, to: Slope, area: f32) -> Areas
+    pub fn on_slope(self, to: Slope, area: f32) -> Areas
         ensures { result ≡ on_slope to area self }
     {
         match to {
-            Slope::Top => self.top = self.top + area,
-            Slope::Bottom => self.bottom = self.bottom + area,
-            Slope::Side => self.side = self.side + area,
-            Slope::Inclined => self.inclined = self.inclined + area,
+            Slope::Top => Areas {
+                top: self.top + area,
+                ..self
+            },
+            Slope::Bottom => Areas {
+                bottom: self.bottom + area,
+                ..self
+            },
+            Slope::Side => Areas {
+                side: self.side + area,
+                ..self
+            },
+            Slope::Inclined => Areas {
+                inclined: self.inclined + area,
+                ..self
+            },
         }
-        self
     }
 
     // Each times a number.
@@ -115,17 +127,14 @@ impl Totals {
         }
     }
 
-    // Takes one triangle's area, volume term and slope, and hands itself back.
-    pub fn add(mut self, pair: Thresholds, f: Facet) -> Totals
+    // With one triangle's area, volume term and slope.
+    pub fn add(self, pair: Thresholds, f: Facet) -> Totals
         ensures { result ≡ with_facet pair self f }
     {
-        self.surface = self.surface + f.area;
-        self.volume6 = self.volume6 + f.volume;
-        let areas = self.areas;
         Totals {
-            surface: self.surface,
-            volume6: self.volume6,
-            areas: areas.on_slope(slope_of(pair, f.nz), f.area32),
+            surface: self.surface + f.area,
+            volume6: self.volume6 + f.volume,
+            areas: self.areas.on_slope(slope_of(pair, f.nz), f.area32),
         }
     }
 }

@@ -43,23 +43,16 @@ fn dot(u: [f64; 3], v: [f64; 3]) -> f64
 fn normal(t: [[f64; 3]; 3]) -> [f64; 3]
     ensures { result ≡ normal_of t }
 {
-    let a = t[0];
-    let b = t[1];
-    let c = t[2];
-    let u = minus(b, a);
-    let v = minus(c, a);
-    cross(u, v)
+    let [a, b, c] = t;
+    cross(minus(b, a), minus(c, a))
 }
 
 // a · (b × c): six times the volume of the tetrahedron on the triangle and the origin.
 fn tetra(t: [[f64; 3]; 3]) -> f64
     ensures { result ≡ tetra_of t }
 {
-    let a = t[0];
-    let b = t[1];
-    let c = t[2];
-    let n = cross(b, c);
-    dot(a, n)
+    let [a, b, c] = t;
+    dot(a, cross(b, c))
 }
 
 // What a used triangle adds: its area, also as f32, its volume term, and its unit normal.
@@ -167,12 +160,14 @@ fn length_of(square: f64, last: f64, length: f64) -> f64
 }
 
 // A triangle's second stage, behind another whose length is known.
-pub fn with_root(mut r: Prepared, last: Prepared) -> Prepared
+pub fn with_root(r: Prepared, last: Prepared) -> Prepared
     requires { HasRoot last }
     ensures { result ≡ with_root r }
 {
-    r.length = length_of(r.square, last.square, last.length);
-    r
+    Prepared {
+        length: length_of(r.square, last.square, last.length),
+        ..r
+    }
 }
 
 // The facet of one that is in range and no sliver.

@@ -57,7 +57,6 @@ fn take(
     }
     let used = s.used + 1;
     let f = sums::facet_by(p);
-    let totals = s.totals;
     let normal = Normal {
         x: f.nx,
         y: f.ny,
@@ -65,10 +64,10 @@ fn take(
     };
     let n = surfaces::put_normal(index, rows, m, s.rows, normal, f.area32);
     Sums {
-        totals: totals.add(pair, f),
+        totals: s.totals.add(pair, f),
         rows: n,
         used,
-        sliver: s.sliver,
+        ..s
     }
 }
 
@@ -98,25 +97,21 @@ pub fn walk(
     };
     let mut held = sums::nothing();
     let mut next = sums::nothing();
-    let mut t = 0;
-    while t <= m + 1 {
+    for t in 0..m + 2 {
         let p = sums::with_root(next, held);
         let r = sums::cross_at(vertices, indices, origin, t);
         s = take(pair, s, held, index, rows, m);
         held = p;
         next = r;
-        t += 1;
     }
-    let totals = s.totals;
     let out_of_range = m as u32 - s.used - s.sliver;
-    let counts = TriangleCounts {
-        used: s.used,
-        out_of_range,
-        sliver: s.sliver,
-    };
     Walked {
-        totals,
+        totals: s.totals,
         rows: s.rows,
-        counts,
+        counts: TriangleCounts {
+            used: s.used,
+            out_of_range,
+            sliver: s.sliver,
+        },
     }
 }

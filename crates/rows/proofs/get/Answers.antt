@@ -1,9 +1,9 @@
--- `rows::get` meets its contract. The four floats are those of row j. Assumes nothing.
-use mathlib.Core.Path.{sym}
-use Rattle.rows.proofs.Flat.{row_at_lem}
+-- `rows::get` meets its contract: the array of four is row j. Assumes nothing.
+use Rattle.std.proofs.Common.{length, ◌/◌, ◌≡◌, arith, subst, List, Float}
+use Rattle.rows.proofs.Fours.{row_of_four}
 use Rattle.rows.proofs.get.Goals as goal
 
 pub returns : goal.returns
 returns c =
-    sym (row_at_lem c.args.rows.now c.args.j
-    c.requires)
+    let t = c.args.rows.now in
+    rw c.as_chunks.ensures.front (row_of_four t c.args.j (length t / 4) (omega arith) (omega arith))

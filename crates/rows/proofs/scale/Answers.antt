@@ -1,27 +1,27 @@
--- `rows::scale` meets its contract. The first i rows are scaled. Assumes nothing.
-use mathlib.Core.Path.{refl, ◌∙◌, ap, sym}
-use native.Mathlib.Omega.{arith}
+-- `rows::scale` meets its contract. The first j rows are scaled. Assumes nothing.
+use Rattle.std.proofs.Common.{◌∙◌, ap, sym, refl, arith, length, length-set}
 use Rattle.rows.specs.Rows.{flatten, rows_of}
 use Rattle.rows.proofs.Areas.{scaled_none, scaled_next, scaled_all}
-use Rattle.rows.proofs.Flat.{length_rows, row_inside, flat_rows}
+use Rattle.rows.proofs.Flat.{row_inside, flat_rows}
+use Rattle.rows.proofs.Fours.{scaled_at, rows_quarter}
 use Rattle.rows.proofs.scale.Goals as goal
 
-pub loop-i-init : goal.loop-i-init
-loop-i-init c = (omega arith, refl, scaled_none c.args.by (rows_of c.args.rows.now))
+pub loop-j-init : goal.loop-j-init
+loop-j-init c = (refl, scaled_none c.args.by (rows_of c.args.rows.now))
 
-pub loop-i-preserved : goal.loop-i-preserved
-loop-i-preserved c =
+pub loop-j-preserved : goal.loop-j-preserved
+loop-j-preserved c =
     let a = c.args in
-    let l = c.loop-i in (
-      omega arith,
-      omega (arith, c.scale_row.auto),
-      scaled_next a.by l.i (rows_of a.rows.now) (rows_of l.rows) _ (row_inside a.rows.now l.i (omega arith))
-          l.invariant.2 c.scale_row.ensures,
+    let l = c.loop-j in (
+      simp length-set (omega arith),
+      scaled_next a.by l.j (rows_of a.rows.now) (rows_of l.rows) _ (row_inside a.rows.now l.j (omega arith)) l.invariant.1
+          (scaled_at a.by l.rows l.j (omega arith)),
     )
 
 pub returns : goal.returns
 returns c =
     let a = c.args in
-    let l = c.loop-i in
-    sym (flat_rows l.rows a.n (omega arith))
-    ∙ ap flatten (l.invariant.2 ∙ scaled_all a.by l.i (rows_of a.rows.now) (omega (arith, (length_rows a.rows.now).0)))
+    let l = c.loop-j in
+    let n = length (rows_of a.rows.now) in
+    sym (flat_rows l.rows n (omega (arith, c.requires)))
+    ∙ ap flatten (l.invariant.1 ∙ scaled_all a.by l.j (rows_of a.rows.now) (omega (arith, rows_quarter a.rows.now)))

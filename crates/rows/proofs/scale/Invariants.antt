@@ -1,13 +1,8 @@
--- What the loop keeps, and what grows less by each turn.
-use mathlib.Core.Path.{◌≡◌}
-use Prim.Native.Nat.{◌-◌, ◌≤◌}
-use lib.ListN.{length}
+-- What the loop keeps: the first j rows are scaled.
+use Rattle.std.proofs.Common.{◌≡◌, length}
 use Rattle.rows.specs.Rows.{rows_of}
 use Rattle.rows.proofs.Areas.{scaled_to}
 use Rattle.rows.proofs.scale.Given as goal
 
-abbrev pub invariant-loop-i : goal.invariant-loop-i
-invariant-loop-i l = (l.i ≤ l.n) × (length l.rows ≡ length l.initial.rows) × (rows_of l.rows ≡ scaled_to l.by l.i (rows_of l.initial.rows))
-
-abbrev pub decreases-loop-i : goal.decreases-loop-i
-decreases-loop-i l = l.n - l.i
+abbrev pub invariant-loop-j : goal.invariant-loop-j
+invariant-loop-j l = (length l.rows ≡ length l.initial.rows) × (rows_of l.rows ≡ scaled_to l.by l.j (rows_of l.initial.rows))

@@ -1,16 +1,17 @@
 -- What the parts of the sort keep, and what a pass over rows a gap apart leaves.
-use Rattle.std.specs.Prelude.{List, ℕ, ◌+◌, ◌*◌, ◌≤◌, ◌<◌, length, set, Float}
+use Rattle.std.specs.Prelude.{◌≡◌, List, ℕ, ◌+◌, ◌*◌, ◌≤◌, ◌<◌, length, set, get_or, Float}
+use Rattle.std.specs.Float.{nan}
 use Rattle.rows.specs.declared.PlanarSurface.{PlanarSurface}
-use Rattle.rows.specs.Rows.{rows_of}
+use Rattle.rows.specs.Rows.{rows_of, less_above}
 use Rattle.rows.specs.Sorting.{row_at, SameRows, Behind}
 
 -- row j is one of the floats' rows
 abbrev pub Inside : ℕ → List Float → Type 0
 Inside j t = 4 * j + 4 ≤ length t
 
--- n rows are, and no more than a mesh has triangles
-abbrev pub Few : ℕ → List Float → Type 0
-Few n t = (n ≤ 32768) × (4 * n ≤ length t)
+-- the floats are rows, and none is left over
+abbrev pub Whole : List Float → Type 0
+Whole t = length t ≡ 4 * length (rows_of t)
 
 -- rows i and j have changed places
 abbrev pub swapped : List PlanarSurface → ℕ → ℕ → List PlanarSurface
@@ -28,3 +29,7 @@ Rising gap n l = (k : ℕ) → k + gap < n → Behind l (k + gap) k
 pub record AfterPass (gap n : ℕ) (t u : List Float) : Type 0 where
   pub same : Keeps t u
   pub rising : Rising gap n (rows_of u)
+
+-- the least of m and a row's area, if that is above 1e-6: the row as four floats
+abbrev pub least_four : Float → List Float → Float
+least_four m row = less_above m (get_or row 0 nan)

@@ -5,4 +5,4 @@ use Rattle.sums.proofs.triangle.normal.Goals as goal
 
 pub returns : goal.returns
 unfolding normal
-returns c = c.cross.ensures ∙ ap₂ cross c.minus-u.ensures c.minus-v.ensures
+returns c = c.cross.ensures ∙ ap₂ cross c.minus.ensures c.minus-2.ensures

@@ -5,4 +5,4 @@ use Rattle.sums.proofs.triangle.tetra.Goals as goal
 
 pub returns : goal.returns
 unfolding tetra
-returns c = c.dot.ensures ∙ ap (dot (corner c.args.t 0)) c.cross-n.ensures
+returns c = c.dot.ensures ∙ ap (dot (corner c.args.t 0)) c.cross.ensures

@@ -2,7 +2,7 @@
 // a refusal.
 #![tactic(auto)]
 
-ghost use Rattle.std.specs.Prelude.{◌≡◌, ◌+◌, ◌*◌, ◌≤◌, ◌<◌, length};
+ghost use Rattle.std.specs.Prelude.{◌≡◌, ℕ, ◌+◌, ◌*◌, ◌≤◌, ◌<◌, length};
 ghost use Rattle.rows.specs.Rows.{rows_of};
 ghost use Rattle.spelling.specs.Text.{line};
 ghost use Rattle.spelling.specs.inner.Steps.{PutsText};
@@ -156,8 +156,9 @@ pub fn list(q: MeshQto, surfaces: &[f32], pieces: u32, text: &mut [u8]) -> Resul
 pub fn list_refusal<N: Into<u32>>(refusal: N, text: &mut [u8]) -> Result<usize, Refusal>
     ensures { (n : ℕ) × N.converts refusal n × ListsRefusal n text.old result text.new }
 {
+    let n = refusal.into();
     if text.len() < HEAD {
         return Err(Refusal::ShortArea);
     }
-    Ok(spelling::count_line(text, 0, b"refused ", refusal.into()))
+    Ok(spelling::count_line(text, 0, b"refused ", n))
 }

@@ -1,23 +1,30 @@
 // Files under the names of the C interface: each is the routine of its crate, and its answer as a number.
-ghost use Rattle.std.specs.Prelude.{◌≡◌};
+ghost use Rattle.std.specs.Prelude.{◌≡◌, ℕ, ◌+◌};
+ghost use Rattle.ids.specs.Refusal.{refusal_number};
 ghost use Rattle.meshfile.specs.Numbers.{WritesNumbered, ReadsNumbered};
 ghost use Rattle.stl.specs.Reading.{most_triangles, most_large};
 ghost use Rattle.stl.specs.Numbers.{stl_number, ReadsStlNumbered};
 ghost use Rattle.stl.specs.inner.FewTriangles.{FewTriangles};
 
 use crate::ids_c::REFUSED;
-use meshfile::{ReadingBits, Writing};
-use stl::Stl;
+use ids::Refusal;
+
+// A refusal as a number.
+fn refused(refusal: Refusal) -> u32
+    ensures { result ≡ 2147483648 + refusal_number refusal }
+{
+    REFUSED + u32::from(refusal)
+}
 
 // ---- STL
 
-fn stl_number(answer: Stl) -> u32
+fn stl_number(answer: Result<usize, Refusal>) -> u32
     requires { FewTriangles answer }
     ensures { result ≡ stl_number answer }
 {
     match answer {
-        Stl::Triangles(n) => n as u32,
-        Stl::Refused(n) => REFUSED + n as u32,
+        Ok(n) => n as u32,
+        Err(refusal) => refused(refusal),
     }
 }
 
@@ -54,7 +61,7 @@ pub extern "C" fn mf_write_mesh(
         bytes.old result bytes.new }
 {
     if !record::flags_fit(clip, defect) {
-        return REFUSED + 5;
+        return refused(Refusal::File);
     }
     let answer = meshfile::write(
         unit,
@@ -65,8 +72,8 @@ pub extern "C" fn mf_write_mesh(
         bytes,
     );
     match answer {
-        Writing::Length(n) => n as u32,
-        Writing::Refused(n) => REFUSED + n as u32,
+        Ok(length) => length as u32,
+        Err(cause) => refused(cause),
     }
 }
 
@@ -83,7 +90,7 @@ pub extern "C" fn mf_read_mesh(
 {
     let answer = meshfile::read_bits(bytes, vertices, ids);
     match answer {
-        ReadingBits::File(m) => {
+        Ok(m) => {
             let profile = m.profile;
             *counts = [
                 m.floats as u32,
@@ -94,6 +101,6 @@ pub extern "C" fn mf_read_mesh(
             ];
             0
         }
-        ReadingBits::Refused(n) => REFUSED + n as u32,
+        Err(fault) => refused(fault),
     }
 }

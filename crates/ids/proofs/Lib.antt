@@ -24,3 +24,4 @@ pub mod Joined
 pub mod Coarser
 pub mod ByIds
 pub mod ReversedAlike
+pub mod PassedOn

@@ -8,9 +8,10 @@ use borrow.Author.Tests.{ltb-false, lt-ltb, le-ltb}
 use lib.Dec.{ltb}
 use lib.ListN.{length, drop}
 use lib.Ieee.{Float}
+use Rattle.std.specs.Prelude.{Result, Ok, Err}
+use Rattle.ids.specs.declared.refusal.Refusal.{Refusal}
 use Rattle.ids.proofs.Groups.{neither}
 use Rattle.record.specs.declared.MeshQto.{MeshQto}
-use Rattle.listing.specs.declared.Listed.{Listed}
 use Rattle.listing.specs.Listing.{refused_line}
 use Rattle.listing.specs.Lists.{head_bytes, text_bytes, text_areas_short, listed_as, area_with, listing_for, Lists, ListsRefusal, ListOne}
 use Rattle.listing.specs.Lists.{ListRefusalOne}
@@ -27,32 +28,32 @@ areas_fit n s t h =
 -- ---- what comes back
 
 module _ (short : Bool) (text area : List ℕ) where
-  when_short : short ≡ true → (Listed.Refused 3 ≡ listed_as short text) × (area ≡ area_with short text area)
+  when_short : short ≡ true → (Err Refusal.ShortArea ≡ listed_as short text) × (area ≡ area_with short text area)
   unfolding listed_as area_with
   when_short h = rw h (refl, refl)
 
   when_put : short ≡ false → (r : ℕ) (area' : List ℕ) → PutsText 0 text area r area'
-      → (Listed.Length r ≡ listed_as short text) × (area' ≡ area_with short text area)
+      → (Ok r ≡ listed_as short text) × (area' ≡ area_with short text area)
   unfolding listed_as area_with written
   when_put h r area' p =
-      rw h (ap Listed.Length (p.place ∙ zero-add (length text)), p.later ∙ ap (λ (n : ℕ). text ++ drop n area) (zero-add (length text)))
+      rw h (ap Ok (p.place ∙ zero-add (length text)), p.later ∙ ap (λ (n : ℕ). text ++ drop n area) (zero-add (length text)))
 
 module _ (q : MeshQto) (s : List Float) (pieces : ℕ) (area : List ℕ) (short : Bool)
     (is : short ≡ text_areas_short q.surface_count (length s) (length area)) where
-  pub list_short : short ≡ true → Lists q s pieces area (Listed.Refused 3) area
+  pub list_short : short ≡ true → Lists q s pieces area (Err Refusal.ShortArea) area
   list_short h = let w = when_short _ (listing_for q s pieces) area (sym is ∙ h) in record { answers = w.0; text = w.1 }
 
   pub list_put : short ≡ false → (r : ℕ) (area' : List ℕ) → PutsText 0 (listing_for q s pieces) area r area'
-      → Lists q s pieces area (Listed.Length r) area'
+      → Lists q s pieces area (Ok r) area'
   list_put h r area' p = let w = when_put _ (listing_for q s pieces) area (sym is ∙ h) r area' p in record { answers = w.0; text = w.1 }
 
 module _ (n : ℕ) (area : List ℕ) where
-  pub refusal_short : length area < head_bytes → ListsRefusal n area (Listed.Refused 3) area
+  pub refusal_short : length area < head_bytes → ListsRefusal n area (Err Refusal.ShortArea) area
   unfolding text_bytes
   refusal_short h = let w = when_short _ (refused_line n) area (lt-ltb (length area) head_bytes h) in record { answers = w.0; text = w.1 }
 
   pub refusal_put : head_bytes ≤ length area → (r : ℕ) (area' : List ℕ) → PutsText 0 (refused_line n) area r area'
-      → ListsRefusal n area (Listed.Length r) area'
+      → ListsRefusal n area (Ok r) area'
   unfolding text_bytes
   refusal_put h r area' p =
       let w = when_put _ (refused_line n) area (le-ltb (length area) head_bytes h) r area' p in record { answers = w.0; text = w.1 }

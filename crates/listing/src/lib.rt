@@ -2,7 +2,7 @@
 // a refusal.
 #![tactic(auto)]
 
-ghost use Rattle.std.specs.Prelude.{◌≡◌, ◌+◌, ◌*◌, ◌≤◌, ◌<◌, length};
+ghost use Rattle.std.specs.Prelude.{◌≡◌, ℕ, ◌+◌, ◌*◌, ◌≤◌, ◌<◌, length};
 ghost use Rattle.rows.specs.Rows.{rows_of};
 ghost use Rattle.spelling.specs.Text.{line};
 ghost use Rattle.spelling.specs.inner.Steps.{PutsText};
@@ -10,18 +10,12 @@ ghost use Rattle.listing.specs.Listing.{trust_lines, number_lines, prism_text, t
 ghost use Rattle.listing.specs.Lists.{head_bytes, Lists, ListsRefusal};
 ghost use Rattle.listing.specs.inner.Steps.{Short};
 
+use ids::Refusal;
 use record::MeshQto;
 use volume::PrismBound;
 
 // How many bytes of a text area are for the lines above the rows.
 const HEAD: usize = 352;
-
-// How long the text is, or the number of the refusal.
-#[derive(Clone, Copy)]
-pub enum Listed {
-    Length(usize),
-    Refused(u8),
-}
 
 // ---- lines; each answers the place behind them
 
@@ -145,25 +139,26 @@ fn areas_short(n: usize, surfaces: usize, text: usize) -> bool
     (surfaces < 4 * n) | (text < HEAD + 36 * n)
 }
 
-// Of a record, the surface area with its rows, and the number of pieces.
-pub fn list(q: MeshQto, surfaces: &[f32], pieces: u32, text: &mut [u8]) -> Listed
+// Of a record, the surface area with its rows, and the number of pieces: how long the text is, or the refusal of an area that is too short.
+pub fn list(q: MeshQto, surfaces: &[f32], pieces: u32, text: &mut [u8]) -> Result<usize, Refusal>
     ensures { Lists q surfaces.now pieces text.old result text.new }
 {
     let n = q.surface_count as usize;
     if areas_short(n, surfaces.len(), text.len()) {
-        return Listed::Refused(3);
+        return Err(Refusal::ShortArea);
     }
     let head = head_lines(text, q, pieces);
     let end = row_lines(text, head, &surfaces[..4 * n], n);
-    Listed::Length(end)
+    Ok(end)
 }
 
-// `refused N`.
-pub fn list_refusal(n: u8, text: &mut [u8]) -> Listed
-    ensures { ListsRefusal n text.old result text.new }
+// `refused N`, of a refusal or of any other number.
+pub fn list_refusal<N: Into<u32>>(refusal: N, text: &mut [u8]) -> Result<usize, Refusal>
+    ensures { (n : ℕ) × N.converts refusal n × ListsRefusal n text.old result text.new }
 {
+    let n = refusal.into();
     if text.len() < HEAD {
-        return Listed::Refused(3);
+        return Err(Refusal::ShortArea);
     }
-    Listed::Length(spelling::count_line(text, 0, b"refused ", n as u32))
+    Ok(spelling::count_line(text, 0, b"refused ", n))
 }

@@ -1,4 +1,5 @@
 -- Reading accepts every file that the writer's side describes, and gives back what was written. Assumes nothing.
+use Rattle.std.specs.Prelude.{Ok}
 use mathlib.Core.Path.{◌≡◌, refl, sym, ap, ◌∙◌}
 use mathlib.Core.Bool.{true, false}
 use mathlib.Core.List.{List, [], ◌∷◌, ◌++◌, append_assoc, append-nil}
@@ -12,8 +13,6 @@ use lib.ListN.{length, take, drop, length-append}
 use lib.Seq.{drop-drop, take-append_seam, drop-append_seam}
 use Rattle.record.specs.Numbers.{flags_fit}
 use Rattle.words.specs.Words.{u16_at, u32_at, bytes_of, all_bytes, Below}
-use Rattle.meshfile.specs.declared.Front.{Front}
-use Rattle.meshfile.specs.declared.Ending.{Ending}
 use Rattle.meshfile.specs.Format.{flag_values, most_in_file, length_fits, front_of, flags_in, ending_of, ended, ids_in}
 use Rattle.meshfile.specs.Format.{vertices_in, unit_in, file_of, Contents, File}
 use Rattle.meshfile.specs.Written.{chunk_of, plain_file, file_bytes, Proper, IsFileOf, Accepts}
@@ -48,7 +47,7 @@ module _ (kind : ℕ) (p : eqb kind 1 ≡ false) (q : eqb kind 4 ≡ false) (ws 
   unfolding length_fits
   words_fit = rw (p, q) (eq-eqb (length (all_bytes ws) % 4) 0 (omega (arith, length_all ws)))
 
-  words_front : front_of kind (chunk_of kind (all_bytes ws) ++ rest) ≡ Front.Payload (length (all_bytes ws))
+  words_front : front_of kind (chunk_of kind (all_bytes ws) ++ rest) ≡ Ok (length (all_bytes ws))
   words_front =
       front_is kind (length (all_bytes ws)) (chunk_of kind (all_bytes ws) ++ rest)
       (written kind (all_bytes ws) rest words_fit (omega (arith, length_all ws)))
@@ -56,9 +55,9 @@ module _ (kind : ℕ) (p : eqb kind 1 ≡ false) (q : eqb kind 4 ≡ false) (ws 
 -- ---- the records in their order
 
 ids_written : (u : ℕ) (vs is tail : List ℕ) (c d : ℕ) → Below (2 ^ 32) is → length is ≤ most_in_file
-    → ending_of tail ≡ Ending.Flags (flag_values c d)
+    → ending_of tail ≡ Ok (flag_values c d)
     → ids_in u vs (front_of 3 (chunk_of 3 (all_bytes is) ++ tail)) (chunk_of 3 (all_bytes is) ++ tail)
-    ≡ File.Holds (record { unit = u; vertices = vs; ids = is; clip = c; defect = d })
+    ≡ Ok (record { unit = u; vertices = vs; ids = is; clip = c; defect = d })
 unfolding ids_in ended
 ids_written u vs is tail c d b few e =
     rw (words_front 3 refl refl is tail few, payload_written 3 (all_bytes is) tail, behind_written 3 (all_bytes is) tail, words_all is b, e)
@@ -69,7 +68,7 @@ unfolding vertices_in
 vertices_written u vs rest x b few e =
     rw (words_front 2 refl refl vs rest few, payload_written 2 (all_bytes vs) rest, behind_written 2 (all_bytes vs) rest, words_all vs b) e
 
-unit_front : (u : ℕ) (rest : List ℕ) → front_of 1 (chunk_of 1 (bytes_of u) ++ rest) ≡ Front.Payload 4
+unit_front : (u : ℕ) (rest : List ℕ) → front_of 1 (chunk_of 1 (bytes_of u) ++ rest) ≡ Ok 4
 unfolding bytes_of length_fits
 unit_front u rest = front_is 1 4 (chunk_of 1 (bytes_of u) ++ rest) (written 1 (bytes_of u) rest refl (omega arith))
 
@@ -88,15 +87,15 @@ unit_written u rest x h e = rw (unit_front u rest, unit_word u rest h, unit_behi
 
 -- ---- the end
 
-flags_written : (c d : ℕ) → T (flags_fit c d) → ending_of (chunk_of 4 (c ∷ d ∷ [])) ≡ Ending.Flags (flag_values c d)
+flags_written : (c d : ℕ) → T (flags_fit c d) → ending_of (chunk_of 4 (c ∷ d ∷ [])) ≡ Ok (flag_values c d)
 unfolding ending_of chunk_of bytes_of flags_in front_of u16_at u32_at length_fits
 flags_written c d h = rw (is_true (flags_fit c d) h)
 
 pub appended : (a b c t : List ℕ) → (a ++ (b ++ c)) ++ t ≡ a ++ (b ++ (c ++ t))
 appended a b c t = simp append_assoc
 
-file_written : (m : Contents) (tail : List ℕ) → Proper m → ending_of tail ≡ Ending.Flags (flag_values m.clip m.defect)
-    → file_of (plain_file m ++ tail) ≡ File.Holds m
+file_written : (m : Contents) (tail : List ℕ) → Proper m → ending_of tail ≡ Ok (flag_values m.clip m.defect)
+    → file_of (plain_file m ++ tail) ≡ Ok m
 unfolding plain_file
 file_written m tail p e =
     rw (appended (chunk_of 1 (bytes_of m.unit)) (chunk_of 2 (all_bytes m.vertices)) (chunk_of 3 (all_bytes m.ids)) tail)

@@ -1,5 +1,6 @@
 -- A file is at most 12,318 bytes long, and of longer input the first 12,319 bytes decide: each test looks only at bytes that both have.
 -- Assumes nothing.
+use Rattle.std.specs.Prelude.{Result, Ok, Err}
 use mathlib.Core.Path.{◌≡◌, refl, sym, ap, ◌∙◌}
 use mathlib.Core.Bool.{Bool, true, false, not, cond}
 use mathlib.Core.List.{List, [], ◌∷◌}
@@ -10,13 +11,13 @@ use lib.Dec.{ltb, eqb}
 use lib.ListN.{length, take, drop, length-drop}
 use lib.Seq.{length-take-le, get_or-take, take-take, take-nil}
 use Rattle.words.specs.Words.{byte, u16_at, u32_at}
-use Rattle.meshfile.specs.declared.Front.{Front}
 use Rattle.meshfile.specs.Format.{most_in_file, length_fits, front_of, flags_in, ending_of, ended, ids_in, vertices_in}
 use Rattle.meshfile.specs.Format.{unit_in, file_of}
 use Rattle.meshfile.specs.Written.{FilesAreShort, FrontDecidesFile}
 use Rattle.meshfile.proofs.Fronts.{record_of, four_bytes, whole_words, two_bytes}
 use Rattle.meshfile.proofs.Endings.{flags_front, ending_by, Ends, plain, flags, ends}
 use Rattle.meshfile.proofs.Layouts.{held}
+use Rattle.ids.specs.declared.refusal.Refusal.{Refusal}
 
 -- ---- the longest file
 
@@ -34,11 +35,11 @@ files_are_short m bytes h =
 -- ---- the first bytes decide
 
 -- a test that is tried after two others may differ where they already found a fault
-late : (b c x y : Bool) (r : Front) → (b ≡ true → c ≡ false → x ≡ y)
-    → cond (not b) (Front.Fault 5) (cond c (Front.Fault 6) (cond x (Front.Fault 5) r))
-    ≡ cond (not b) (Front.Fault 5) (cond c (Front.Fault 6) (cond y (Front.Fault 5) r))
+late : (b c x y : Bool) (r : Result ℕ Refusal) → (b ≡ true → c ≡ false → x ≡ y)
+    → cond (not b) (Err Refusal.File) (cond c (Err Refusal.FileTooLarge) (cond x (Err Refusal.File) r))
+    ≡ cond (not b) (Err Refusal.File) (cond c (Err Refusal.FileTooLarge) (cond y (Err Refusal.File) r))
 late true true x y r h = refl
-late true false x y r h = ap (λ (z : Bool). cond z (Front.Fault 5) r) (h refl refl)
+late true false x y r h = ap (λ (z : Bool). cond z (Err Refusal.File) r) (h refl refl)
 late false c x y r h = refl
 
 drop_take : (n m k : ℕ) (l : List ℕ) → k ≡ n + m → drop n (take k l) ≡ take m (drop n l)
@@ -68,8 +69,8 @@ module _ (size : ℕ) (bytes : List ℕ) (enough : size ≤ length bytes) where
       let n = u32_at bytes 0 in
       let long = le-ltb (length bytes) 6 (omega arith) in
       rw (length-take-le size bytes enough, half_taken 4 (omega arith), word_taken 0 (omega arith), le-ltb size 6 h, long)
-      (ap (cond (not (eqb (u16_at bytes 4) kind)) (Front.Fault 5))
-      (late (length_fits kind n) (ltb most_in_file (n / 4)) (ltb size (6 + n)) (ltb (length bytes) (6 + n)) (Front.Payload n)
+      (ap (cond (not (eqb (u16_at bytes 4) kind)) (Err Refusal.File))
+      (late (length_fits kind n) (ltb most_in_file (n / 4)) (ltb size (6 + n)) (ltb (length bytes) (6 + n)) (Ok n)
       (λ a b. let k = fits n a (ltb-false most_in_file (n / 4) b) in
       le-ltb size (6 + n) k ∙ sym (le-ltb (length bytes) (6 + n) (omega arith)))))
 
@@ -88,10 +89,10 @@ module _ (size : ℕ) (bytes : List ℕ) (enough : size ≤ length bytes) where
 -- ---- record by record, from the last to the first
 
 module _ (size : ℕ) (bytes : List ℕ) (enough : size ≤ length bytes) where
-  flags_taken : (k : Front) → front_of 4 bytes ≡ k → 9 ≤ size → flags_in k (take size bytes) ≡ flags_in k bytes
+  flags_taken : (k : Result ℕ Refusal) → front_of 4 bytes ≡ k → 9 ≤ size → flags_in k (take size bytes) ≡ flags_in k bytes
   unfolding flags_in
-  flags_taken (Front.Fault n) e h = refl
-  flags_taken (Front.Payload n) e h =
+  flags_taken (Err n) e h = refl
+  flags_taken (Ok n) e h =
       let two = (flags_front n bytes e).0 in
       let six = same size bytes enough 6 (omega arith) in
       let seven = same size bytes enough 7 (omega arith) in
@@ -112,10 +113,10 @@ payload_most kind n p q h m =
     omega arith
 
 module _ (size : ℕ) (bytes : List ℕ) (enough : size ≤ length bytes) where
-  ids_by : (u : ℕ) (vs : List ℕ) (k : Front) → front_of 3 bytes ≡ k → 6159 ≤ size → ids_in u vs k (take size bytes) ≡ ids_in u vs k bytes
+  ids_by : (u : ℕ) (vs : List ℕ) (k : Result ℕ Refusal) → front_of 3 bytes ≡ k → 6159 ≤ size → ids_in u vs k (take size bytes) ≡ ids_in u vs k bytes
   unfolding ids_in
-  ids_by u vs (Front.Fault n) e h = refl
-  ids_by u vs (Front.Payload n) e h =
+  ids_by u vs (Err n) e h = refl
+  ids_by u vs (Ok n) e h =
       let r = record_of 3 n bytes e in
       let most = payload_most 3 n refl refl r.fits r.few in
       rw (part_taken size bytes enough 6 n (omega arith), behind_taken size bytes enough (6 + n) (omega arith))
@@ -128,10 +129,10 @@ module _ (size : ℕ) (bytes : List ℕ) (enough : size ≤ length bytes) where
       (ids_by u vs (front_of 3 bytes) refl h)
 
 module _ (size : ℕ) (bytes : List ℕ) (enough : size ≤ length bytes) where
-  vertices_by : (u : ℕ) (k : Front) → front_of 2 bytes ≡ k → 12309 ≤ size → vertices_in u k (take size bytes) ≡ vertices_in u k bytes
+  vertices_by : (u : ℕ) (k : Result ℕ Refusal) → front_of 2 bytes ≡ k → 12309 ≤ size → vertices_in u k (take size bytes) ≡ vertices_in u k bytes
   unfolding vertices_in
-  vertices_by u (Front.Fault n) e h = refl
-  vertices_by u (Front.Payload n) e h =
+  vertices_by u (Err n) e h = refl
+  vertices_by u (Ok n) e h =
       let r = record_of 2 n bytes e in
       let most = payload_most 2 n refl refl r.fits r.few in
       rw (part_taken size bytes enough 6 n (omega arith), behind_taken size bytes enough (6 + n) (omega arith))
@@ -144,10 +145,10 @@ module _ (size : ℕ) (bytes : List ℕ) (enough : size ≤ length bytes) where
       (vertices_by u (front_of 2 bytes) refl h)
 
 module _ (size : ℕ) (bytes : List ℕ) (enough : size ≤ length bytes) where
-  unit_by : (k : Front) → front_of 1 bytes ≡ k → 12319 ≤ size → unit_in k (take size bytes) ≡ unit_in k bytes
+  unit_by : (k : Result ℕ Refusal) → front_of 1 bytes ≡ k → 12319 ≤ size → unit_in k (take size bytes) ≡ unit_in k bytes
   unfolding unit_in
-  unit_by (Front.Fault n) e h = refl
-  unit_by (Front.Payload n) e h =
+  unit_by (Err n) e h = refl
+  unit_by (Ok n) e h =
       let r = record_of 1 n bytes e in
       let four = four_bytes n r.fits in
       rw (word_taken size bytes enough 6 (omega arith), behind_taken size bytes enough (6 + n) (omega arith))

@@ -1,4 +1,5 @@
 -- What stands in front is a payload exactly where none of the five tests finds a fault. Assumes nothing.
+use Rattle.std.specs.Prelude.{Result, Ok, Err}
 use mathlib.Core.Path.{◌≡◌, refl, sym}
 use mathlib.Core.Bool.{Bool, true, false, not, cond}
 use mathlib.Core.List.{List}
@@ -9,8 +10,8 @@ use lib.Dec.{ltb, eqb}
 use lib.ListN.{length, take, drop, length-drop}
 use lib.Seq.{take_all}
 use Rattle.words.specs.Words.{u16_at, u32_at}
-use Rattle.meshfile.specs.declared.Front.{Front}
 use Rattle.meshfile.specs.Format.{most_in_file, length_fits, front_of}
+use Rattle.ids.specs.declared.refusal.Refusal.{Refusal}
 
 -- a record of this kind whose payload is n bytes long
 pub record Record (kind n : ℕ) (bytes : List ℕ) : Type 0 where
@@ -20,21 +21,21 @@ pub record Record (kind n : ℕ) (bytes : List ℕ) : Type 0 where
   pub few : n / 4 ≤ most_in_file
   pub room : 6 + n ≤ length bytes
 
-past : (b : Bool) (k n : ℕ) (rest : Front) → cond b (Front.Fault k) rest ≡ Front.Payload n → (b ≡ false) × (rest ≡ Front.Payload n)
+past : (b : Bool) (k : Refusal) (n : ℕ) (rest : Result ℕ Refusal) → cond b (Err k) rest ≡ Ok n → (b ≡ false) × (rest ≡ Ok n)
 past true k n rest h = let y : ◌≡◌ {A = ℕ} 0 1 = cc in absurd (omega arith)
 past false k n rest h = (refl, h)
 
-same : (a b : ℕ) → Front.Payload a ≡ Front.Payload b → a ≡ b
+same : (a b : ℕ) → ◌≡◌ {A = Result ℕ Refusal} (Ok a) (Ok b) → a ≡ b
 same a b h = cc
 
-pub record_of : (kind n : ℕ) (bytes : List ℕ) → front_of kind bytes ≡ Front.Payload n → Record kind n bytes
+pub record_of : (kind n : ℕ) (bytes : List ℕ) → front_of kind bytes ≡ Ok n → Record kind n bytes
 unfolding front_of
 record_of kind n bytes h =
-    let a = past (ltb (length bytes) 6) 5 n _ h in
-    let b = past _ 5 n _ a.1 in
-    let d = past _ 5 n _ b.1 in
-    let e = past _ 6 n _ d.1 in
-    let f = past _ 5 n _ e.1 in
+    let a = past (ltb (length bytes) 6) Refusal.File n _ h in
+    let b = past _ Refusal.File n _ a.1 in
+    let d = past _ Refusal.File n _ b.1 in
+    let e = past _ Refusal.FileTooLarge n _ d.1 in
+    let f = past _ Refusal.File n _ e.1 in
     let size : u32_at bytes 0 ≡ n = same _ _ f.1 in
     record {
       kind_is = eqb-true _ _ (not-false _ b.0);
@@ -46,11 +47,11 @@ record_of kind n bytes h =
 
 -- the tests in their order: each is tried where those before it found no fault
 module _ (kind : ℕ) (bytes : List ℕ) where
-  pub header_cut : length bytes < 6 → Front.Fault 5 ≡ front_of kind bytes
+  pub header_cut : length bytes < 6 → Err Refusal.File ≡ front_of kind bytes
   unfolding front_of
   header_cut h = rw (lt-ltb (length bytes) 6 h)
 
-  pub wrong_kind : 6 ≤ length bytes → (u16_at bytes 4 ≡ kind → ⊥) → Front.Fault 5 ≡ front_of kind bytes
+  pub wrong_kind : 6 ≤ length bytes → (u16_at bytes 4 ≡ kind → ⊥) → Err Refusal.File ≡ front_of kind bytes
   unfolding front_of
   wrong_kind whole h = rw (le-ltb (length bytes) 6 whole, ne_eqb (u16_at bytes 4) kind h)
 
@@ -63,35 +64,35 @@ pub record Header (kind n : ℕ) (bytes : List ℕ) : Type 0 where
 module _ {kind n : ℕ} {bytes : List ℕ} (head : Header kind n bytes) where
   -- what the first two tests leave
   read_on : front_of kind bytes
-      ≡ cond (not (length_fits kind n)) (Front.Fault 5)
-      (cond (ltb most_in_file (n / 4)) (Front.Fault 6) (cond (ltb (length bytes) (6 + n)) (Front.Fault 5) (Front.Payload n)))
+      ≡ cond (not (length_fits kind n)) (Err Refusal.File)
+      (cond (ltb most_in_file (n / 4)) (Err Refusal.FileTooLarge) (cond (ltb (length bytes) (6 + n)) (Err Refusal.File) (Ok n)))
   unfolding front_of
   read_on = rw (head.size, le-ltb (length bytes) 6 head.whole, eq-eqb (u16_at bytes 4) kind head.kind_is)
 
-  pub wrong_length : length_fits kind n ≡ false → Front.Fault 5 ≡ front_of kind bytes
+  pub wrong_length : length_fits kind n ≡ false → Err Refusal.File ≡ front_of kind bytes
   wrong_length h = rw (read_on, h)
 
-  pub too_many_lem : length_fits kind n ≡ true → most_in_file < n / 4 → Front.Fault 6 ≡ front_of kind bytes
+  pub too_many_lem : length_fits kind n ≡ true → most_in_file < n / 4 → Err Refusal.FileTooLarge ≡ front_of kind bytes
   too_many_lem h m = rw (read_on, h, lt-ltb most_in_file (n / 4) m)
 
-  pub payload_cut : length_fits kind n ≡ true → n / 4 ≤ most_in_file → length bytes < 6 + n → Front.Fault 5 ≡ front_of kind bytes
+  pub payload_cut : length_fits kind n ≡ true → n / 4 ≤ most_in_file → length bytes < 6 + n → Err Refusal.File ≡ front_of kind bytes
   payload_cut h m r = rw (read_on, h, le-ltb most_in_file (n / 4) m, lt-ltb (length bytes) (6 + n) r)
 
-  pub payload_whole : length_fits kind n ≡ true → n / 4 ≤ most_in_file → 6 + n ≤ length bytes → Front.Payload n ≡ front_of kind bytes
+  pub payload_whole : length_fits kind n ≡ true → n / 4 ≤ most_in_file → 6 + n ≤ length bytes → Ok n ≡ front_of kind bytes
   payload_whole h m r = rw (read_on, h, le-ltb most_in_file (n / 4) m, le-ltb (length bytes) (6 + n) r)
 
 -- too many, from what was read and tested before, whatever the test is called
 pub too_many_front : (kind : ℕ) (bytes : List ℕ) → 6 ≤ length bytes → u16_at bytes 4 ≡ kind → length_fits kind (u32_at bytes 0) ≡ true
-    → 1536 < u32_at bytes 0 / 4 → Front.Fault 6 ≡ front_of kind bytes
+    → 1536 < u32_at bytes 0 / 4 → Err Refusal.FileTooLarge ≡ front_of kind bytes
 too_many_front kind bytes l k h m = too_many_lem (record { whole = l; kind_is = k; size = refl }) h m
 
-pub front_is : (kind n : ℕ) (bytes : List ℕ) → Record kind n bytes → front_of kind bytes ≡ Front.Payload n
+pub front_is : (kind n : ℕ) (bytes : List ℕ) → Record kind n bytes → front_of kind bytes ≡ Ok n
 front_is kind n bytes r =
     let head : Header kind n bytes = record { whole = omega (arith, r.room); kind_is = r.kind_is; size = r.size } in
     sym (payload_whole head r.fits r.few r.room)
 
 -- the payload lies within the bytes
-pub room_of : (kind : ℕ) (bytes : List ℕ) {n : ℕ} → front_of kind bytes ≡ Front.Payload n → 6 + n ≤ length bytes
+pub room_of : (kind : ℕ) (bytes : List ℕ) {n : ℕ} → front_of kind bytes ≡ Ok n → 6 + n ≤ length bytes
 room_of kind bytes {n} h = (record_of kind n bytes h).room
 
 -- what is lent of the bytes behind a place is all behind it

@@ -1,5 +1,6 @@
 -- What reading gives: a fault, too short an area, or both areas filled; the same whatever the vertices' words are taken as. Assumes
 -- nothing.
+use Rattle.std.specs.Prelude.{Result, Ok, Err}
 use mathlib.Core.Path.{◌≡◌, refl, sym, ap, ◌∙◌, subst}
 use mathlib.Core.Bool.{Bool, true, false, ◌||◌, cond}
 use mathlib.Core.List.{List, ◌++◌}
@@ -11,15 +12,14 @@ use lib.ListN.{length, take, drop}
 use Rattle.ids.proofs.Groups.{neither}
 use Rattle.words.proofs.Parts.{part_words}
 use Rattle.words.specs.Words.{words_in}
-use Rattle.meshfile.specs.declared.Layout.{Layout}
 use Rattle.meshfile.specs.declared.MeshBits.{MeshBits}
 use Rattle.meshfile.specs.declared.Parts.{Parts}
-use Rattle.meshfile.specs.declared.ReadingBits.{ReadingBits}
 use Rattle.meshfile.specs.Format.{Contents, File, file_of}
 use Rattle.meshfile.specs.Reading.{mesh_areas_short, mesh_bits, reading_of, vertices_after, ids_after, ReadsAs}
 use Rattle.meshfile.specs.inner.Steps.{layout_of, in_room, contents_at, IdsRead}
 use Rattle.meshfile.proofs.Layouts.{laid_inside, inside, file_holds, file_refused, held}
 use Rattle.meshfile.proofs.One.{kept}
+use Rattle.ids.specs.declared.refusal.Refusal.{Refusal}
 
 -- ---- the areas' lengths, as the code tests them
 
@@ -28,80 +28,80 @@ too_short v w p = ltb v p.floats || ltb w p.ids
 
 -- what was found in the room is the layout
 module _ (v w : ℕ) where
-  cut_whole : (b : Bool) (q p : Parts) → cond b (Layout.Fault 3) (Layout.Whole q) ≡ Layout.Whole p → (b ≡ false) × (q ≡ p)
+  cut_whole : (b : Bool) (q p : Parts) → cond b (Err Refusal.ShortArea) (Ok q) ≡ Ok p → (b ≡ false) × (q ≡ p)
   cut_whole true q p h = let y : ◌≡◌ {A = ℕ} 0 1 = cc in absurd (omega arith)
   cut_whole false q p h = (refl, cc)
 
-  room_whole : (l : Layout) (p : Parts) → in_room v w l ≡ Layout.Whole p → (l ≡ Layout.Whole p) × (too_short v w p ≡ false)
+  room_whole : (l : Result Parts Refusal) (p : Parts) → in_room v w l ≡ Ok p → (l ≡ Ok p) × (too_short v w p ≡ false)
   unfolding in_room
-  room_whole (Layout.Fault n) p h = let y : ◌≡◌ {A = ℕ} 0 1 = cc in absurd (omega arith)
-  room_whole (Layout.Whole q) p h =
+  room_whole (Err n) p h = let y : ◌≡◌ {A = ℕ} 0 1 = cc in absurd (omega arith)
+  room_whole (Ok q) p h =
       let x = cut_whole (too_short v w q) q p h in
-      (ap Layout.Whole x.1, sym (ap (too_short v w) x.1) ∙ x.0)
+      (ap Ok x.1, sym (ap (too_short v w) x.1) ∙ x.0)
 
 -- ---- all but the vertices
 
 module _ (bytes : List ℕ) (v : ℕ) (ids : List ℕ) where
   -- the test is the definition's
-  short_is : (p : Parts) → layout_of bytes ≡ Layout.Whole p
+  short_is : (p : Parts) → layout_of bytes ≡ Ok p
       → mesh_areas_short (contents_at bytes p) v (length ids) ≡ too_short v (length ids) p
   unfolding mesh_areas_short contents_at
   short_is p whole =
       let room = inside bytes p whole in
       rw (part_words 16 p.floats bytes (omega arith), part_words (22 + 4 * p.floats) p.ids bytes room)
 
-  fault : (n : ℕ) → layout_of bytes ≡ Layout.Fault n → IdsRead bytes v ids (ReadingBits.Refused n) ids
+  fault : (n : Refusal) → layout_of bytes ≡ Err n → IdsRead bytes v ids (Err n) ids
   unfolding reading_of ids_after
   fault n h =
       let at = file_refused bytes n h in
       record { answers = rw at; ids_after_lem = rw at }
 
-  short : (p : Parts) → layout_of bytes ≡ Layout.Whole p → too_short v (length ids) p ≡ true → IdsRead bytes v ids (ReadingBits.Refused 3) ids
+  short : (p : Parts) → layout_of bytes ≡ Ok p → too_short v (length ids) p ≡ true → IdsRead bytes v ids (Err Refusal.ShortArea) ids
   unfolding reading_of ids_after
   short p whole q =
       let at = file_holds bytes p whole in
       let s = short_is p whole ∙ q in
       record { answers = rw (at, s); ids_after_lem = rw (at, s) }
 
-  cut_fault : (b : Bool) (p : Parts) (n : ℕ) → layout_of bytes ≡ Layout.Whole p → too_short v (length ids) p ≡ b
-      → cond b (Layout.Fault 3) (Layout.Whole p) ≡ Layout.Fault n
-      → IdsRead bytes v ids (ReadingBits.Refused n) ids
+  cut_fault : (b : Bool) (p : Parts) (n : Refusal) → layout_of bytes ≡ Ok p → too_short v (length ids) p ≡ b
+      → cond b (Err Refusal.ShortArea) (Ok p) ≡ Err n
+      → IdsRead bytes v ids (Err n) ids
   cut_fault true p n whole s h =
-      let three : 3 ≡ n = cc in
-      subst (λ (k : ℕ). IdsRead bytes v ids (ReadingBits.Refused k) ids) three (short p whole s)
+      let three : Refusal.ShortArea ≡ n = cc in
+      subst (λ (k : Refusal). IdsRead bytes v ids (Err k) ids) three (short p whole s)
   cut_fault false p n whole s h = let y : ◌≡◌ {A = ℕ} 0 1 = cc in absurd (omega arith)
 
-  by_layout : (l : Layout) (n : ℕ) → layout_of bytes ≡ l → in_room v (length ids) l ≡ Layout.Fault n
-      → IdsRead bytes v ids (ReadingBits.Refused n) ids
+  by_layout : (l : Result Parts Refusal) (n : Refusal) → layout_of bytes ≡ l → in_room v (length ids) l ≡ Err n
+      → IdsRead bytes v ids (Err n) ids
   unfolding in_room
-  by_layout (Layout.Fault k) n e h =
+  by_layout (Err k) n e h =
       let same : k ≡ n = cc in
-      subst (λ (j : ℕ). IdsRead bytes v ids (ReadingBits.Refused j) ids) same (fault k e)
-  by_layout (Layout.Whole p) n e h = cut_fault (too_short v (length ids) p) p n e refl h
+      subst (λ (j : Refusal). IdsRead bytes v ids (Err j) ids) same (fault k e)
+  by_layout (Ok p) n e h = cut_fault (too_short v (length ids) p) p n e refl h
 
-  pub refused : (n : ℕ) → Layout.Fault n ≡ in_room v (length ids) (layout_of bytes) → IdsRead bytes v ids (ReadingBits.Refused n) ids
+  pub refused : (n : Refusal) → Err n ≡ in_room v (length ids) (layout_of bytes) → IdsRead bytes v ids (Err n) ids
   refused n h = by_layout (layout_of bytes) n refl (sym h)
 
-  module _ (p : Parts) (h : Layout.Whole p ≡ in_room v (length ids) (layout_of bytes)) where
+  module _ (p : Parts) (h : Ok p ≡ in_room v (length ids) (layout_of bytes)) where
     pub fits : (22 + 4 * p.floats + 4 * p.ids ≤ length bytes) × (p.ids ≤ length ids)
     fits =
         let x = room_whole v (length ids) (layout_of bytes) p (sym h) in
         (inside bytes p x.0, ltb-false _ _ (neither (ltb v p.floats) (ltb (length ids) p.ids) x.1).1)
 
     pub given : (b : MeshBits) (ids' : List ℕ) → b ≡ mesh_bits (contents_at bytes p) → ids' ≡ (contents_at bytes p).ids ++ drop p.ids ids
-        → IdsRead bytes v ids (ReadingBits.File b) ids'
+        → IdsRead bytes v ids (Ok b) ids'
     unfolding reading_of ids_after contents_at
     given b ids' hb hi =
         let x = room_whole v (length ids) (layout_of bytes) p (sym h) in
         let at = file_holds bytes p x.0 in
         let s = short_is p x.0 ∙ x.1 in
         let li = part_words (22 + 4 * p.floats) p.ids bytes (inside bytes p x.0) in
-        record { answers = rw (at, s) (ap ReadingBits.File hb); ids_after_lem = rw (at, s, li) hi }
+        record { answers = rw (at, s) (ap Ok hb); ids_after_lem = rw (at, s, li) hi }
 
 -- ---- the vertices, whatever their words are taken as
 
 -- a file's vertices stand from byte 16 on
-vertices_at : (bytes : List ℕ) (k : Contents) → file_of bytes ≡ File.Holds k
+vertices_at : (bytes : List ℕ) (k : Contents) → file_of bytes ≡ Ok k
     → (16 + 4 * length k.vertices ≤ length bytes) × (k.vertices ≡ words_in (take (4 * length k.vertices) (drop 16 bytes)))
 unfolding contents_at
 vertices_at bytes k h =
@@ -113,22 +113,22 @@ vertices_at bytes k h =
     rw long (omega (arith, room), sym vertices)
 
 read_held : (short : Bool) (k : Contents) (m : MeshBits)
-    → ReadingBits.File m ≡ cond short (ReadingBits.Refused 3) (ReadingBits.File (mesh_bits k)) → (short ≡ false) × (m ≡ mesh_bits k)
+    → Ok m ≡ cond short (Err Refusal.ShortArea) (Ok (mesh_bits k)) → (short ≡ false) × (m ≡ mesh_bits k)
 read_held true k m h = let z : ◌≡◌ {A = ℕ} 0 1 = cc in absurd (omega arith)
 read_held false k m h = (refl, cc)
 
 -- what was read is what a file holds, in areas with room for it
-pub reading_held : (f : File) (v w : ℕ) (m : MeshBits) → ReadingBits.File m ≡ reading_of f v w
-    → (k : Contents) × (f ≡ File.Holds k) × (mesh_areas_short k v w ≡ false) × (m ≡ mesh_bits k)
+pub reading_held : (f : File) (v w : ℕ) (m : MeshBits) → Ok m ≡ reading_of f v w
+    → (k : Contents) × (f ≡ Ok k) × (mesh_areas_short k v w ≡ false) × (m ≡ mesh_bits k)
 unfolding reading_of
-reading_held (File.Refused n) v w m h = let z : ◌≡◌ {A = ℕ} 0 1 = cc in absurd (omega arith)
-reading_held (File.Holds k) v w m h =
+reading_held (Err n) v w m h = let z : ◌≡◌ {A = ℕ} 0 1 = cc in absurd (omega arith)
+reading_held (Ok k) v w m h =
     let x = read_held (mesh_areas_short k v w) k m h in
     (k, refl, x.0, x.1)
 
-module _ {bytes : List ℕ} {v : ℕ} {ids : List ℕ} {r : ReadingBits} {ids' : List ℕ} (x : IdsRead bytes v ids r ids') {m : MeshBits}
-    (e : r ≡ ReadingBits.File m) where
-  found : (k : Contents) × (file_of bytes ≡ File.Holds k) × (mesh_areas_short k v (length ids) ≡ false) × (m ≡ mesh_bits k)
+module _ {bytes : List ℕ} {v : ℕ} {ids : List ℕ} {r : Result MeshBits Refusal} {ids' : List ℕ} (x : IdsRead bytes v ids r ids') {m : MeshBits}
+    (e : r ≡ Ok m) where
+  found : (k : Contents) × (file_of bytes ≡ Ok k) × (mesh_areas_short k v (length ids) ≡ false) × (m ≡ mesh_bits k)
   found = reading_held (file_of bytes) v (length ids) m (sym e ∙ x.answers)
 
   pub room : (16 + 4 * m.floats ≤ length bytes) × (m.floats ≤ v)
@@ -139,21 +139,21 @@ module _ {bytes : List ℕ} {v : ℕ} {ids : List ℕ} {r : ReadingBits} {ids' :
       rw found.3 ((vertices_at bytes k found.1).0, long)
 
 vertices_after_lem : {A : Type 0} (taken : List ℕ → List A) (bytes : List ℕ) (vs : List A) (ids : List ℕ) (k : Contents) (m : MeshBits)
-    → file_of bytes ≡ File.Holds k → mesh_areas_short k (length vs) (length ids) ≡ false → m ≡ mesh_bits k
+    → file_of bytes ≡ Ok k → mesh_areas_short k (length vs) (length ids) ≡ false → m ≡ mesh_bits k
     → taken (words_in (take (4 * m.floats) (drop 16 bytes))) ++ drop m.floats vs ≡ vertices_after taken (file_of bytes) (length ids) vs
 unfolding vertices_after
 vertices_after_lem taken bytes vs ids k m at roomy same = rw (at, roomy, same, ← (vertices_at bytes k at).1)
 
-module _ {A R : Type 0} (taken : List ℕ → List A) (answer : ReadingBits → R) {bytes : List ℕ} {vs : List A} {ids : List ℕ}
-    {r : ReadingBits} {ids' : List ℕ} (x : IdsRead bytes (length vs) ids r ids') where
-  pub unread : {n : ℕ} → r ≡ ReadingBits.Refused n → ReadsAs taken answer bytes vs ids (answer (ReadingBits.Refused n)) vs ids'
+module _ {A R : Type 0} (taken : List ℕ → List A) (answer : Result MeshBits Refusal → R) {bytes : List ℕ} {vs : List A} {ids : List ℕ}
+    {r : Result MeshBits Refusal} {ids' : List ℕ} (x : IdsRead bytes (length vs) ids r ids') where
+  pub unread : {n : Refusal} → r ≡ Err n → ReadsAs taken answer bytes vs ids (answer (Err n)) vs ids'
   unread {n} e =
       let said = sym e ∙ x.answers in
       record { answers = ap answer said; vertices = sym (kept taken (file_of bytes) vs ids n said).0; ids_after_lem = x.ids_after_lem }
 
-  pub filled : {m : MeshBits} → r ≡ ReadingBits.File m → {vs' : List A}
+  pub filled : {m : MeshBits} → r ≡ Ok m → {vs' : List A}
       → vs' ≡ taken (words_in (take (4 * m.floats) (drop 16 bytes))) ++ drop m.floats vs
-      → ReadsAs taken answer bytes vs ids (answer (ReadingBits.File m)) vs' ids'
+      → ReadsAs taken answer bytes vs ids (answer (Ok m)) vs' ids'
   filled {m} e h =
       let k = found x e in
       record {

@@ -1,4 +1,5 @@
 -- The C forms: what `write` and `read_bits` give, as numbers; and there and back by them. Assumes nothing.
+use Rattle.std.specs.Prelude.{Result, Ok, Err}
 use mathlib.Core.Path.{◌≡◌, refl, sym, ap, ◌∙◌, subst}
 use mathlib.Core.Bool.{Bool, true, false, not, cond}
 use mathlib.Core.List.{List, [], ◌∷◌}
@@ -13,8 +14,6 @@ use Rattle.record.specs.declared.Profile.{Profile}
 use Rattle.record.specs.Numbers.{profile_at, profile_number, flags_fit}
 use Rattle.words.specs.Words.{Below}
 use Rattle.meshfile.specs.declared.MeshBits.{MeshBits}
-use Rattle.meshfile.specs.declared.ReadingBits.{ReadingBits}
-use Rattle.meshfile.specs.declared.writing.Writing.{Writing}
 use Rattle.meshfile.specs.Format.{Contents, file_of}
 use Rattle.meshfile.specs.Reading.{reading_of, ReadsBits}
 use Rattle.meshfile.specs.Writing.{contents_of, writing_of, bytes_after, Writes}
@@ -24,6 +23,8 @@ use Rattle.meshfile.specs.Numbers.{reading_number, counts_after, ReadsNumbered, 
 use Rattle.meshfile.specs.Numbers.{ReadsBackNumbered, WritesBackNumbered}
 use Rattle.meshfile.proofs.Flags.{flags_known, number_back, contents_back}
 use Rattle.meshfile.proofs.RoundTrip.{written_held, held_read, writes_back}
+use Rattle.ids.specs.declared.refusal.Refusal.{Refusal}
+use Rattle.ids.specs.Refusal.{refusal_number}
 
 pub write_numbered_one : WriteNumberedOne
 write_numbered_one m area k k' area₁ area₂ x y = (x.number ∙ sym y.number, x.bytes ∙ sym y.bytes)
@@ -47,7 +48,7 @@ module _ (m : Contents) (area : List ℕ) (t : Bool) (e : t ≡ flags_fit m.clip
       record { number = rw none; bytes = rw none }
 
   -- else what `write` gives
-  pub as_written : not t ≡ false → (p : Profile) → p ≡ profile_at m.defect → (r : Writing) (area' : List ℕ)
+  pub as_written : not t ≡ false → (p : Profile) → p ≡ profile_at m.defect → (r : Result ℕ Refusal) (area' : List ℕ)
       → Writes (contents_of m.unit m.vertices m.ids (eqb m.clip 1) p) area r area'
       → (k : ℕ) → k ≡ writing_number r → WritesNumbered m area k area'
   unfolding flags_then
@@ -72,22 +73,22 @@ clip_byte : (clip : Bool) → bool_byte clip ≡ cond clip 1 0
 clip_byte true = refl
 clip_byte false = refl
 
-module _ (bytes ps ids : List ℕ) (r : ReadingBits) (ps' ids' : List ℕ) (x : ReadsBits bytes ps ids r ps' ids') (five : List ℕ) where
+module _ (bytes ps ids : List ℕ) (r : Result MeshBits Refusal) (ps' ids' : List ℕ) (x : ReadsBits bytes ps ids r ps' ids') (five : List ℕ) where
   pub as_read : (k : ℕ) (five' : List ℕ) → k ≡ reading_number r → five' ≡ counts_after r five
       → ReadsNumbered bytes ps ids five k ps' ids' five'
   as_read k five' hk hc =
       record {
         number = hk ∙ ap reading_number x.answers;
-        counts = hc ∙ ap (λ (b : ReadingBits). counts_after b five) x.answers;
+        counts = hc ∙ ap (λ (b : Result MeshBits Refusal). counts_after b five) x.answers;
         vertices = x.vertices;
         ids_after_lem = x.ids_after_lem;
       }
 
-  pub refused_read : (n : ℕ) → r ≡ ReadingBits.Refused n → ReadsNumbered bytes ps ids five (0x8000_0000 + n) ps' ids' five
+  pub refused_read : (n : Refusal) → r ≡ Err n → ReadsNumbered bytes ps ids five (0x8000_0000 + refusal_number n) ps' ids' five
   unfolding reading_number counts_after
-  refused_read n e = as_read (0x8000_0000 + n) five (rw e) (rw e)
+  refused_read n e = as_read (0x8000_0000 + refusal_number n) five (rw e) (rw e)
 
-  pub counted : (m : MeshBits) → r ≡ ReadingBits.File m → (d : ℕ) → d ≡ profile_number m.profile
+  pub counted : (m : MeshBits) → r ≡ Ok m → (d : ℕ) → d ≡ profile_number m.profile
       → ReadsNumbered bytes ps ids five 0 ps' ids' (m.floats ∷ m.ids ∷ m.unit ∷ bool_byte m.clip ∷ d ∷ [])
   unfolding reading_number counts_after
   counted m e d hd = as_read 0 (m.floats ∷ m.ids ∷ m.unit ∷ bool_byte m.clip ∷ d ∷ []) (rw e) (rw (e, hd, clip_byte m.clip))
@@ -97,19 +98,19 @@ module _ (bytes ps ids : List ℕ) (r : ReadingBits) (ps' ids' : List ℕ) (x : 
 refused_large : (n k : ℕ) → n < 2 ^ 31 → n ≡ 2147483648 + k → ⊥
 refused_large n k h e = omega arith
 
-length_of : (b : Bool) (r : Writing) (n : ℕ) → n < 2 ^ 31 → n ≡ writing_number (cond (not b) (Writing.Refused 5) r)
-    → T b × (r ≡ Writing.Length n)
+length_of : (b : Bool) (r : Result ℕ Refusal) (n : ℕ) → n < 2 ^ 31 → n ≡ writing_number (cond (not b) (Err Refusal.File) r)
+    → T b × (r ≡ Ok n)
 unfolding writing_number
 length_of false r n h e = absurd (refused_large n 5 h e)
-length_of true (Writing.Refused k) n h e = absurd (refused_large n k h e)
-length_of true (Writing.Length k) n h e = (tt, ap Writing.Length (sym e))
+length_of true (Err k) n h e = absurd (refused_large n (refusal_number k) h e)
+length_of true (Ok k) n h e = (tt, ap Ok (sym e))
 
 pub reads_back_numbered : ReadsBackNumbered
 unfolding flags_then reading_number counts_after
 reads_back_numbered m hu hv hi area n area' small w ps ids five lv li k ps' ids' five' x =
     let said = length_of (flags_fit m.clip m.defect) (writing_of m (length area)) n small w.number in
     let made = (with_known m area n area' w said.0).0 in
-    let whole : Writes m area (Writing.Length n) area' = subst (λ (r : Writing). Writes m area r area') said.1 made in
+    let whole : Writes m area (Ok n) area' = subst (λ (r : Result ℕ Refusal). Writes m area r area') said.1 made in
     let held = written_held m hu hv hi said.0 area n area' whole in
     let back = held_read (file_of (take n area')) m ps ids held lv li in
     let flags = number_back m said.0 in (
@@ -120,19 +121,19 @@ reads_back_numbered m hu hv hi area n area' small w ps ids five lv li k ps' ids'
     )
 
 -- five counts are those of a file that was read
-counts_of : (r : ReadingBits) (five : List ℕ) (f i u c d : ℕ) → 0 ≡ reading_number r → f ∷ i ∷ u ∷ c ∷ d ∷ [] ≡ counts_after r five
-    → (m : MeshBits) × (r ≡ ReadingBits.File m) × (f ≡ m.floats) × (i ≡ m.ids) × (u ≡ m.unit) × (c ≡ cond m.clip 1 0)
+counts_of : (r : Result MeshBits Refusal) (five : List ℕ) (f i u c d : ℕ) → 0 ≡ reading_number r → f ∷ i ∷ u ∷ c ∷ d ∷ [] ≡ counts_after r five
+    → (m : MeshBits) × (r ≡ Ok m) × (f ≡ m.floats) × (i ≡ m.ids) × (u ≡ m.unit) × (c ≡ cond m.clip 1 0)
     × (d ≡ profile_number m.profile)
 unfolding reading_number counts_after
-counts_of (ReadingBits.Refused n) five f i u c d e h = absurd (refused_large 0 n (omega arith) e)
-counts_of (ReadingBits.File m) five f i u c d e h = (m, refl, cc, cc, cc, cc, cc)
+counts_of (Err n) five f i u c d e h = absurd (refused_large 0 (refusal_number n) (omega arith) e)
+counts_of (Ok m) five f i u c d e h = (m, refl, cc, cc, cc, cc, cc)
 
 module _ (bytes : List ℕ) (below : Below 256 bytes) (ps ids ps' ids' : List ℕ) where
-  by_counts : (m : MeshBits) → ReadsBits bytes ps ids (ReadingBits.File m) ps' ids'
+  by_counts : (m : MeshBits) → ReadsBits bytes ps ids (Ok m) ps' ids'
       → (f i u c d : ℕ) → f ≡ m.floats → i ≡ m.ids → u ≡ m.unit → c ≡ cond m.clip 1 0 → d ≡ profile_number m.profile
       → (area : List ℕ) (k : ℕ) (area' : List ℕ)
       → WritesNumbered (record { unit = u; vertices = take f ps'; ids = take i ids'; clip = c; defect = d }) area k area'
-      → (w : Writing) × (k ≡ writing_number w) × FilePut (with_kind4 f i bytes) area w area'
+      → (w : Result ℕ Refusal) × (k ≡ writing_number w) × FilePut (with_kind4 f i bytes) area w area'
   by_counts m x f i u c d ef ei eu ec ed area k area' y =
       let again = contents_of m.unit (take m.floats ps') (take m.ids ids') m.clip m.profile in
       let to : WritesNumbered again area k area' = rw (ef, ei, eu, ec, ed) at y in
@@ -143,6 +144,6 @@ module _ (bytes : List ℕ) (below : Below 256 bytes) (ps ids ps' ids' : List �
 pub writes_back_numbered : WritesBackNumbered
 writes_back_numbered bytes below ps ids five ps' ids' f i u c d x area k area' y =
     let r = counts_of (reading_of (file_of bytes) (length ps) (length ids)) five f i u c d x.number x.counts in
-    let read : ReadsBits bytes ps ids (ReadingBits.File r.0) ps' ids'
+    let read : ReadsBits bytes ps ids (Ok r.0) ps' ids'
     = record { answers = sym r.1; vertices = x.vertices; ids_after_lem = x.ids_after_lem } in
     by_counts bytes below ps ids ps' ids' r.0 read f i u c d r.2 r.3 r.4 r.5 r.6 area k area' y

@@ -1,4 +1,5 @@
 -- Reading has one outcome; a refusal is 3, 5 or 6, and writes nothing; and `read` is `read_bits` with floats for patterns. Assumes nothing.
+use Rattle.std.specs.Prelude.{Result, Ok, Err}
 use mathlib.Core.Path.{◌≡◌, refl, sym, ap, ◌∙◌, subst}
 use mathlib.Core.Bool.{Bool, true, false, not, cond}
 use mathlib.Core.List.{List, [], ◌∷◌, ◌++◌}
@@ -11,15 +12,14 @@ use lib.ListN.{length, drop}
 use Rattle.record.specs.Numbers.{flags_fit}
 use Rattle.words.specs.Words.{byte, u16_at, u32_at, floats_of}
 use Rattle.words.proofs.Parts.{length_floats}
-use Rattle.meshfile.specs.declared.Front.{Front}
-use Rattle.meshfile.specs.declared.Ending.{Ending}
+use Rattle.meshfile.specs.declared.FlagValues.{FlagValues}
 use Rattle.meshfile.specs.declared.MeshBits.{MeshBits}
-use Rattle.meshfile.specs.declared.Reading.{Reading}
-use Rattle.meshfile.specs.declared.ReadingBits.{ReadingBits}
+use Rattle.meshfile.specs.declared.MeshFile.{MeshFile}
 use Rattle.meshfile.specs.Format.{flag_values, most_in_file, length_fits, Contents, File, front_of, flags_in, ending_of, ended}
 use Rattle.meshfile.specs.Format.{ids_in, vertices_in, unit_in, file_of}
 use Rattle.meshfile.specs.Reading.{mesh_areas_short, mesh_bits, reading_of, as_floats, vertices_after, ids_after, ReadsAs, By356}
 use Rattle.meshfile.specs.Reading.{RefusedReading, RefusedReadingBits, ReadOne, ReadAsFloats}
+use Rattle.ids.specs.declared.refusal.Refusal.{Refusal}
 
 pub read_one : ReadOne
 read_one A R taken answer bytes vs ids r r' vs₁ vs₂ ids₁ ids₂ x y =
@@ -27,24 +27,24 @@ read_one A R taken answer bytes vs ids r r' vs₁ vs₂ ids₁ ids₂ x y =
 
 -- ---- a fault is 5 or 6
 
-abbrev pub FiveOrSix : ℕ → Type 0
-FiveOrSix n = (n ≡ 5) ⊎ (n ≡ 6)
+abbrev pub FiveOrSix : Refusal → Type 0
+FiveOrSix n = (n ≡ Refusal.File) ⊎ (n ≡ Refusal.FileTooLarge)
 
-abbrev Front56 : Front → Type 0
-Front56 (Front.Fault n) = FiveOrSix n
-Front56 (Front.Payload n) = Unit {0}
+abbrev Front56 : Result ℕ Refusal → Type 0
+Front56 (Err n) = FiveOrSix n
+Front56 (Ok n) = Unit {0}
 
-abbrev Ending56 : Ending → Type 0
-Ending56 (Ending.Fault n) = FiveOrSix n
-Ending56 (Ending.Flags flags) = Unit {0}
+abbrev Ending56 : Result FlagValues Refusal → Type 0
+Ending56 (Err n) = FiveOrSix n
+Ending56 (Ok flags) = Unit {0}
 
 abbrev pub File56 : File → Type 0
-File56 (File.Refused n) = FiveOrSix n
-File56 (File.Holds m) = Unit {0}
+File56 (Err n) = FiveOrSix n
+File56 (Ok m) = Unit {0}
 
 tests_56 : (a b c d e : Bool) (n : ℕ) → Front56
-    (cond a (Front.Fault 5) (cond b (Front.Fault 5)
-    (cond c (Front.Fault 5) (cond d (Front.Fault 6) (cond e (Front.Fault 5) (Front.Payload n))))))
+    (cond a (Err Refusal.File) (cond b (Err Refusal.File)
+    (cond c (Err Refusal.File) (cond d (Err Refusal.FileTooLarge) (cond e (Err Refusal.File) (Ok n))))))
 tests_56 true b c d e n = inl refl
 tests_56 false true c d e n = inl refl
 tests_56 false false true d e n = inl refl
@@ -59,15 +59,15 @@ front_56 kind bytes =
     tests_56 (ltb (length bytes) 6) (not (eqb (u16_at bytes 4) kind)) (not (length_fits kind n)) (ltb most_in_file (n / 4))
     (ltb (length bytes) (6 + n)) n
 
-values_56 : (a b : Bool) (c d : ℕ) → Ending56 (cond a (cond b (Ending.Fault 5) (Ending.Flags (flag_values c d))) (Ending.Fault 5))
+values_56 : (a b : Bool) (c d : ℕ) → Ending56 (cond a (cond b (Err Refusal.File) (Ok (flag_values c d))) (Err Refusal.File))
 values_56 true true c d = inl refl
 values_56 true false c d = tt
 values_56 false b c d = inl refl
 
-flags_56 : (k : Front) (bytes : List ℕ) → Front56 k → Ending56 (flags_in k bytes)
+flags_56 : (k : Result ℕ Refusal) (bytes : List ℕ) → Front56 k → Ending56 (flags_in k bytes)
 unfolding flags_in
-flags_56 (Front.Fault n) bytes h = h
-flags_56 (Front.Payload n) bytes h =
+flags_56 (Err n) bytes h = h
+flags_56 (Ok n) bytes h =
     values_56 (flags_fit (byte bytes 6) (byte bytes 7)) (ltb (6 + n) (length bytes)) (byte bytes 6) (byte bytes 7)
 
 ending_56 : (bytes : List ℕ) → Ending56 (ending_of bytes)
@@ -75,25 +75,25 @@ unfolding ending_of
 ending_56 [] = tt
 ending_56 (b ∷ bytes) = flags_56 (front_of 4 (b ∷ bytes)) (b ∷ bytes) (front_56 4 (b ∷ bytes))
 
-ended_56 : (u : ℕ) (vs is : List ℕ) (e : Ending) → Ending56 e → File56 (ended u vs is e)
+ended_56 : (u : ℕ) (vs is : List ℕ) (e : Result FlagValues Refusal) → Ending56 e → File56 (ended u vs is e)
 unfolding ended
-ended_56 u vs is (Ending.Fault n) h = h
-ended_56 u vs is (Ending.Flags flags) h = tt
+ended_56 u vs is (Err n) h = h
+ended_56 u vs is (Ok flags) h = tt
 
-ids_56 : (u : ℕ) (vs : List ℕ) (k : Front) (bytes : List ℕ) → Front56 k → File56 (ids_in u vs k bytes)
+ids_56 : (u : ℕ) (vs : List ℕ) (k : Result ℕ Refusal) (bytes : List ℕ) → Front56 k → File56 (ids_in u vs k bytes)
 unfolding ids_in
-ids_56 u vs (Front.Fault n) bytes h = h
-ids_56 u vs (Front.Payload n) bytes h = ended_56 u vs _ _ (ending_56 _)
+ids_56 u vs (Err n) bytes h = h
+ids_56 u vs (Ok n) bytes h = ended_56 u vs _ _ (ending_56 _)
 
-vertices_56 : (u : ℕ) (k : Front) (bytes : List ℕ) → Front56 k → File56 (vertices_in u k bytes)
+vertices_56 : (u : ℕ) (k : Result ℕ Refusal) (bytes : List ℕ) → Front56 k → File56 (vertices_in u k bytes)
 unfolding vertices_in
-vertices_56 u (Front.Fault n) bytes h = h
-vertices_56 u (Front.Payload n) bytes h = ids_56 u _ _ _ (front_56 3 _)
+vertices_56 u (Err n) bytes h = h
+vertices_56 u (Ok n) bytes h = ids_56 u _ _ _ (front_56 3 _)
 
-unit_56 : (k : Front) (bytes : List ℕ) → Front56 k → File56 (unit_in k bytes)
+unit_56 : (k : Result ℕ Refusal) (bytes : List ℕ) → Front56 k → File56 (unit_in k bytes)
 unfolding unit_in
-unit_56 (Front.Fault n) bytes h = h
-unit_56 (Front.Payload n) bytes h = vertices_56 _ _ _ (front_56 2 _)
+unit_56 (Err n) bytes h = h
+unit_56 (Ok n) bytes h = vertices_56 _ _ _ (front_56 2 _)
 
 pub file_56 : (bytes : List ℕ) → File56 (file_of bytes)
 unfolding file_of
@@ -101,58 +101,58 @@ file_56 bytes = unit_56 (front_of 1 bytes) bytes (front_56 1 bytes)
 
 -- ---- and an area that is too short is 3
 
-abbrev Bits356 : ReadingBits → Type 0
-Bits356 (ReadingBits.Refused n) = By356 n
-Bits356 (ReadingBits.File m) = Unit {0}
+abbrev Bits356 : Result MeshBits Refusal → Type 0
+Bits356 (Err n) = By356 n
+Bits356 (Ok m) = Unit {0}
 
-short_3 : (b : Bool) (m : MeshBits) → Bits356 (cond b (ReadingBits.Refused 3) (ReadingBits.File m))
+short_3 : (b : Bool) (m : MeshBits) → Bits356 (cond b (Err Refusal.ShortArea) (Ok m))
 short_3 true m = inl refl
 short_3 false m = tt
 
 reading_356 : (x : File) (f i : ℕ) → File56 x → Bits356 (reading_of x f i)
 unfolding reading_of
-reading_356 (File.Refused n) f i h = inr h
-reading_356 (File.Holds m) f i h = short_3 (mesh_areas_short m f i) (mesh_bits m)
+reading_356 (Err n) f i h = inr h
+reading_356 (Ok m) f i h = short_3 (mesh_areas_short m f i) (mesh_bits m)
 
-by_356 : (bytes : List ℕ) (f i n : ℕ) → ReadingBits.Refused n ≡ reading_of (file_of bytes) f i → By356 n
+by_356 : (bytes : List ℕ) (f i : ℕ) (n : Refusal) → Err n ≡ reading_of (file_of bytes) f i → By356 n
 by_356 bytes f i n h = subst Bits356 (sym h) (reading_356 (file_of bytes) f i (file_56 bytes))
 
 -- ---- a refusal writes nothing
 
-short_kept : {A B : Type 0} (b : Bool) (n : ℕ) (m : MeshBits) (x x' : A) (y y' : B)
-    → ReadingBits.Refused n ≡ cond b (ReadingBits.Refused 3) (ReadingBits.File m)
+short_kept : {A B : Type 0} (b : Bool) (n : Refusal) (m : MeshBits) (x x' : A) (y y' : B)
+    → Err n ≡ cond b (Err Refusal.ShortArea) (Ok m)
     → (cond b x x' ≡ x) × (cond b y y' ≡ y)
 short_kept true n m x x' y y' h = (refl, refl)
 short_kept false n m x x' y y' h = let z : ◌≡◌ {A = ℕ} 0 1 = cc in absurd (omega arith)
 
-pub kept : {A : Type 0} (taken : List ℕ → List A) (x : File) (vs : List A) (ids : List ℕ) (n : ℕ)
-    → ReadingBits.Refused n ≡ reading_of x (length vs) (length ids)
+pub kept : {A : Type 0} (taken : List ℕ → List A) (x : File) (vs : List A) (ids : List ℕ) (n : Refusal)
+    → Err n ≡ reading_of x (length vs) (length ids)
     → (vertices_after taken x (length ids) vs ≡ vs) × (ids_after x (length vs) ids ≡ ids)
 unfolding reading_of vertices_after ids_after
-kept taken (File.Refused k) vs ids n h = (refl, refl)
-kept taken (File.Holds m) vs ids n h = short_kept (mesh_areas_short m (length vs) (length ids)) n (mesh_bits m) vs _ ids _ h
+kept taken (Err k) vs ids n h = (refl, refl)
+kept taken (Ok m) vs ids n h = short_kept (mesh_areas_short m (length vs) (length ids)) n (mesh_bits m) vs _ ids _ h
 
-module _ {A R : Type 0} (taken : List ℕ → List A) (answer : ReadingBits → R) (bytes : List ℕ) (vs : List A) (ids : List ℕ) where
-  refused_by : (r : R) (n : ℕ) (vs' : List A) (ids' : List ℕ) → ReadsAs taken answer bytes vs ids r vs' ids'
-      → ReadingBits.Refused n ≡ reading_of (file_of bytes) (length vs) (length ids) → By356 n × (vs' ≡ vs) × (ids' ≡ ids)
+module _ {A R : Type 0} (taken : List ℕ → List A) (answer : Result MeshBits Refusal → R) (bytes : List ℕ) (vs : List A) (ids : List ℕ) where
+  refused_by : (r : R) (n : Refusal) (vs' : List A) (ids' : List ℕ) → ReadsAs taken answer bytes vs ids r vs' ids'
+      → Err n ≡ reading_of (file_of bytes) (length vs) (length ids) → By356 n × (vs' ≡ vs) × (ids' ≡ ids)
   refused_by r n vs' ids' x h =
       let k = kept taken (file_of bytes) vs ids n h in
       (by_356 bytes (length vs) (length ids) n h, x.vertices ∙ k.0, x.ids_after_lem ∙ k.1)
 
 pub refused_reading_bits : RefusedReadingBits
-refused_reading_bits bytes ps ids n ps' ids' x = refused_by _ _ bytes ps ids (ReadingBits.Refused n) n ps' ids' x x.answers
+refused_reading_bits bytes ps ids n ps' ids' x = refused_by _ _ bytes ps ids (Err n) n ps' ids' x x.answers
 
 -- floats are refused where patterns are
-as_refused : (b : ReadingBits) (n : ℕ) → Reading.Refused n ≡ as_floats b → ReadingBits.Refused n ≡ b
+as_refused : (b : Result MeshBits Refusal) (n : Refusal) → Err n ≡ as_floats b → Err n ≡ b
 unfolding as_floats
-as_refused (ReadingBits.Refused k) n h =
+as_refused (Err k) n h =
     let same : n ≡ k = cc in
-    ap ReadingBits.Refused same
-as_refused (ReadingBits.File m) n h = let z : ◌≡◌ {A = ℕ} 0 1 = cc in absurd (omega arith)
+    ap Err same
+as_refused (Ok m) n h = let z : ◌≡◌ {A = ℕ} 0 1 = cc in absurd (omega arith)
 
 pub refused_reading : RefusedReading
 refused_reading bytes vs ids n vs' ids' x =
-    refused_by floats_of as_floats bytes vs ids (Reading.Refused n) n vs' ids' x (as_refused _ n x.answers)
+    refused_by floats_of as_floats bytes vs ids (Err n) n vs' ids' x (as_refused _ n x.answers)
 
 -- ---- patterns taken as floats
 
@@ -172,8 +172,8 @@ short_floats false m ps = sym (floats_append m.vertices (length m.vertices) ps)
 after_floats : (x : File) (i : ℕ) (ps : List ℕ)
     → vertices_after floats_of x i (floats_of ps) ≡ floats_of (vertices_after (λ (ws : List ℕ). ws) x i ps)
 unfolding vertices_after
-after_floats (File.Refused n) i ps = refl
-after_floats (File.Holds m) i ps = rw (length_floats ps) (short_floats (mesh_areas_short m (length ps) i) m ps)
+after_floats (Err n) i ps = refl
+after_floats (Ok m) i ps = rw (length_floats ps) (short_floats (mesh_areas_short m (length ps) i) m ps)
 
 pub read_as_floats : ReadAsFloats
 read_as_floats bytes ps ids b ps' ids₁ r vs' ids₂ x y =

@@ -1,5 +1,6 @@
 -- There and back: what was written is read to the bit, and what was read is written to the byte. Both go by what a file holds. Assumes
 -- nothing.
+use Rattle.std.specs.Prelude.{Result, Ok}
 use mathlib.Core.Path.{◌≡◌, refl, sym, ap, ◌∙◌}
 use mathlib.Core.Bool.{false}
 use mathlib.Core.List.{List, [], ◌∷◌, ◌++◌}
@@ -13,8 +14,6 @@ use lib.Seq.{take-append_seam}
 use Rattle.record.specs.Numbers.{profile_at, flags_fit}
 use Rattle.words.specs.Words.{Below}
 use Rattle.meshfile.specs.declared.MeshBits.{MeshBits}
-use Rattle.meshfile.specs.declared.ReadingBits.{ReadingBits}
-use Rattle.meshfile.specs.declared.writing.Writing.{Writing}
 use Rattle.meshfile.specs.Format.{most_in_file, Contents, File, file_of}
 use Rattle.meshfile.specs.Written.{chunk_of, plain_file, file_bytes, Proper, IsFileOf}
 use Rattle.meshfile.specs.Reading.{mesh_areas_short, mesh_bits, reading_of, vertices_after, ids_after}
@@ -26,13 +25,14 @@ use Rattle.meshfile.proofs.Puts.{plain_long, file_long}
 use Rattle.meshfile.proofs.Gives.{reading_held}
 use Rattle.meshfile.proofs.Writes.{not_many, file_written, few}
 use Rattle.meshfile.proofs.Flags.{clip_back, profile_back, flags_known, contents_back}
+use Rattle.ids.specs.declared.refusal.Refusal.{Refusal}
 
 -- ---- reading what was written
 
 -- what was written is a file that holds it
 pub written_held : (m : Contents) → m.unit < 2 ^ 32 → Below (2 ^ 32) m.vertices → Below (2 ^ 32) m.ids
-    → T (flags_fit m.clip m.defect) → (area : List ℕ) (n : ℕ) (area' : List ℕ) → Writes m area (Writing.Length n) area'
-    → file_of (take n area') ≡ File.Holds m
+    → T (flags_fit m.clip m.defect) → (area : List ℕ) (n : ℕ) (area' : List ℕ) → Writes m area (Ok n) area'
+    → file_of (take n area') ≡ Ok m
 unfolding IsFileOf
 written_held m hu hv hi hf area n area' w =
     let least = few m (not_many m area n area' w) in
@@ -47,9 +47,9 @@ written_held m hu hv hi hf area n area' w =
     accepts m (take n area') proper (inl (file_written m area n area' w))
 
 -- so it is read into areas with room for it
-pub held_read : (f : File) (m : Contents) (ps ids : List ℕ) → f ≡ File.Holds m
+pub held_read : (f : File) (m : Contents) (ps ids : List ℕ) → f ≡ Ok m
     → length m.vertices ≤ length ps → length m.ids ≤ length ids
-    → (reading_of f (length ps) (length ids) ≡ ReadingBits.File (mesh_bits m))
+    → (reading_of f (length ps) (length ids) ≡ Ok (mesh_bits m))
     × (vertices_after (λ (ws : List ℕ). ws) f (length ids) ps ≡ m.vertices ++ drop (length m.vertices) ps)
     × (ids_after f (length ps) ids ≡ m.ids ++ drop (length m.ids) ids)
 unfolding reading_of vertices_after ids_after mesh_areas_short
@@ -70,7 +70,7 @@ reads_back u vs is clip profile hu hv hi area n area' w ps ids lv li r ps' ids' 
 no_flags : (c d : ℕ) → c ≡ 0 → d ≡ 0 → c ∷ d ∷ [] ≡ 0 ∷ 0 ∷ []
 no_flags c d p q = rw (p, q)
 
-module _ (bytes : List ℕ) (below : Below 256 bytes) (k : Contents) (held : file_of bytes ≡ File.Holds k) where
+module _ (bytes : List ℕ) (below : Below 256 bytes) (k : Contents) (held : file_of bytes ≡ Ok k) where
   abbrev again : List ℕ
   again = with_kind4 (length k.vertices) (length k.ids) bytes
 
@@ -94,7 +94,7 @@ module _ (bytes : List ℕ) (below : Below 256 bytes) (k : Contents) (held : fil
       rw (le-ltb end (length bytes) none, e.0) (ap (λ (l : List ℕ). plain_file k ++ chunk_of 4 l) flags))
       (accepts_only k bytes below held).1
 
-  held_again : (area : List ℕ) (w : Writing) (area' : List ℕ)
+  held_again : (area : List ℕ) (w : Result ℕ Refusal) (area' : List ℕ)
       → Writes (contents_of k.unit k.vertices k.ids (eqb k.clip 1) (profile_at k.defect)) area w area'
       → FilePut again area w area'
   unfolding writing_of
@@ -111,15 +111,15 @@ same_file bytes below k held =
     ap file_of (sym (bytes_again bytes below k held)) ∙ accepts k (file_bytes k) (proper bytes below k held) (inl refl)
 
 -- the words that were read stand first in their areas
-names_first : (f : File) (k : Contents) (ps ids : List ℕ) → f ≡ File.Holds k → mesh_areas_short k (length ps) (length ids) ≡ false
+names_first : (f : File) (k : Contents) (ps ids : List ℕ) → f ≡ Ok k → mesh_areas_short k (length ps) (length ids) ≡ false
     → (take (length k.vertices) (vertices_after (λ (ws : List ℕ). ws) f (length ids) ps) ≡ k.vertices)
     × (take (length k.ids) (ids_after f (length ps) ids) ≡ k.ids)
 unfolding vertices_after ids_after
 names_first f k ps ids at roomy = rw (at, roomy) (take-append_seam k.vertices _, take-append_seam k.ids _)
 
-module _ (bytes : List ℕ) (below : Below 256 bytes) (ps' ids' : List ℕ) (k : Contents) (held : file_of bytes ≡ File.Holds k) where
+module _ (bytes : List ℕ) (below : Below 256 bytes) (ps' ids' : List ℕ) (k : Contents) (held : file_of bytes ≡ Ok k) where
   by_contents : (m : MeshBits) → m ≡ mesh_bits k → take (length k.vertices) ps' ≡ k.vertices → take (length k.ids) ids' ≡ k.ids
-      → (area : List ℕ) (w : Writing) (area' : List ℕ) → Rewrites m ps' ids' area w area'
+      → (area : List ℕ) (w : Result ℕ Refusal) (area' : List ℕ) → Rewrites m ps' ids' area w area'
       → FilePut (with_kind4 m.floats m.ids bytes) area w area'
   by_contents m same hv hi area w area' y = rw same (held_again bytes below k held area w area' (rw (same, hv, hi) at y))
 

@@ -1,24 +1,26 @@
--- The answers as numbers, as the C interface has them, the contracts of its two forms, and there and back by them. A refusal n is 2^31 + n.
-use Rattle.std.specs.Prelude.{◌≡◌, ℕ, ◌+◌, ◌^◌, ◌≤◌, ◌<◌, not, cond, List, [], ◌∷◌, ◌++◌, length, take, drop}
+-- The answers as numbers, as the C interface has them, the contracts of its two forms, and there and back by them. A refusal of the
+-- number n is 2^31 + n.
+use Rattle.std.specs.Prelude.{◌≡◌, ℕ, ◌+◌, ◌^◌, ◌≤◌, ◌<◌, not, cond, List, [], ◌∷◌, ◌++◌, length, take, drop, Result, Ok, Err}
 use Rattle.record.specs.Numbers.{profile_number, flags_fit}
 use Rattle.words.specs.Words.{Below}
-use Rattle.meshfile.specs.declared.ReadingBits.{ReadingBits}
-use Rattle.meshfile.specs.declared.writing.Writing.{Writing}
+use Rattle.meshfile.specs.declared.MeshBits.{MeshBits}
 use Rattle.meshfile.specs.Format.{Contents, file_of}
 use Rattle.meshfile.specs.Written.{file_bytes}
 use Rattle.meshfile.specs.Reading.{reading_of, vertices_after, ids_after}
 use Rattle.meshfile.specs.Writing.{writing_of, bytes_after}
 use Rattle.meshfile.specs.RoundTrip.{with_kind4, FilePut}
+use Rattle.ids.specs.declared.refusal.Refusal.{Refusal}
+use Rattle.ids.specs.Refusal.{refusal_number}
 
 -- ---- mf_write_mesh
 
--- the flags come as numbers: a value that is none is 5, tried first
-unfoldable pub flags_then : Contents → Writing → Writing
-flags_then m r = cond (not (flags_fit m.clip m.defect)) (Writing.Refused 5) r
+-- the flags come as numbers: a value that is none is refused, tried first
+unfoldable pub flags_then : Contents → Result ℕ Refusal → Result ℕ Refusal
+flags_then m r = cond (not (flags_fit m.clip m.defect)) (Err Refusal.File) r
 
-unfoldable pub writing_number : Writing → ℕ
-writing_number (Writing.Length n) = n
-writing_number (Writing.Refused n) = 2147483648 + n
+unfoldable pub writing_number : Result ℕ Refusal → ℕ
+writing_number (Ok n) = n
+writing_number (Err refusal) = 2147483648 + refusal_number refusal
 
 -- of contents m with flags of any value and a lent area come the number k and the later area
 pub record WritesNumbered (m : Contents) (area : List ℕ) (k : ℕ) (area' : List ℕ) : Type 0 where
@@ -32,15 +34,15 @@ WriteNumberedOne = (m : Contents) (area : List ℕ) (k k' : ℕ) (area₁ area�
 
 -- ---- mf_read_mesh
 
-unfoldable pub reading_number : ReadingBits → ℕ
-reading_number (ReadingBits.File m) = 0
-reading_number (ReadingBits.Refused n) = 2147483648 + n
+unfoldable pub reading_number : Result MeshBits Refusal → ℕ
+reading_number (Ok m) = 0
+reading_number (Err refusal) = 2147483648 + refusal_number refusal
 
 -- the numbers of floats and ids, the unit's pattern, the flags; a refusal leaves what was there
-unfoldable pub counts_after : ReadingBits → List ℕ → List ℕ
-counts_after (ReadingBits.File m) five =
+unfoldable pub counts_after : Result MeshBits Refusal → List ℕ → List ℕ
+counts_after (Ok m) five =
     m.floats ∷ m.ids ∷ m.unit ∷ cond m.clip 1 0 ∷ profile_number m.profile ∷ []
-counts_after (ReadingBits.Refused n) five = five
+counts_after (Err refusal) five = five
 
 -- of bytes, lent patterns, ids and five counts come the number k and their later contents
 pub record ReadsNumbered (bytes ps ids five : List ℕ) (k : ℕ) (ps' ids' five' : List ℕ) : Type 0 where
@@ -72,4 +74,4 @@ WritesBackNumbered = (bytes : List ℕ) → Below 256 bytes
     → (ps ids five ps' ids' : List ℕ) (f i u c d : ℕ) → ReadsNumbered bytes ps ids five 0 ps' ids' (f ∷ i ∷ u ∷ c ∷ d ∷ [])
     → (area : List ℕ) (k : ℕ) (area' : List ℕ)
     → WritesNumbered (record { unit = u; vertices = take f ps'; ids = take i ids'; clip = c; defect = d }) area k area'
-    → (w : Writing) × (k ≡ writing_number w) × FilePut (with_kind4 f i bytes) area w area'
+    → (w : Result ℕ Refusal) × (k ≡ writing_number w) × FilePut (with_kind4 f i bytes) area w area'

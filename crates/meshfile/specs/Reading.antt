@@ -1,19 +1,18 @@
 -- What comes back of `read` and of `read_bits`, and what they leave in the lent vertices and ids: for every list of bytes one answer,
 -- and one later content of each area. `read` is `read_bits` with each pattern taken as a float, the unit's too.
-use Rattle.std.specs.Prelude.{◌≡◌, ◌⊎◌, ℕ, Bool, ◌||◌, cond, List, ◌++◌, eqb, ltb, length, drop, Float}
+use Rattle.std.specs.Prelude.{◌≡◌, ◌⊎◌, ℕ, Bool, ◌||◌, cond, List, ◌++◌, eqb, ltb, length, drop, Float, Result, Ok, Err}
 use Rattle.std.specs.Float.{binary32}
 use Rattle.std.specs.Float.Ieee.{of_bits}
 use Rattle.record.specs.Numbers.{profile_at}
 use Rattle.words.specs.Words.{floats_of}
 use Rattle.meshfile.specs.declared.MeshBits.{MeshBits}
 use Rattle.meshfile.specs.declared.MeshFile.{MeshFile}
-use Rattle.meshfile.specs.declared.Reading.{Reading}
-use Rattle.meshfile.specs.declared.ReadingBits.{ReadingBits}
 use Rattle.meshfile.specs.Format.{Contents, File, file_of}
+use Rattle.ids.specs.declared.refusal.Refusal.{Refusal}
 
 -- ---- on patterns
 
--- refusal 3: an area of f floats or of i ids is too short for what the file holds
+-- refused: an area of f floats or of i ids is too short for what the file holds
 unfoldable pub mesh_areas_short : Contents → ℕ → ℕ → Bool
 mesh_areas_short m f i = ltb f (length m.vertices) || ltb i (length m.ids)
 
@@ -28,9 +27,9 @@ mesh_bits m =
     }
 
 -- by the lengths of the two areas
-unfoldable pub reading_of : File → ℕ → ℕ → ReadingBits
-reading_of (File.Refused n) f i = ReadingBits.Refused n
-reading_of (File.Holds m) f i = cond (mesh_areas_short m f i) (ReadingBits.Refused 3) (ReadingBits.File (mesh_bits m))
+unfoldable pub reading_of : File → ℕ → ℕ → Result MeshBits Refusal
+reading_of (Err refusal) f i = Err refusal
+reading_of (Ok m) f i = cond (mesh_areas_short m f i) (Err Refusal.ShortArea) (Ok (mesh_bits m))
 
 -- ---- a pattern taken as a float
 
@@ -38,62 +37,63 @@ abbrev pub with_float : MeshBits → MeshFile
 with_float m =
     record { unit = of_bits binary32 m.unit; floats = m.floats; ids = m.ids; clip = m.clip; profile = m.profile }
 
-unfoldable pub as_floats : ReadingBits → Reading
-as_floats (ReadingBits.Refused n) = Reading.Refused n
-as_floats (ReadingBits.File m) = Reading.File (with_float m)
+unfoldable pub as_floats : Result MeshBits Refusal → Result MeshFile Refusal
+as_floats (Err refusal) = Err refusal
+as_floats (Ok m) = Ok (with_float m)
 
 -- ---- the areas
 
 -- what stands in an area afterwards: first the file's vertices, what `taken` makes of their words, or its ids, the rest untouched; on a
 -- refusal all of it
 unfoldable pub vertices_after : {A : Type 0} → (List ℕ → List A) → File → ℕ → List A → List A
-vertices_after taken (File.Refused n) i area = area
-vertices_after taken (File.Holds m) i area =
+vertices_after taken (Err refusal) i area = area
+vertices_after taken (Ok m) i area =
     cond (mesh_areas_short m (length area) i) area (taken m.vertices ++ drop (length m.vertices) area)
 
 unfoldable pub ids_after : File → ℕ → List ℕ → List ℕ
-ids_after (File.Refused n) f area = area
-ids_after (File.Holds m) f area = cond (mesh_areas_short m f (length area)) area (m.ids ++ drop (length m.ids) area)
+ids_after (Err refusal) f area = area
+ids_after (Ok m) f area = cond (mesh_areas_short m f (length area)) area (m.ids ++ drop (length m.ids) area)
 
 -- The complete contract: of bytes and lent vertices vs and ids come the answer r and the later vs' and ids'. `taken` says what the
 -- vertices' words become, `answer` what the answer on patterns becomes.
-pub record ReadsAs {A R : Type 0} (taken : List ℕ → List A) (answer : ReadingBits → R) (bytes : List ℕ) (vs : List A) (ids : List ℕ)
-    (r : R) (vs' : List A) (ids' : List ℕ) : Type 0 where
+pub record ReadsAs {A R : Type 0} (taken : List ℕ → List A) (answer : Result MeshBits Refusal → R) (bytes : List ℕ) (vs : List A)
+    (ids : List ℕ) (r : R) (vs' : List A) (ids' : List ℕ) : Type 0 where
   pub answers : r ≡ answer (reading_of (file_of bytes) (length vs) (length ids))
   pub vertices : vs' ≡ vertices_after taken (file_of bytes) (length ids) vs
   pub ids_after_lem : ids' ≡ ids_after (file_of bytes) (length vs) ids
 
 -- of `read_bits`: the words themselves
-abbrev pub ReadsBits : List ℕ → List ℕ → List ℕ → ReadingBits → List ℕ → List ℕ → Type 0
-ReadsBits = ReadsAs (λ (ws : List ℕ). ws) (λ (r : ReadingBits). r)
+abbrev pub ReadsBits : List ℕ → List ℕ → List ℕ → Result MeshBits Refusal → List ℕ → List ℕ → Type 0
+ReadsBits = ReadsAs (λ (ws : List ℕ). ws) (λ (r : Result MeshBits Refusal). r)
 
 -- of `read`: each as a float
-abbrev pub Reads : List ℕ → List Float → List ℕ → Reading → List Float → List ℕ → Type 0
+abbrev pub Reads : List ℕ → List Float → List ℕ → Result MeshFile Refusal → List Float → List ℕ → Type 0
 Reads = ReadsAs floats_of as_floats
 
 -- ---- what is proved of it
 
-abbrev pub By356 : ℕ → Type 0
-By356 n = (n ≡ 3) ⊎ (n ≡ 5) ⊎ (n ≡ 6)
+abbrev pub By356 : Refusal → Type 0
+By356 refusal = (refusal ≡ Refusal.ShortArea) ⊎ (refusal ≡ Refusal.File) ⊎ (refusal ≡ Refusal.FileTooLarge)
 
--- Reading refuses by 3, 5 and 6 only, and a refusal leaves both areas as they were. (`refused_reading`, `refused_reading_bits`)
+-- Reading refuses by 3, 5 and 6 of document 01's table only, and a refusal leaves both areas as they were. (`refused_reading`, `refused_reading_bits`)
 abbrev pub RefusedReading : Type 0
-RefusedReading = (bytes : List ℕ) (vs : List Float) (ids : List ℕ) (n : ℕ) (vs' : List Float) (ids' : List ℕ)
-    → Reads bytes vs ids (Reading.Refused n) vs' ids' → By356 n × (vs' ≡ vs) × (ids' ≡ ids)
+RefusedReading = (bytes : List ℕ) (vs : List Float) (ids : List ℕ) (refusal : Refusal) (vs' : List Float) (ids' : List ℕ)
+    → Reads bytes vs ids (Err refusal) vs' ids' → By356 refusal × (vs' ≡ vs) × (ids' ≡ ids)
 
 abbrev pub RefusedReadingBits : Type 0
-RefusedReadingBits = (bytes ps ids : List ℕ) (n : ℕ) (ps' ids' : List ℕ)
-    → ReadsBits bytes ps ids (ReadingBits.Refused n) ps' ids' → By356 n × (ps' ≡ ps) × (ids' ≡ ids)
+RefusedReadingBits = (bytes ps ids : List ℕ) (refusal : Refusal) (ps' ids' : List ℕ)
+    → ReadsBits bytes ps ids (Err refusal) ps' ids' → By356 refusal × (ps' ≡ ps) × (ids' ≡ ids)
 
 -- Any two answers that the contract allows are equal, and so is what is left in the areas. (`read_one`)
 abbrev pub ReadOne : Type 1
-ReadOne = (A R : Type 0) (taken : List ℕ → List A) (answer : ReadingBits → R) (bytes : List ℕ) (vs : List A) (ids : List ℕ)
+ReadOne = (A R : Type 0) (taken : List ℕ → List A) (answer : Result MeshBits Refusal → R) (bytes : List ℕ) (vs : List A) (ids : List ℕ)
     (r r' : R) (vs₁ vs₂ : List A) (ids₁ ids₂ : List ℕ)
     → ReadsAs taken answer bytes vs ids r vs₁ ids₁ → ReadsAs taken answer bytes vs ids r' vs₂ ids₂
     → (r ≡ r') × (vs₁ ≡ vs₂) × (ids₁ ≡ ids₂)
 
 -- Lent the floats of what `read_bits` is lent, `read` answers and leaves the floats of what `read_bits` does. (`read_as_floats`)
 abbrev pub ReadAsFloats : Type 0
-ReadAsFloats = (bytes ps ids : List ℕ) (b : ReadingBits) (ps' ids₁ : List ℕ) (r : Reading) (vs' : List Float) (ids₂ : List ℕ)
+ReadAsFloats = (bytes ps ids : List ℕ) (b : Result MeshBits Refusal) (ps' ids₁ : List ℕ) (r : Result MeshFile Refusal) (vs' : List Float)
+    (ids₂ : List ℕ)
     → ReadsBits bytes ps ids b ps' ids₁ → Reads bytes (floats_of ps) ids r vs' ids₂
     → (r ≡ as_floats b) × (vs' ≡ floats_of ps') × (ids₂ ≡ ids₁)

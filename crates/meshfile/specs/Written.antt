@@ -1,5 +1,5 @@
 -- The format from the writer's side: the bytes of a file that holds given contents. Reading accepts these and no others.
-use Rattle.std.specs.Prelude.{◌≡◌, ◌⊎◌, ℕ, ◌^◌, ◌≤◌, ◌<◌, List, [], ◌∷◌, ◌++◌, T, length, take}
+use Rattle.std.specs.Prelude.{◌≡◌, ◌⊎◌, ℕ, ◌^◌, ◌≤◌, ◌<◌, List, [], ◌∷◌, ◌++◌, T, length, take, Ok}
 use Rattle.record.specs.Numbers.{flags_fit}
 use Rattle.words.specs.Words.{bytes_of, all_bytes, Below}
 use Rattle.meshfile.specs.Format.{most_in_file, Contents, File, file_of}
@@ -31,16 +31,16 @@ IsFileOf m bytes = (bytes ≡ file_bytes m) ⊎ ((bytes ≡ plain_file m) × (m.
 -- The theorems: reading holds exactly what was written; a file is at most 12,318 bytes long, and of longer input the first
 -- 12,319 bytes decide, which is why the program needs to keep no more.
 abbrev pub Accepts : Type 0
-Accepts = (m : Contents) (bytes : List ℕ) → Proper m → IsFileOf m bytes → file_of bytes ≡ File.Holds m
+Accepts = (m : Contents) (bytes : List ℕ) → Proper m → IsFileOf m bytes → file_of bytes ≡ Ok m
 
 abbrev pub AcceptsOnly : Type 0
-AcceptsOnly = (m : Contents) (bytes : List ℕ) → Below 256 bytes → file_of bytes ≡ File.Holds m → Proper m × IsFileOf m bytes
+AcceptsOnly = (m : Contents) (bytes : List ℕ) → Below 256 bytes → file_of bytes ≡ Ok m → Proper m × IsFileOf m bytes
 
 abbrev pub longest : ℕ
 longest = 12318
 
 abbrev pub FilesAreShort : Type 0
-FilesAreShort = (m : Contents) (bytes : List ℕ) → file_of bytes ≡ File.Holds m → length bytes ≤ longest
+FilesAreShort = (m : Contents) (bytes : List ℕ) → file_of bytes ≡ Ok m → length bytes ≤ longest
 
 abbrev pub FrontDecidesFile : Type 0
 FrontDecidesFile = (bytes : List ℕ) → longest < length bytes → file_of (take 12319 bytes) ≡ file_of bytes

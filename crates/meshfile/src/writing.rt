@@ -6,14 +6,8 @@ ghost use Rattle.meshfile.specs.Format.{most_in_file};
 ghost use Rattle.meshfile.specs.Written.{chunk_of, file_bytes};
 ghost use Rattle.meshfile.specs.Writing.{contents_of, Writes};
 
+use ids::Refusal;
 use record::Profile;
-
-// The file's length, or a refusal.
-#[derive(Clone, Copy)]
-pub enum Writing {
-    Length(usize),
-    Refused(u8),
-}
 
 // ---- one record, into an area of its length
 
@@ -61,8 +55,8 @@ fn put_file(unit: u32, vertices: &[u32], ids: &[u32], clip: bool, profile: Profi
     put_flags(clip, profile, &mut area[ids_end..]);
 }
 
-// The file, kind 4 among its records, goes to the front of the bytes. A refusal writes nothing: 6 for more than 1,536 floats or ids, then
-// 3 for too few bytes.
+// The file, kind 4 among its records, goes to the front of the bytes, and its length comes back. A refusal writes nothing: of more than
+// 1,536 floats or ids, and then of too few bytes.
 pub fn write(
     unit: u32,
     vertices: &[u32],
@@ -70,17 +64,17 @@ pub fn write(
     clip: bool,
     profile: Profile,
     bytes: &mut [u8],
-) -> Writing
+) -> Result<usize, Refusal>
     ensures { Writes (contents_of unit vertices.now ids.now clip profile) bytes.old result
         bytes.new }
 {
     if (1536 < vertices.len()) | (1536 < ids.len()) {
-        return Writing::Refused(6);
+        return Err(Refusal::FileTooLarge);
     }
     let n = 30 + 4 * vertices.len() + 4 * ids.len();
     if bytes.len() < n {
-        return Writing::Refused(3);
+        return Err(Refusal::ShortArea);
     }
     put_file(unit, vertices, ids, clip, profile, &mut bytes[..n]);
-    Writing::Length(n)
+    Ok(n)
 }

@@ -1,4 +1,5 @@
 -- The cube's text, by computing: its file, its record, its rows and its pieces, and then the listing of these. Assumes nothing.
+use Rattle.std.specs.Prelude.{Ok}
 use mathlib.Core.Path.{◌≡◌, refl}
 use lib.Ieee.{binary32, add, climb, div, eq, is_nan, le, lt, mul, neg, odd, of_bits, of_fields, of_int, round, size as numberSize, span, sub}
 use lib.Ieee.{sum, to_signed, units}
@@ -39,7 +40,7 @@ use Rattle.listing.proofs.Cube.{cube_lines}
 use Rattle.program.specs.Program.{named_edition, listed, mesh_text, text_at, text_for, text_of}
 use Rattle.program.specs.Cube.{cube_file, CubePrinted}
 
-cube_file_lem : file_of (plain_file cube_file) ≡ File.Holds cube_file
+cube_file_lem : file_of (plain_file cube_file) ≡ Ok cube_file
 unfolding cube_file plain_file chunk_of all_bytes bytes_of file_of front_of u16_at u32_at words_in length_fits unit_in vertices_in ids_in ended ending_of
 cube_file_lem = refl
 

@@ -1,4 +1,6 @@
 -- Callees that could refuse an area do not: what they answer is the count of the pieces, and the length of the text that they put.
+use Rattle.std.specs.Prelude.{Result, Ok, IsOk}
+use Rattle.ids.specs.declared.refusal.Refusal.{Refusal}
 use mathlib.Core.Path.{◌≡◌, refl, ap}
 use Prim.Native.Nat.{ℕ, ◌+◌, ◌*◌, ◌≤◌}
 use mathlib.Core.Bool.{Bool, true, false}
@@ -16,7 +18,6 @@ use Rattle.record.specs.declared.Profile.{Profile}
 use Rattle.record.specs.Flags.{marked, if_clip, if_invalid, flagged}
 use Rattle.pieces.specs.declared.PieceCount.{PieceCount}
 use Rattle.pieces.specs.Answer.{PiecesGiven}
-use Rattle.listing.specs.declared.Listed.{Listed}
 use Rattle.listing.specs.Listing.{listing_of, refused_line}
 use Rattle.listing.specs.Lists.{head_bytes, text_bytes, text_areas_short, listed_as, area_with, listing_for, Lists, ListsRefusal}
 use Rattle.program.specs.Program.{Prints}
@@ -36,17 +37,18 @@ pieces_counted ids area r after hi ha given =
 
 -- ---- texts
 
-unfoldable pub length_in : Listed → ℕ
-length_in (Listed.Length n) = n
-length_in (Listed.Refused n) = 0
+-- it was put, and its length came back
+abbrev pub Listed : (text area : List ℕ) (r : Result ℕ Refusal) (area' : List ℕ) → Type 0
+Listed text area r area' = IsOk r × ((k : ℕ) → r ≡ Ok k → Prints text area k area')
 
-listed_prints : (b : Bool) (text area : List ℕ) (r : Listed) (area' : List ℕ) → b ≡ false → r ≡ listed_as b text
-    → area' ≡ area_with b text area → Prints text area (length_in r) area'
-unfolding length_in listed_as area_with
-listed_prints b text area r area' e hr ha = record { answers = rw (hr, e); later = rw (ha, e) }
+listed_prints : (b : Bool) (text area : List ℕ) (r : Result ℕ Refusal) (area' : List ℕ) → b ≡ false → r ≡ listed_as b text
+    → area' ≡ area_with b text area → Listed text area r area'
+unfolding listed_as area_with
+listed_prints b text area r area' e hr ha =
+    (rw (hr, e) refl, λ k hk. let said : r ≡ Ok (length text) = rw (hr, e) in record { answers = cc; later = rw (ha, e) })
 
-pub refusal_prints : (n : ℕ) (area : List ℕ) (r : Listed) (area' : List ℕ) → head_bytes ≤ length area → ListsRefusal n area r area'
-    → Prints (refused_line n) area (length_in r) area'
+pub refusal_prints : (n : ℕ) (area : List ℕ) (r : Result ℕ Refusal) (area' : List ℕ) → head_bytes ≤ length area → ListsRefusal n area r area'
+    → Listed (refused_line n) area r area'
 unfolding text_bytes
 refusal_prints n area r area' h given =
     listed_prints _ (refused_line n) area r area' (le-ltb (length area) head_bytes h) given.answers given.text
@@ -71,10 +73,10 @@ module _ (clip : Bool) (p : Profile) (q : MeshQto) (s : List Float) (n : ℕ) (a
   unfolding listing_for
   same_text = ap (λ (k : ℕ). listing_of (flagged clip p q) (rows_of (take (4 * k) s)) n) (keeps_count clip p q)
 
-  pub record_prints : (f : MeshQto) (r : Listed) (area' : List ℕ) → f ≡ flagged clip p q → 4 * q.surface_count ≤ length s
+  pub record_prints : (f : MeshQto) (r : Result ℕ Refusal) (area' : List ℕ) → f ≡ flagged clip p q → 4 * q.surface_count ≤ length s
       → head_bytes + 36 * q.surface_count ≤ length area
-      → Lists f s n area r area' → Prints (listing_of (flagged clip p q) (rows_of (take (4 * q.surface_count) s)) n) area
-      (length_in r) area'
+      → Lists f s n area r area'
+      → Listed (listing_of (flagged clip p q) (rows_of (take (4 * q.surface_count) s)) n) area r area'
   record_prints f r area' e hs ha given =
       rw (← same_text)
       (listed_prints (text_areas_short (flagged clip p q).surface_count (length s) (length area))

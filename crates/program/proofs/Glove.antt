@@ -1,4 +1,5 @@
 -- The glove for the program, from that for the record: the text is made of the record, its rows and the pieces. Assumes nothing.
+use Rattle.std.specs.Prelude.{Ok}
 use mathlib.Core.Path.{◌≡◌, refl, sym, subst}
 use mathlib.Core.List.{List}
 use Prim.Native.Nat.{ℕ}
@@ -57,7 +58,7 @@ module _ (m : Contents) where
   same_text Check.Zero e shut = rw (reversed_alike m.ids).piece_count
   same_text Check.Full e shut = absurd (shut e)
 
-  texts : TurnedTexts m m' (text_for (File.Holds m)) (text_for (File.Holds m'))
+  texts : TurnedTexts m m' (text_for (Ok m)) (text_for (Ok m'))
   unfolding text_for mesh_text text_at listed
   texts =
       record {
@@ -81,5 +82,5 @@ pub text_turns : TextTurns
 unfolding text_of
 text_turns m m' bytes bytes' h h' unit vertices ids clip defect =
     rw (h, h')
-    (subst (λ (x : Contents). TurnedTexts m x (text_for (File.Holds m)) (text_for (File.Holds x)))
+    (subst (λ (x : Contents). TurnedTexts m x (text_for (Ok m)) (text_for (Ok x)))
     (but_for_ids m m' unit vertices ids clip defect) (texts m))

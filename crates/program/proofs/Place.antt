@@ -1,4 +1,5 @@
 -- Demand 3 for the program, from that for the record: the text is made of the record, its rows and the ids. Assumes nothing.
+use Rattle.std.specs.Prelude.{Ok}
 use mathlib.Core.Path.{◌≡◌, refl, sym, subst, ◌∙◌}
 use mathlib.Core.List.{List}
 use Prim.Native.Nat.{ℕ}
@@ -70,7 +71,7 @@ module _ (m : Contents) (vertices : List ℕ) where
         let same = same_record (mesh_record m).mesh_quality (mesh_record m) (mesh_record m') (records e).rest not_open in
         rw (same_rows e, same)
 
-    texts : AgreeTexts m m' (text_for (File.Holds m)) (text_for (File.Holds m'))
+    texts : AgreeTexts m m' (text_for (Ok m)) (text_for (Ok m'))
     unfolding text_for mesh_text text_at listed
     texts =
         record {
@@ -88,9 +89,9 @@ module _ (m : Contents) (vertices : List ℕ) where
 -- two meshes of which the second is the first moved
 pub moved_texts : (dx dy dz : ℤ) (m m' : Contents) → m'.unit ≡ m.unit → m'.ids ≡ m.ids → m'.clip ≡ m.clip → m'.defect ≡ m.defect
     → Moved dx dy dz (mesh_floats m) (mesh_floats m') → T (unit_enough (mesh_unit m))
-    → AgreeTexts m m' (text_for (File.Holds m)) (text_for (File.Holds m'))
+    → AgreeTexts m m' (text_for (Ok m)) (text_for (Ok m'))
 moved_texts dx dy dz m m' unit ids clip defect moved enough =
-    subst (λ (x : Contents). AgreeTexts m x (text_for (File.Holds m)) (text_for (File.Holds x))) (but_for_floats m m' unit ids clip defect)
+    subst (λ (x : Contents). AgreeTexts m x (text_for (Ok m)) (text_for (Ok x))) (but_for_floats m m' unit ids clip defect)
     (texts m m'.vertices dx dy dz moved enough)
 
 pub text_does_not_show : TextDoesNotShow

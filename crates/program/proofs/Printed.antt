@@ -1,5 +1,8 @@
 -- The text that was printed lies within its area; there is one for every input; input that is longer than any file is refused, and its
 -- first bytes decide how.
+use Rattle.std.specs.Prelude.{Ok, Err}
+use Rattle.ids.specs.declared.refusal.Refusal.{Refusal}
+use Rattle.ids.specs.Refusal.{refusal_number}
 use mathlib.Core.Path.{◌≡◌, refl, sym, ap, ◌∙◌}
 use mathlib.Core.Logic.{◌⊎◌}
 use Prim.Native.Nat.{ℕ, ◌+◌, ◌≤◌, ◌<◌}
@@ -46,11 +49,11 @@ module _ (text : List ℕ → List ℕ) (most : ℕ) (front : KeptDecides text m
         | no k ↦ more_decides l input h (omega arith)
       ]
 
-pub refused_text : (f : File) → File56 f → ((m : Contents) → f ≡ File.Holds m → ⊥)
-    → (n : ℕ) × ((n ≡ 5) ⊎ (n ≡ 6)) × (text_for f ≡ refused_line n)
+pub refused_text : (f : File) → File56 f → ((m : Contents) → f ≡ Ok m → ⊥)
+    → (n : Refusal) × ((n ≡ Refusal.File) ⊎ (n ≡ Refusal.FileTooLarge)) × (text_for f ≡ refused_line (refusal_number n))
 unfolding text_for
-refused_text (File.Refused n) h none = (n, h, refl)
-refused_text (File.Holds m) h none = absurd (none m refl)
+refused_text (Err n) h none = (n, h, refl)
+refused_text (Ok m) h none = absurd (none m refl)
 
 -- ---- for a mesh file
 

@@ -1,5 +1,6 @@
 -- What is proved of the text of an STL beside the contract: which bytes do not show, which refusals it can meet; that input which is longer
 -- than any file is refused, and its first bytes decide how; and demand 3, from that for a mesh. Assumes nothing.
+use Rattle.std.specs.Prelude.{Result, Ok, Err}
 use mathlib.Core.Path.{◌≡◌, refl, ap}
 use Prim.Native.Nat.{ℕ, zero, suc, ◌+◌, ◌*◌, ◌≤◌, ◌<◌}
 use mathlib.Core.Bool.{true, ◌||◌}
@@ -13,7 +14,7 @@ use lib.Ieee.{binary32, le, of_bits}
 use Rattle.refusals.specs.Refusals.{unit_fits}
 use Rattle.place.specs.Moved.{unit_enough}
 use Rattle.meshfile.specs.Format.{Contents, File}
-use Rattle.stl.specs.declared.Stl.{Stl}
+use Rattle.ids.specs.declared.refusal.Refusal.{Refusal}
 use Rattle.stl.specs.Stl.{stl_length, stl_of, ids_to}
 use Rattle.stl.specs.Reading.{most_triangles}
 use Rattle.stl.specs.Worth.{IsStl, SameWhereSeen}
@@ -33,17 +34,17 @@ use Rattle.program.proofs.Suffice.{areas_suffice}
 use Rattle.program.proofs.Place.{moved_texts}
 
 -- nine floats a triangle
-nine_each : (bytes : List ℕ) (n : ℕ) → stl_of most_triangles bytes ≡ Stl.Triangles n → length (mesh_floats (stl_contents bytes n)) ≡ 9 * n
+nine_each : (bytes : List ℕ) (n : ℕ) → stl_of most_triangles bytes ≡ Ok n → length (mesh_floats (stl_contents bytes n)) ≡ 9 * n
 nine_each bytes n e =
     let is : IsStl most_triangles n bytes = (taken_exactly most_triangles n bytes).only_these e in
     (mesh_of_stl n bytes (omega (arith, is.size))).floats_length
 
 -- ---- what does not show, and what can be refused
 
-file_alike : (bytes bytes' : List ℕ) → SameWhereSeen bytes bytes' → (r : Stl) → stl_file r bytes' ≡ stl_file r bytes
+file_alike : (bytes bytes' : List ℕ) → SameWhereSeen bytes bytes' → (r : Result ℕ Refusal) → stl_file r bytes' ≡ stl_file r bytes
 unfolding stl_file
-file_alike bytes bytes' same (Stl.Refused n) = refl
-file_alike bytes bytes' same (Stl.Triangles n) = rw (same_corners bytes bytes' same n)
+file_alike bytes bytes' same (Err n) = refl
+file_alike bytes bytes' same (Ok n) = rw (same_corners bytes bytes' same n)
 
 pub stl_unseen : StlUnseen
 unfolding stl_text_of
@@ -77,14 +78,14 @@ stl_check bytes n e =
 -- ---- input that is longer than any file
 
 module _ (bytes : List ℕ) (long : stl_length most_triangles < length bytes) where
-  no_mesh : (n : ℕ) → stl_of most_triangles bytes ≡ Stl.Triangles n → ⊥
+  no_mesh : (n : ℕ) → stl_of most_triangles bytes ≡ Ok n → ⊥
   no_mesh n e = let short = stl_files_are_short most_triangles n bytes e in omega arith
 
 -- of a refusal the bytes are not asked
-refused_alike : (r : Stl) → ((n : ℕ) → r ≡ Stl.Triangles n → ⊥) → (bytes bytes' : List ℕ) → stl_file r bytes ≡ stl_file r bytes'
+refused_alike : (r : Result ℕ Refusal) → ((n : ℕ) → r ≡ Ok n → ⊥) → (bytes bytes' : List ℕ) → stl_file r bytes ≡ stl_file r bytes'
 unfolding stl_file
-refused_alike (Stl.Refused n) none bytes bytes' = refl
-refused_alike (Stl.Triangles n) none bytes bytes' = absurd (none n refl)
+refused_alike (Err n) none bytes bytes' = refl
+refused_alike (Ok n) none bytes bytes' = absurd (none n refl)
 
 pub stl_text_front_decides : KeptDecides stl_text_of (stl_length most_triangles)
 unfolding stl_text_of
@@ -98,15 +99,15 @@ stl_text_front = front_alike stl_text_of (stl_length most_triangles) stl_text_fr
 -- what `run_stl_front` needs to know
 pub ruleset by_stl_front = (take_all, stl_text_front)
 
-refused_56 : (r : Stl) (bytes : List ℕ) → Stl56 r → File56 (stl_file r bytes)
+refused_56 : (r : Result ℕ Refusal) (bytes : List ℕ) → Stl56 r → File56 (stl_file r bytes)
 unfolding stl_file
-refused_56 (Stl.Refused n) bytes h = h
-refused_56 (Stl.Triangles n) bytes h = tt
+refused_56 (Err n) bytes h = h
+refused_56 (Ok n) bytes h = tt
 
-not_held : (r : Stl) (bytes : List ℕ) → ((n : ℕ) → r ≡ Stl.Triangles n → ⊥) → (m : Contents) → stl_file r bytes ≡ File.Holds m → ⊥
+not_held : (r : Result ℕ Refusal) (bytes : List ℕ) → ((n : ℕ) → r ≡ Ok n → ⊥) → (m : Contents) → stl_file r bytes ≡ Ok m → ⊥
 unfolding stl_file
-not_held (Stl.Refused n) bytes none m e = let y : ◌≡◌ {A = ℕ} 0 1 = cc in absurd (omega arith)
-not_held (Stl.Triangles n) bytes none m e = none n refl
+not_held (Err n) bytes none m e = let y : ◌≡◌ {A = ℕ} 0 1 = cc in absurd (omega arith)
+not_held (Ok n) bytes none m e = none n refl
 
 pub stl_long_refused : LongRefused stl_text_of (stl_length most_triangles)
 unfolding stl_text_of

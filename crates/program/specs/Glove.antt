@@ -1,5 +1,5 @@
 -- The glove for the program (02, A9): what it prints for a file, and for the same file with the last two ids of every triangle swapped.
-use Rattle.std.specs.Prelude.{◌≡◌, List, ℕ}
+use Rattle.std.specs.Prelude.{◌≡◌, List, ℕ, Ok}
 use Rattle.ids.specs.Pieces.{share_edge, pieces}
 use Rattle.ids.specs.Reversed.{reversed}
 use Rattle.refusals.specs.declared.Check.{Check}
@@ -31,6 +31,6 @@ pub record TurnedTexts (m m' : Contents) (text text' : List ℕ) : Type 0 where
 -- (`text_turns`)
 abbrev pub TextTurns : Type 0
 TextTurns =
-    (m m' : Contents) (bytes bytes' : List ℕ) → file_of bytes ≡ File.Holds m → file_of bytes' ≡ File.Holds m'
+    (m m' : Contents) (bytes bytes' : List ℕ) → file_of bytes ≡ Ok m → file_of bytes' ≡ Ok m'
     → m'.unit ≡ m.unit → m'.vertices ≡ m.vertices → m'.ids ≡ reversed m.ids → m'.clip ≡ m.clip → m'.defect ≡ m.defect
     → TurnedTexts m m' (text_of bytes) (text_of bytes')

@@ -5,3 +5,4 @@ pub mod Place
 pub mod Promises
 pub mod Glove
 pub mod Cube
+pub mod inner

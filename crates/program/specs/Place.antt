@@ -1,5 +1,5 @@
 -- Demand 3 for the programs: what is printed for a file, and for the same file with its mesh moved.
-use Rattle.std.specs.Prelude.{◌≡◌, List, ℕ, T, eqb, ℤ, Float}
+use Rattle.std.specs.Prelude.{◌≡◌, List, ℕ, T, eqb, ℤ, Float, Ok}
 use Rattle.std.specs.Float.{binary32}
 use Rattle.std.specs.Float.Ieee.{of_bits}
 use Rattle.ids.specs.Pieces.{share_edge, pieces}
@@ -15,7 +15,6 @@ use Rattle.place.specs.Moved.{Moved, unit_enough}
 use Rattle.road.specs.Agree.{AgreeButBest}
 use Rattle.words.specs.Words.{floats_of}
 use Rattle.meshfile.specs.Format.{Contents, File, file_of}
-use Rattle.stl.specs.declared.Stl.{Stl}
 use Rattle.stl.specs.Stl.{stl_of}
 use Rattle.stl.specs.Reading.{most_triangles}
 use Rattle.listing.specs.Listing.{listing_of}
@@ -60,7 +59,7 @@ pub record AgreeTexts (m m' : Contents) (text text' : List ℕ) : Type 0 where
 -- (`text_does_not_show`)
 abbrev pub TextDoesNotShow : Type 0
 TextDoesNotShow =
-    (dx dy dz : ℤ) (m m' : Contents) (bytes bytes' : List ℕ) → file_of bytes ≡ File.Holds m → file_of bytes' ≡ File.Holds m'
+    (dx dy dz : ℤ) (m m' : Contents) (bytes bytes' : List ℕ) → file_of bytes ≡ Ok m → file_of bytes' ≡ Ok m'
     → m'.unit ≡ m.unit → m'.ids ≡ m.ids → m'.clip ≡ m.clip → m'.defect ≡ m.defect
     → Moved dx dy dz (mesh_floats m) (mesh_floats m') → T (unit_enough (mesh_unit m))
     → AgreeTexts m m' (text_of bytes) (text_of bytes')
@@ -73,6 +72,6 @@ TextDoesNotShow =
 abbrev pub StlTextDoesNotShow : Type 0
 StlTextDoesNotShow =
     (dx dy dz : ℤ) (bytes bytes' : List ℕ) (n n' : ℕ)
-    → stl_of most_triangles bytes ≡ Stl.Triangles n → stl_of most_triangles bytes' ≡ Stl.Triangles n'
+    → stl_of most_triangles bytes ≡ Ok n → stl_of most_triangles bytes' ≡ Ok n'
     → Moved dx dy dz (mesh_floats (stl_contents bytes n)) (mesh_floats (stl_contents bytes' n'))
     → AgreeTexts (stl_contents bytes n) (stl_contents bytes' n') (stl_text_of bytes) (stl_text_of bytes')

@@ -1,8 +1,9 @@
 -- The program `takeoff` (01): the text that it prints, for every list of bytes that it reads.
-use Rattle.std.specs.Prelude.{◌≡◌, ℕ, Bool, List, [], ◌++◌, eqb, length, drop, Float}
+use Rattle.std.specs.Prelude.{◌≡◌, ℕ, Bool, List, [], ◌++◌, eqb, length, drop, Float, Ok, Err}
 use Rattle.std.specs.Float.{binary32}
 use Rattle.std.specs.Float.Ieee.{of_bits}
 use Rattle.ids.specs.Pieces.{share_edge, pieces}
+use Rattle.ids.specs.Refusal.{refusal_number}
 use Rattle.sums.specs.Editions.{thresholds_of}
 use Rattle.rows.specs.declared.PlanarSurface.{PlanarSurface}
 use Rattle.record.specs.declared.MeshQto.{MeshQto}
@@ -45,8 +46,8 @@ mesh_text vs ids u clip profile = text_at (check_mesh vs ids u) vs ids u clip pr
 
 -- faults of the file come before the table
 unfoldable pub text_for : File → List ℕ
-text_for (File.Refused n) = refused_line n
-text_for (File.Holds m) = mesh_text (floats_of m.vertices) m.ids (of_bits binary32 m.unit) (eqb m.clip 1) (profile_at m.defect)
+text_for (Err refusal) = refused_line (refusal_number refusal)
+text_for (Ok m) = mesh_text (floats_of m.vertices) m.ids (of_bits binary32 m.unit) (eqb m.clip 1) (profile_at m.defect)
 
 -- what the program prints for the bytes that it reads
 unfoldable pub text_of : List ℕ → List ℕ

@@ -1,18 +1,18 @@
 -- What is proved of the programs beside their contracts: which refusals a file can meet, what of an STL does not show, what is
 -- printed for a file that was written, that no NaN gets past, and what becomes of input that is longer than any file.
-use Rattle.std.specs.Prelude.{◌≡◌, ◌⊎◌, ℕ, ◌+◌, ◌%◌, ◌^◌, ◌≤◌, ◌<◌, Bool, false, not, ◌||◌, cond, List, eqb, ltb, length, take, Float}
+use Rattle.std.specs.Prelude.{◌≡◌, ◌⊎◌, ℕ, ◌+◌, ◌%◌, ◌^◌, ◌≤◌, ◌<◌, Bool, false, not, ◌||◌, cond, List, eqb, ltb, length, take, Float, Ok}
 use Rattle.std.specs.Float.{binary32}
 use Rattle.std.specs.Float.Ieee.{of_bits}
+use Rattle.ids.specs.declared.refusal.Refusal.{Refusal}
+use Rattle.ids.specs.Refusal.{refusal_number}
 use Rattle.sums.specs.Fine.{fine, all_fine}
 use Rattle.refusals.specs.declared.Check.{Check}
 use Rattle.refusals.specs.Refusals.{unit_fits}
 use Rattle.record.specs.declared.Profile.{Profile}
 use Rattle.words.specs.Words.{floats_of, Below}
 use Rattle.meshfile.specs.Format.{Contents, File, file_of}
-use Rattle.meshfile.specs.declared.writing.Writing.{Writing}
 use Rattle.meshfile.specs.Writing.{contents_of, Writes}
 use Rattle.meshfile.specs.RoundTrip.{with_kind4}
-use Rattle.stl.specs.declared.Stl.{Stl}
 use Rattle.stl.specs.Stl.{stl_of}
 use Rattle.stl.specs.Reading.{most_triangles}
 use Rattle.stl.specs.Worth.{SameWhereSeen}
@@ -37,7 +37,7 @@ unfoldable pub check_stl : ℕ → List Float → Check
 check_stl n vs = cond (eqb n 0) Check.Zero (cond (not (all_fine vs)) (Check.Refuse 4) Check.Full)
 
 abbrev pub StlCheck : Type 0
-StlCheck = (bytes : List ℕ) (n : ℕ) → stl_of most_triangles bytes ≡ Stl.Triangles n
+StlCheck = (bytes : List ℕ) (n : ℕ) → stl_of most_triangles bytes ≡ Ok n
     → let m = stl_contents bytes n in check_mesh (mesh_floats m) m.ids (mesh_unit m) ≡ check_stl n (mesh_floats m)
 
 -- Header, normals and attributes of an STL do not show in its text. (`stl_unseen`)
@@ -47,12 +47,12 @@ StlUnseen = (bytes bytes' : List ℕ) → SameWhereSeen bytes bytes' → stl_tex
 -- What is printed for a mesh file that was written is the text of what was written. (`written_text`)
 abbrev pub WrittenText : Type 0
 WrittenText = (u : ℕ) (vs is : List ℕ) (clip : Bool) (profile : Profile) → u < 2 ^ 32 → Below (2 ^ 32) vs → Below (2 ^ 32) is
-    → (area : List ℕ) (n : ℕ) (area' : List ℕ) → Writes (contents_of u vs is clip profile) area (Writing.Length n) area'
+    → (area : List ℕ) (n : ℕ) (area' : List ℕ) → Writes (contents_of u vs is clip profile) area (Ok n) area'
     → text_of (take n area') ≡ mesh_text (floats_of vs) is (of_bits binary32 u) clip profile
 
 -- A file that was read and written back prints the same. (`rewritten_text`)
 abbrev pub RewrittenText : Type 0
-RewrittenText = (bytes : List ℕ) → Below 256 bytes → (m : Contents) → file_of bytes ≡ File.Holds m
+RewrittenText = (bytes : List ℕ) → Below 256 bytes → (m : Contents) → file_of bytes ≡ Ok m
     → text_of (with_kind4 (length m.vertices) (length m.ids) bytes) ≡ text_of bytes
 
 -- no pattern of an infinity or a NaN, whatever its digits, gets past refusal 4
@@ -68,7 +68,8 @@ KeptDecides text most = (bytes : List ℕ) → most < length bytes → text (tak
 
 -- and it is refused (`long_refused`, `stl_long_refused`: of the same)
 abbrev pub LongRefused : (List ℕ → List ℕ) → ℕ → Type 0
-LongRefused text most = (bytes : List ℕ) → most < length bytes → (n : ℕ) × ((n ≡ 5) ⊎ (n ≡ 6)) × (text bytes ≡ refused_line n)
+LongRefused text most = (bytes : List ℕ) → most < length bytes
+    → (refusal : Refusal) × ((refusal ≡ Refusal.File) ⊎ (refusal ≡ Refusal.FileTooLarge)) × (text bytes ≡ refused_line (refusal_number refusal))
 
 -- The complete contract of `run_front` and `run_stl_front`, of an area of bytes and a number n: the text of the first n bytes is printed,
 -- and that is the text of every input that begins with them, whether they are all of it or as many as the area holds. So what a program

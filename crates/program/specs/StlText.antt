@@ -1,8 +1,8 @@
 -- The program `takeoff_stl` (02, A4): the text that it prints, for every list of bytes that it reads. It is that of the mesh which the STL
 -- holds, with the unit 0.001 and no flags.
-use Rattle.std.specs.Prelude.{ℕ, List}
+use Rattle.std.specs.Prelude.{ℕ, List, Result, Ok, Err}
+use Rattle.ids.specs.declared.refusal.Refusal.{Refusal}
 use Rattle.meshfile.specs.Format.{Contents, File}
-use Rattle.stl.specs.declared.Stl.{Stl}
 use Rattle.stl.specs.Stl.{stl_of, corners_to, ids_to}
 use Rattle.stl.specs.Reading.{most_triangles}
 use Rattle.program.specs.Program.{text_for}
@@ -15,9 +15,9 @@ stl_unit = 0x3a83_126f
 abbrev pub stl_contents : List ℕ → ℕ → Contents
 stl_contents bytes n = record { unit = stl_unit; vertices = corners_to bytes n; ids = ids_to n; clip = 0; defect = 0 }
 
-unfoldable pub stl_file : Stl → List ℕ → File
-stl_file (Stl.Refused n) bytes = File.Refused n
-stl_file (Stl.Triangles n) bytes = File.Holds (stl_contents bytes n)
+unfoldable pub stl_file : Result ℕ Refusal → List ℕ → File
+stl_file (Err refusal) bytes = Err refusal
+stl_file (Ok n) bytes = Ok (stl_contents bytes n)
 
 -- what the program prints for the bytes that it reads; from the mesh on it is what `takeoff` prints
 unfoldable pub stl_text_of : List ℕ → List ℕ

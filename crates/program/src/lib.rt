@@ -2,25 +2,22 @@
 // listing or of `refused N` out.
 #![tactic(auto)]
 
-ghost use Rattle.std.specs.Prelude.{◌≡◌, false, ◌+◌, ◌*◌, ◌/◌, ◌≤◌, length, take};
-ghost use Rattle.std.specs.Float.{binary32};
-ghost use Rattle.std.specs.Float.Ieee.{of_bits};
+ghost use Rattle.std.specs.Prelude.{◌≡◌, ℕ, ◌+◌, ◌*◌, ◌/◌, ◌≤◌, length, take, IfOk};
 ghost use Rattle.ids.specs.Pieces.{share_edge, pieces as pieces_in};
 ghost use Rattle.rows.specs.Rows.{rows_of};
 ghost use Rattle.record.specs.Flags.{flagged};
-ghost use Rattle.record.specs.declared.Profile.{Profile};
 ghost use Rattle.listing.specs.Listing.{listing_of, refused_line};
 ghost use Rattle.listing.specs.Lists.{head_bytes};
 ghost use Rattle.program.specs.Program.{mesh_text, text_of, Prints};
 ghost use Rattle.program.specs.Promises.{PrintsFront};
-ghost use Rattle.program.specs.StlText.{stl_unit, stl_text_of};
+ghost use Rattle.program.specs.StlText.{stl_text_of};
+ghost use Rattle.program.specs.inner.Read.{OfTriangles, read_text};
 
-use listing::Listed;
-use meshfile::{MeshFile, Reading};
+use ids::Refusal;
+use meshfile::MeshFile;
 use pieces::PieceCount;
 use qto::Answer;
 use record::{MeshQto, Profile};
-use stl::Stl;
 
 // How many bytes of its input a program keeps. The longest file has one byte less, so these decide about all input (`PrintsFront`).
 pub const KEPT: usize = 12319;
@@ -47,15 +44,11 @@ fn pieces_of(ids: &[u32], work: &mut [u32]) -> u32
 }
 
 // `refused N`.
-fn print_refusal(n: u8, text: &mut [u8]) -> usize
+fn print_refusal<N: Into<u32>>(refusal: N, text: &mut [u8]) -> usize
     requires { head_bytes ≤ length text.old }
-    ensures { Prints (refused_line n) text.old result text.new }
+    ensures { (n : ℕ) × N.converts refusal n × Prints (refused_line n) text.old result text.new }
 {
-    let said = listing::list_refusal(n, text);
-    match said {
-        Listed::Length(end) => end,
-        Listed::Refused(_) => 0,
-    }
+    listing::list_refusal(refusal, text).unwrap()
 }
 
 // The listing of a record with the file's flags.
@@ -67,11 +60,7 @@ fn print_record(q: MeshQto, m: MeshFile, count: u32, surfaces: &[f32], text: &mu
 {
     let profile = m.profile;
     let flagged = qto::apply_product_flags(q, m.clip, profile);
-    let said = listing::list(flagged, surfaces, count, text);
-    match said {
-        Listed::Length(end) => end,
-        Listed::Refused(_) => 0,
-    }
+    listing::list(flagged, surfaces, count, text).unwrap()
 }
 
 // The mesh of a file: its listing, or the refusal of the documents' table.
@@ -99,6 +88,25 @@ fn print_mesh(m: MeshFile, vertices: &[f32], ids: &[u32], text: &mut [u8]) -> us
     }
 }
 
+// What was read: its mesh, with its floats and ids first in the two areas, or the refusal.
+fn print_read(found: Result<MeshFile, Refusal>, vertices: &[f32], ids: &[u32], text: &mut [u8]) -> usize
+    requires few { IfOk found (λ m. (m.floats ≤ 1536) × (m.ids ≤ 1536)) }
+    requires areas { (length vertices.now ≡ 1536) × (length ids.now ≡ 1536) × (length text.old ≡ 18784) }
+    ensures { Prints (read_text vertices.now ids.now found) text.old result text.new }
+{
+    match found {
+        Ok(m) => print_mesh(m, &vertices[..m.floats], &ids[..m.ids], text),
+        Err(refusal) => print_refusal(refusal, text),
+    }
+}
+
+// The bytes of its input that a program has kept: the first n of the area, or all.
+fn kept(bytes: &[u8], n: usize) -> &[u8]
+    ensures { result.now ≡ take n bytes.now }
+{
+    &bytes[..n.min(bytes.len())]
+}
+
 // What the program prints for the bytes that it has read: the text stands first in the area, and its length comes back.
 pub fn run(bytes: &[u8], text: &mut [u8; TEXT]) -> usize
     ensures { Prints (text_of bytes.now) text.old result text.new }
@@ -106,10 +114,7 @@ pub fn run(bytes: &[u8], text: &mut [u8; TEXT]) -> usize
     let mut vertices = [0f32; 1536];
     let mut ids = [0u32; 1536];
     let found = meshfile::read(bytes, &mut vertices, &mut ids);
-    match found {
-        Reading::Refused(n) => print_refusal(n, text),
-        Reading::File(m) => print_mesh(m, &vertices[..m.floats], &ids[..m.ids], text),
-    }
+    print_read(found, &vertices, &ids, text)
 }
 
 // What the program prints for an input of which it has kept the first n bytes: all of it, or as many as the area holds.
@@ -117,12 +122,7 @@ pub fn run(bytes: &[u8], text: &mut [u8; TEXT]) -> usize
 pub fn run_front(bytes: &[u8; KEPT], n: usize, text: &mut [u8; TEXT]) -> usize
     ensures { PrintsFront text_of bytes.now n text.old result text.new }
 {
-    let all: &[u8] = bytes;
-    if n < all.len() {
-        run(&all[..n], text)
-    } else {
-        run(all, text)
-    }
+    run(kept(bytes, n), text)
 }
 
 // ---- an STL
@@ -130,8 +130,7 @@ pub fn run_front(bytes: &[u8; KEPT], n: usize, text: &mut [u8; TEXT]) -> usize
 // What a mesh file says beside its floats and ids, for n triangles of an STL: the unit is 0.001, and there are no flags.
 fn stl_mesh(n: usize) -> MeshFile
     requires { n ≤ 170 }
-    ensures { (result.unit ≡ of_bits binary32 stl_unit) × (result.clip ≡ false) × (result.profile ≡ Profile.Valid)
-        × (result.floats ≡ 9 * n) × (result.ids ≡ 3 * n) }
+    ensures { OfTriangles n result }
 {
     MeshFile {
         unit: floats::float_of(0x3a83_126f),
@@ -148,11 +147,8 @@ pub fn run_stl(bytes: &[u8], text: &mut [u8; TEXT]) -> usize
 {
     let mut vertices = [0f32; 1536];
     let mut ids = [0u32; 1536];
-    let found = stl::read(bytes, &mut vertices, &mut ids);
-    match found {
-        Stl::Refused(n) => print_refusal(n, text),
-        Stl::Triangles(n) => print_mesh(stl_mesh(n), &vertices[..9 * n], &ids[..3 * n], text),
-    }
+    let found = stl::read(bytes, &mut vertices, &mut ids).map(stl_mesh);
+    print_read(found, &vertices, &ids, text)
 }
 
 // The same for an input of which the program has kept the first n bytes.
@@ -160,10 +156,5 @@ pub fn run_stl(bytes: &[u8], text: &mut [u8; TEXT]) -> usize
 pub fn run_stl_front(bytes: &[u8; STL_KEPT], n: usize, text: &mut [u8; TEXT]) -> usize
     ensures { PrintsFront stl_text_of bytes.now n text.old result text.new }
 {
-    let kept: &[u8] = bytes;
-    if n < kept.len() {
-        run_stl(&kept[..n], text)
-    } else {
-        run_stl(kept, text)
-    }
+    run_stl(kept(bytes, n), text)
 }

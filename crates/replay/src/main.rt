@@ -9,7 +9,8 @@
 ghost use Rattle.std.specs.Prelude.{◌≤◌, length};
 
 use chain::{EdgeChain, FaceNet, Verdict};
-use meshfile::{MeshBits, Reading, ReadingBits, Writing};
+use ids::Refusal;
+use meshfile::MeshBits;
 use qto::Answer;
 use raster::Pair;
 use record::Profile;
@@ -190,12 +191,8 @@ fn print_answers(rt: &impl Print, vertices: &[f32], ids: &[u32], unit: f32)
 fn print_line_of(rt: &impl Print, bytes: &[u8]) {
     let mut vertices = [0f32; 1536];
     let mut ids = [0u32; 1536];
-    let found = meshfile::read(bytes, &mut vertices, &mut ids);
-    match found {
-        Reading::File(m) => {
-            print_answers(rt, &vertices[..m.floats], &ids[..m.ids], m.unit);
-        }
-        Reading::Refused(_) => {}
+    if let Ok(m) = meshfile::read(bytes, &mut vertices, &mut ids) {
+        print_answers(rt, &vertices[..m.floats], &ids[..m.ids], m.unit);
     }
 }
 
@@ -215,11 +212,8 @@ fn adler(bytes: &[u8]) -> u32 {
 }
 
 // A refusal, or 0 for a file.
-fn print_refusal(rt: &impl Print, label: &[u8], answer: Writing) {
-    match answer {
-        Writing::Length(_) => print_count(rt, label, 0),
-        Writing::Refused(n) => print_count(rt, label, n as u64),
-    }
+fn print_refusal(rt: &impl Print, label: &[u8], answer: Result<usize, Refusal>) {
+    print_count(rt, label, answer.map_or_else(u32::from, |_| 0) as u64);
 }
 
 fn print_file(rt: &impl Print, file: &[u8]) {
@@ -240,11 +234,11 @@ fn print_written(rt: &impl Print, m: MeshBits, vertices: &[u32], ids: &[u32]) {
     let profile = m.profile;
     let answer = meshfile::write(m.unit, vertices, ids, m.clip, profile, &mut area);
     match answer {
-        Writing::Length(n) => {
+        Ok(n) => {
             print_file(rt, &area[..n]);
             print_cut(rt, m, vertices, ids, &mut area[..n]);
         }
-        Writing::Refused(n) => print_count(rt, b"written refused ", n as u64),
+        Err(refusal) => print_count(rt, b"written refused ", u32::from(refusal) as u64),
     }
     print_text(rt, b"\n");
 }
@@ -253,10 +247,8 @@ fn print_written(rt: &impl Print, m: MeshBits, vertices: &[u32], ids: &[u32]) {
 fn print_back(rt: &impl Print, bytes: &[u8]) {
     let mut vertices = [0u32; 1536];
     let mut ids = [0u32; 1536];
-    let found = meshfile::read_bits(bytes, &mut vertices, &mut ids);
-    match found {
-        ReadingBits::File(m) => print_written(rt, m, &vertices[..m.floats], &ids[..m.ids]),
-        ReadingBits::Refused(_) => {}
+    if let Ok(m) = meshfile::read_bits(bytes, &mut vertices, &mut ids) {
+        print_written(rt, m, &vertices[..m.floats], &ids[..m.ids]);
     }
 }
 

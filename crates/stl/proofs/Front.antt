@@ -7,7 +7,8 @@ use native.Mathlib.Decide.{dec_lt}
 use lib.ListN.{length, take}
 use lib.Seq.{length-take-le}
 use Rattle.words.proofs.At.{word_part}
-use Rattle.stl.specs.declared.Stl.{Stl}
+use Rattle.std.specs.Prelude.{Err}
+use Rattle.ids.specs.declared.refusal.Refusal.{Refusal}
 use Rattle.stl.specs.Stl.{stl_count, stl_length, stl_of}
 use Rattle.stl.specs.Worth.{StlFrontDecides, StlFilesAreShort}
 use Rattle.stl.proofs.Tests.{too_many_lem, wrong_length, taken_exactly}
@@ -18,7 +19,7 @@ stl_files_are_short most n bytes e =
     omega (arith, s.size, s.few)
 
 -- where its count passes, its length does not
-too_long : (most : ℕ) (bytes : List ℕ) → stl_length most < length bytes → stl_count bytes ≤ most → stl_of most bytes ≡ Stl.Refused 5
+too_long : (most : ℕ) (bytes : List ℕ) → stl_length most < length bytes → stl_count bytes ≤ most → stl_of most bytes ≡ Err Refusal.File
 too_long most bytes h few = wrong_length most bytes (omega arith) few (λ q. omega (arith, q))
 
 pub stl_front_decides : StlFrontDecides

@@ -11,7 +11,8 @@ use lib.ListN.{length, take, drop}
 use lib.Seq.{length-take-le}
 use Rattle.words.specs.Words.{floats_of}
 use Rattle.ids.proofs.Groups.{neither}
-use Rattle.stl.specs.declared.Stl.{Stl}
+use Rattle.std.specs.Prelude.{Ok, Err}
+use Rattle.ids.specs.declared.refusal.Refusal.{Refusal}
 use Rattle.stl.specs.Stl.{stl_of, corners_to, ids_to}
 use Rattle.stl.specs.Reading.{in_areas, corners_later, ids_later, ReadsStl}
 use Rattle.stl.specs.Worth.{IsStl}
@@ -27,11 +28,11 @@ filled bytes n vs ids room front places ef ei =
     record { floats = rw ef; ids_later_lem = rw (ei, third) }
 
 module _ (most : ℕ) (bytes : List ℕ) (vs : List Float) (ids : List ℕ) where
-  pub refused : (n : ℕ) → stl_of most bytes ≡ Stl.Refused n → ReadsStl most bytes vs ids (Stl.Refused n) vs ids
+  pub refused : (n : Refusal) → stl_of most bytes ≡ Err n → ReadsStl most bytes vs ids (Err n) vs ids
   unfolding in_areas corners_later ids_later
   refused n fault = record { answers = rw fault; floats = refl; ids_later_lem = refl }
 
-  module _ (n : ℕ) (held : stl_of most bytes ≡ Stl.Triangles n) where
+  module _ (n : ℕ) (held : stl_of most bytes ≡ Ok n) where
     pub is_stl : IsStl most n bytes
     is_stl = (taken_exactly most n bytes).only_these held
 
@@ -39,12 +40,12 @@ module _ (most : ℕ) (bytes : List ℕ) (vs : List Float) (ids : List ℕ) wher
     abbrev too_short : Bool
     too_short = ltb (length vs) (9 * n) || ltb (length ids) (3 * n)
 
-    pub short : too_short ≡ true → ReadsStl most bytes vs ids (Stl.Refused 3) vs ids
+    pub short : too_short ≡ true → ReadsStl most bytes vs ids (Err Refusal.ShortArea) vs ids
     unfolding in_areas corners_later ids_later
     short q = record { answers = rw (held, q); floats = refl; ids_later_lem = refl }
 
     pub given : too_short ≡ false → (vs' : List Float) (ids' : List ℕ) → Filled bytes n vs ids vs' ids'
-        → ReadsStl most bytes vs ids (Stl.Triangles n) vs' ids'
+        → ReadsStl most bytes vs ids (Ok n) vs' ids'
     unfolding in_areas
     given q vs' ids' x = record { answers = rw (held, q); floats = x.floats; ids_later_lem = x.ids_later_lem }
 

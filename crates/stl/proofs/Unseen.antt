@@ -10,7 +10,8 @@ use lib.Seq.{ext_get_or}
 use lib.Ieee.{Float}
 use Rattle.words.specs.Words.{u32_at}
 use Rattle.words.proofs.At.{byte_part}
-use Rattle.stl.specs.declared.Stl.{Stl}
+use Rattle.std.specs.Prelude.{Result, Ok, Err}
+use Rattle.ids.specs.declared.refusal.Refusal.{Refusal}
 use Rattle.ids.specs.Triangles.{over_numbers}
 use Rattle.stl.specs.Stl.{stl_count, stl_length, stl_of, corners_to}
 use Rattle.stl.specs.Reading.{corners_later}
@@ -49,10 +50,10 @@ module _ (bytes bytes' : List ℕ) (same : SameWhereSeen bytes bytes') where
   same_corners zero = refl
   same_corners (suc n) = rw (same_corners n, same_part n)
 
-  same_later : (r : Stl) (vs : List Float) → corners_later r bytes' vs ≡ corners_later r bytes vs
+  same_later : (r : Result ℕ Refusal) (vs : List Float) → corners_later r bytes' vs ≡ corners_later r bytes vs
   unfolding corners_later
-  same_later (Stl.Refused n) vs = refl
-  same_later (Stl.Triangles n) vs = rw (same_corners n)
+  same_later (Err n) vs = refl
+  same_later (Ok n) vs = rw (same_corners n)
 
 pub unseen_does_not_matter : UnseenDoesNotMatter
 unseen_does_not_matter most bytes bytes' same vs ids r vs' ids' x =

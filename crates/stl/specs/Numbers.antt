@@ -1,12 +1,13 @@
--- The answer as a number, as the C interface has it, and the contract of the C forms. A refusal n is 2^31 + n.
-use Rattle.std.specs.Prelude.{◌≡◌, ℕ, ◌+◌, List, length, Float}
-use Rattle.stl.specs.declared.Stl.{Stl}
+-- The answer as a number, as the C interface has it, and the contract of the C forms. A refusal of the number n is 2^31 + n.
+use Rattle.std.specs.Prelude.{◌≡◌, ℕ, ◌+◌, List, length, Float, Result, Ok, Err}
+use Rattle.ids.specs.declared.refusal.Refusal.{Refusal}
+use Rattle.ids.specs.Refusal.{refusal_number}
 use Rattle.stl.specs.Stl.{stl_of}
 use Rattle.stl.specs.Reading.{in_areas, corners_later, ids_later}
 
-unfoldable pub stl_number : Stl → ℕ
-stl_number (Stl.Triangles n) = n
-stl_number (Stl.Refused n) = 2147483648 + n
+unfoldable pub stl_number : Result ℕ Refusal → ℕ
+stl_number (Ok n) = n
+stl_number (Err refusal) = 2147483648 + refusal_number refusal
 
 pub record ReadsStlNumbered (most : ℕ) (bytes : List ℕ) (vs : List Float) (ids : List ℕ) (k : ℕ) (vs' : List Float) (ids' : List ℕ)
     : Type 0 where

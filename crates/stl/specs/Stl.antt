@@ -1,10 +1,10 @@
 -- Binary STL (02, A4): 80 header bytes, a u32 count, then 50 bytes a triangle: its normal (12), its three corners (36), two attribute
 -- bytes. How many triangles a file holds, or the refusal of the fault that is met first; their corners, and their ids. The greatest count
 -- is a parameter.
-use Rattle.std.specs.Prelude.{ℕ, ◌+◌, ◌*◌, not, cond, List, [], ◌∷◌, eqb, ltb, length, take, drop}
+use Rattle.std.specs.Prelude.{ℕ, ◌+◌, ◌*◌, not, cond, List, [], ◌∷◌, eqb, ltb, length, take, drop, Result, Ok, Err}
 use Rattle.ids.specs.Triangles.{over_numbers}
 use Rattle.words.specs.Words.{u32_at, words_in}
-use Rattle.stl.specs.declared.Stl.{Stl}
+use Rattle.ids.specs.declared.refusal.Refusal.{Refusal}
 
 -- what the count says, and how long a file of so many triangles is
 abbrev pub stl_count : List ℕ → ℕ
@@ -13,13 +13,13 @@ stl_count bytes = u32_at bytes 80
 abbrev pub stl_length : ℕ → ℕ
 stl_length n = 84 + 50 * n
 
--- Under 84 bytes: 5. A count above the greatest, whatever the length: 6. Any other wrong length: 5.
-unfoldable pub stl_of : ℕ → List ℕ → Stl
+-- Under 84 bytes: no such file. A count above the greatest, whatever the length: too large. Any other wrong length: no such file.
+unfoldable pub stl_of : ℕ → List ℕ → Result ℕ Refusal
 stl_of most bytes =
-    cond (ltb (length bytes) 84) (Stl.Refused 5)
-    (cond (ltb most (stl_count bytes)) (Stl.Refused 6)
-    (cond (not (eqb (length bytes) (stl_length (stl_count bytes)))) (Stl.Refused 5)
-    (Stl.Triangles (stl_count bytes))))
+    cond (ltb (length bytes) 84) (Err Refusal.File)
+    (cond (ltb most (stl_count bytes)) (Err Refusal.FileTooLarge)
+    (cond (not (eqb (length bytes) (stl_length (stl_count bytes)))) (Err Refusal.File)
+    (Ok (stl_count bytes))))
 
 -- the nine words of triangle t's corners: they stand behind its normal. It begins where a file of t triangles would end
 abbrev pub corners_at : List ℕ → ℕ → List ℕ

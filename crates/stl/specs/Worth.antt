@@ -1,11 +1,11 @@
 -- What reading an STL means, in words that do not say how it is done: which files are taken, what the mesh of one is, and which of its
 -- bytes matter.
-use Rattle.std.specs.Prelude.{◌≡◌, ◌⊎◌, ℕ, ◌+◌, ◌*◌, ◌-◌, ◌%◌, ◌≤◌, ◌<◌, List, length, get_or, take, Float}
+use Rattle.std.specs.Prelude.{◌≡◌, ◌⊎◌, ℕ, ◌+◌, ◌*◌, ◌-◌, ◌%◌, ◌≤◌, ◌<◌, List, length, get_or, take, Float, Result, Ok}
 use Rattle.std.specs.Float.{nan, binary32}
 use Rattle.std.specs.Float.Ieee.{of_bits}
 use Rattle.ids.specs.Pieces.{share_edge, pieces}
 use Rattle.words.specs.Words.{byte, u32_at, floats_of}
-use Rattle.stl.specs.declared.Stl.{Stl}
+use Rattle.ids.specs.declared.refusal.Refusal.{Refusal}
 use Rattle.stl.specs.Stl.{stl_count, stl_length, stl_of, corners_to, ids_to}
 use Rattle.stl.specs.Reading.{ReadsStl}
 
@@ -17,8 +17,8 @@ pub record IsStl (most n : ℕ) (bytes : List ℕ) : Type 0 where
   pub few : n ≤ most
 
 pub record TakenFiles (most n : ℕ) (bytes : List ℕ) : Type 0 where
-  pub only_these : stl_of most bytes ≡ Stl.Triangles n → IsStl most n bytes
-  pub all_these : IsStl most n bytes → stl_of most bytes ≡ Stl.Triangles n
+  pub only_these : stl_of most bytes ≡ Ok n → IsStl most n bytes
+  pub all_these : IsStl most n bytes → stl_of most bytes ≡ Ok n
 
 -- (`taken_exactly`)
 abbrev pub TakenExactly : Type 0
@@ -55,7 +55,7 @@ pub record SameWhereSeen (bytes bytes' : List ℕ) : Type 0 where
 -- Two files that differ only elsewhere read alike: whatever the contract allows for one it allows for the other. (`unseen_does_not_matter`)
 abbrev pub UnseenDoesNotMatter : Type 0
 UnseenDoesNotMatter = (most : ℕ) (bytes bytes' : List ℕ) → SameWhereSeen bytes bytes'
-    → (vs : List Float) (ids : List ℕ) (r : Stl) (vs' : List Float) (ids' : List ℕ)
+    → (vs : List Float) (ids : List ℕ) (r : Result ℕ Refusal) (vs' : List Float) (ids' : List ℕ)
     → ReadsStl most bytes vs ids r vs' ids' → ReadsStl most bytes' vs ids r vs' ids'
 
 -- ---- Of input that is longer than any file one byte more than the longest decides, and it is refused. (`stl_front_decides`,
@@ -66,4 +66,4 @@ StlFrontDecides = (most : ℕ) (bytes : List ℕ) → stl_length most < length b
     → stl_of most (take (stl_length most + 1) bytes) ≡ stl_of most bytes
 
 abbrev pub StlFilesAreShort : Type 0
-StlFilesAreShort = (most n : ℕ) (bytes : List ℕ) → stl_of most bytes ≡ Stl.Triangles n → length bytes ≤ stl_length most
+StlFilesAreShort = (most n : ℕ) (bytes : List ℕ) → stl_of most bytes ≡ Ok n → length bytes ≤ stl_length most

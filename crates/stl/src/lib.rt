@@ -7,12 +7,7 @@ ghost use Rattle.stl.specs.Stl.{stl_count, stl_length, stl_of, corners_to, ids_t
 ghost use Rattle.stl.specs.Reading.{ReadsStl, most_triangles, most_large};
 ghost use Rattle.stl.specs.inner.Filled.{RoomFor, Filled};
 
-// How many triangles there are, or the refusal.
-#[derive(Clone, Copy)]
-pub enum Stl {
-    Triangles(usize),
-    Refused(u8),
-}
+use ids::Refusal;
 
 // What the count behind the header says.
 fn count_of(bytes: &[u8]) -> usize
@@ -23,20 +18,20 @@ fn count_of(bytes: &[u8]) -> usize
 }
 
 // How many triangles the bytes hold, if no more than so many; or the refusal of the fault that is met first.
-fn triangles_in(bytes: &[u8], most: usize) -> Stl
+fn triangles_in(bytes: &[u8], most: usize) -> Result<usize, Refusal>
     ensures { result ≡ stl_of most bytes.now }
 {
     if bytes.len() < 84 {
-        return Stl::Refused(5);
+        return Err(Refusal::File);
     }
     let n = count_of(bytes);
     if most < n {
-        return Stl::Refused(6);
+        return Err(Refusal::FileTooLarge);
     }
     if bytes.len() != 84 + 50 * n {
-        return Stl::Refused(5);
+        return Err(Refusal::File);
     }
-    Stl::Triangles(n)
+    Ok(n)
 }
 
 // Where the corners of triangle t stand: behind its normal.
@@ -83,27 +78,27 @@ fn fill(bytes: &[u8], n: usize, vertices: &mut [f32], ids: &mut [u32])
 }
 
 // `read` for any greatest count for which three ids a triangle are words.
-fn read_most(bytes: &[u8], most: usize, vertices: &mut [f32], ids: &mut [u32]) -> Stl
+fn read_most(
+    bytes: &[u8],
+    most: usize,
+    vertices: &mut [f32],
+    ids: &mut [u32],
+) -> Result<usize, Refusal>
     requires { 3 * most ≤ 4294967296 }
     ensures { ReadsStl most bytes.now vertices.old ids.old result
         vertices.new ids.new }
 {
-    let found = triangles_in(bytes, most);
-    match found {
-        Stl::Refused(n) => Stl::Refused(n),
-        Stl::Triangles(n) => {
-            if (vertices.len() < 9 * n) | (ids.len() < 3 * n) {
-                return Stl::Refused(3);
-            }
-            fill(bytes, n, vertices, ids);
-            Stl::Triangles(n)
-        }
+    let n = triangles_in(bytes, most)?;
+    if (vertices.len() < 9 * n) | (ids.len() < 3 * n) {
+        return Err(Refusal::ShortArea);
     }
+    fill(bytes, n, vertices, ids);
+    Ok(n)
 }
 
-// The mesh of a binary STL of up to 170 triangles: its corners and ids go to the front of the two areas. A refusal writes nothing: 5 or 6
-// for the fault that is met first, and then 3 for an area that is too short.
-pub fn read(bytes: &[u8], vertices: &mut [f32], ids: &mut [u32]) -> Stl
+// The mesh of a binary STL of up to 170 triangles, and how many: its corners and ids go to the front of the two areas. A refusal writes
+// nothing: of the file for the fault that is met first, and then of an area that is too short.
+pub fn read(bytes: &[u8], vertices: &mut [f32], ids: &mut [u32]) -> Result<usize, Refusal>
     ensures { ReadsStl most_triangles bytes.now vertices.old ids.old result
         vertices.new ids.new }
 {
@@ -111,7 +106,7 @@ pub fn read(bytes: &[u8], vertices: &mut [f32], ids: &mut [u32]) -> Stl
 }
 
 // The same with up to 10,922 triangles, as many as the record takes with corners of their own.
-pub fn read_large(bytes: &[u8], vertices: &mut [f32], ids: &mut [u32]) -> Stl
+pub fn read_large(bytes: &[u8], vertices: &mut [f32], ids: &mut [u32]) -> Result<usize, Refusal>
     ensures { ReadsStl most_large bytes.now vertices.old ids.old result
         vertices.new ids.new }
 {

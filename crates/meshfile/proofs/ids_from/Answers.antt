@@ -1,28 +1,32 @@
 -- `meshfile::ids_from` meets its contract: by what stands in front; the part behind it is lent whole. Assumes nothing.
-use mathlib.Core.Path.{sym, ◌∙◌}
+use mathlib.Core.Path.{sym}
 use native.Mathlib.Omega.{arith}
-use Rattle.meshfile.specs.inner.Steps.{ids_from}
+use Rattle.ids.proofs.PassedOn.{passed_on}
+use Rattle.meshfile.specs.inner.Steps.{parts_by, ids_from}
 use Rattle.meshfile.proofs.Fronts.{room_of, rest_is}
 use Rattle.meshfile.proofs.ids_from.Goals as goal
 
-pub returns-in-Payload : goal.returns-in-Payload
-unfolding ids_from
-returns-in-Payload c =
-    let end = rw (rest_is _ _) at c.ending_of.ensures in
-    rw (sym c.front_of-found.ensures ∙ c.in-Payload.is, ← end) c.parts_by.ensures
-
 pub overflow_add-n : goal.overflow_add-n
-unfolding ids_from
-overflow_add-n c = omega (arith, room_of _ _ (sym c.front_of-found.ensures ∙ c.in-Payload.is))
+overflow_add-n c = omega (arith, room_of _ _ (sym c.in_ok-n.ensures))
 
 pub slice_bounds-ending_of-count : goal.slice_bounds-ending_of-count
-unfolding ids_from
-slice_bounds-ending_of-count c = room_of _ _ (sym c.front_of-found.ensures ∙ c.in-Payload.is)
+slice_bounds-ending_of-count c = room_of _ _ (sym c.in_ok-n.ensures)
 
 pub slice_bounds-ending_of-start : goal.slice_bounds-ending_of-start
-unfolding ids_from
-slice_bounds-ending_of-start c = room_of _ _ (sym c.front_of-found.ensures ∙ c.in-Payload.is)
+slice_bounds-ending_of-start c = room_of _ _ (sym c.in_ok-n.ensures)
 
-pub returns-in-Fault : goal.returns-in-Fault
+pub returns-in_err-n : goal.returns-in_err-n
 unfolding ids_from
-returns-in-Fault c = rw (← c.front_of-found.ensures, c.in-Fault.is)
+returns-in_err-n c = rw (passed_on _ _ c.from_residual.ensures, ← c.in_err-n.ensures)
+
+pub returns-in_err-flags : goal.returns-in_err-flags
+unfolding ids_from parts_by
+returns-in_err-flags c =
+    let end = rw (rest_is _ _) at c.in_err-flags.ensures in
+    rw (passed_on _ _ c.from_residual-in_err-flags.ensures, ← c.in_ok-n.ensures, ← end)
+
+pub returns : goal.returns
+unfolding ids_from parts_by
+returns c =
+    let end = rw (rest_is _ _) at c.in_ok-flags.ensures in
+    rw (← c.in_ok-n.ensures, ← end)

@@ -1,26 +1,24 @@
 -- `meshfile::layout_of` meets its contract: by what stands in front; the part behind it is lent whole. Assumes nothing.
-use mathlib.Core.Path.{sym, ◌∙◌}
+use mathlib.Core.Path.{sym}
 use native.Mathlib.Omega.{arith}
+use Rattle.ids.proofs.PassedOn.{passed_on}
 use Rattle.meshfile.specs.inner.Steps.{layout_of, unit_from}
 use Rattle.meshfile.proofs.Fronts.{room_of, rest_is}
 use Rattle.meshfile.proofs.layout_of.Goals as goal
 
 pub overflow_add-n : goal.overflow_add-n
-unfolding layout_of unit_from
-overflow_add-n c = omega (arith, room_of _ _ (sym c.front_of-found.ensures ∙ c.in-Payload.is))
+overflow_add-n c = omega (arith, room_of _ _ (sym c.in_ok-n.ensures))
 
 pub slice_bounds-vertices_from-count : goal.slice_bounds-vertices_from-count
-unfolding layout_of unit_from
-slice_bounds-vertices_from-count c = room_of _ _ (sym c.front_of-found.ensures ∙ c.in-Payload.is)
+slice_bounds-vertices_from-count c = room_of _ _ (sym c.in_ok-n.ensures)
 
 pub slice_bounds-vertices_from-start : goal.slice_bounds-vertices_from-start
-unfolding layout_of unit_from
-slice_bounds-vertices_from-start c = room_of _ _ (sym c.front_of-found.ensures ∙ c.in-Payload.is)
+slice_bounds-vertices_from-start c = room_of _ _ (sym c.in_ok-n.ensures)
 
-pub returns-in-Fault : goal.returns-in-Fault
+pub returns-in_err-n : goal.returns-in_err-n
 unfolding layout_of unit_from
-returns-in-Fault c = rw (← c.front_of-found.ensures, c.in-Fault.is)
+returns-in_err-n c = rw (passed_on _ _ c.from_residual.ensures, ← c.in_err-n.ensures)
 
-pub returns-in-Payload : goal.returns-in-Payload
+pub returns : goal.returns
 unfolding layout_of unit_from
-returns-in-Payload c = rw (sym c.front_of-found.ensures ∙ c.in-Payload.is) (rw (rest_is _ _) at c.vertices_from.ensures)
+returns c = rw (← c.in_ok-n.ensures) (rw (rest_is _ _) at c.vertices_from.ensures)

@@ -22,5 +22,6 @@ returns-in-Record c =
 pub returns-in-Refused : goal.returns-in-Refused
 returns-in-Refused c =
     let m = c.args.m in
+    let said = c.print_refusal.ensures in
     rw (← refusal_text _ _ m.unit m.clip m.profile _ _ _ _ _ _ _ c.compute-answer.ensures (omega arith) (omega arith) (omega arith)
-    _ c.in-Refused.is) c.print_refusal.ensures
+    _ c.in-Refused.is) (rw said.1 at said.2)

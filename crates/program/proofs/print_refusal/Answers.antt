@@ -1,16 +1,13 @@
 -- `program::print_refusal` meets its contract: the text area is long enough. Assumes nothing.
-use mathlib.Core.Path.{sym, ap}
-use Rattle.program.proofs.Given.{length_in, refusal_prints}
+use Rattle.program.proofs.Given.{refusal_prints}
 use Rattle.program.proofs.print_refusal.Goals as goal
 
-pub returns-in-Length : goal.returns-in-Length
-unfolding length_in
-returns-in-Length c =
-    rw (sym (ap length_in c.in-Length.is))
-    (refusal_prints _ _ _ _ c.requires c.list_refusal-said.ensures)
+pub unwrap-requires : goal.unwrap-requires
+unwrap-requires g c =
+    let said = c.list_refusal.ensures in
+    (refusal_prints said.0 _ _ _ c.requires said.2).0
 
-pub returns-in-Refused : goal.returns-in-Refused
-unfolding length_in
-returns-in-Refused c =
-    rw (sym (ap length_in c.in-Refused.is))
-    (refusal_prints _ _ _ _ c.requires c.list_refusal-said.ensures)
+pub returns : goal.returns
+returns g c =
+    let said = c.list_refusal.ensures in
+    (said.0, said.1, (refusal_prints said.0 _ _ _ c.requires said.2).1 _ c.unwrap.ensures)

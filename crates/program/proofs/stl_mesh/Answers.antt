@@ -3,4 +3,4 @@ use mathlib.Core.Path.{refl}
 use Rattle.program.proofs.stl_mesh.Goals as goal
 
 pub returns : goal.returns
-returns c = (c.float_of.ensures, refl, refl, refl, refl)
+returns c = record { unit = c.float_of.ensures; clip = refl; profile = refl; floats = refl; ids = refl }

@@ -5,15 +5,15 @@ use Rattle.meshfile.proofs.Most.{reads_most_bits}
 use Rattle.replay.proofs.print_back.Goals as goal
 
 pub slice_bounds-vertices-end : goal.slice_bounds-vertices-end
-slice_bounds-vertices-end g c = omega (arith, (reads_most_bits _ _ _ _ _ _ c.read_bits-found.ensures _ c.in-File.is).0)
+slice_bounds-vertices-end g c = omega (arith, (reads_most_bits _ _ _ _ _ _ c.read_bits.ensures _ c.in-Ok.is).0)
 
 pub slice_bounds-print_written-end : goal.slice_bounds-print_written-end
 slice_bounds-print_written-end g c =
-    sym (length-take-le _ _ (omega (arith, (reads_most_bits _ _ _ _ _ _ c.read_bits-found.ensures _ c.in-File.is).0)))
+    sym (length-take-le _ _ (omega (arith, (reads_most_bits _ _ _ _ _ _ c.read_bits.ensures _ c.in-Ok.is).0)))
 
 pub slice_bounds-ids-end : goal.slice_bounds-ids-end
-slice_bounds-ids-end g c = omega (arith, (reads_most_bits _ _ _ _ _ _ c.read_bits-found.ensures _ c.in-File.is).1)
+slice_bounds-ids-end g c = omega (arith, (reads_most_bits _ _ _ _ _ _ c.read_bits.ensures _ c.in-Ok.is).1)
 
-pub slice_bounds-print_written-end-in-File : goal.slice_bounds-print_written-end-in-File
-slice_bounds-print_written-end-in-File g c =
-    sym (length-take-le _ _ (omega (arith, (reads_most_bits _ _ _ _ _ _ c.read_bits-found.ensures _ c.in-File.is).1)))
+pub slice_bounds-print_written-end-in-Ok : goal.slice_bounds-print_written-end-in-Ok
+slice_bounds-print_written-end-in-Ok g c =
+    sym (length-take-le _ _ (omega (arith, (reads_most_bits _ _ _ _ _ _ c.read_bits.ensures _ c.in-Ok.is).1)))

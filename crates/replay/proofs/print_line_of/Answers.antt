@@ -5,15 +5,15 @@ use Rattle.meshfile.proofs.Most.{reads_most}
 use Rattle.replay.proofs.print_line_of.Goals as goal
 
 pub slice_bounds-vertices-end : goal.slice_bounds-vertices-end
-slice_bounds-vertices-end g c = omega (arith, (reads_most _ _ _ _ _ _ c.read-found.ensures _ c.in-File.is).0)
+slice_bounds-vertices-end g c = omega (arith, (reads_most _ _ _ _ _ _ c.read.ensures _ c.in-Ok.is).0)
 
 pub slice_bounds-print_answers-end : goal.slice_bounds-print_answers-end
 slice_bounds-print_answers-end g c =
-    sym (length-take-le _ _ (omega (arith, (reads_most _ _ _ _ _ _ c.read-found.ensures _ c.in-File.is).0)))
+    sym (length-take-le _ _ (omega (arith, (reads_most _ _ _ _ _ _ c.read.ensures _ c.in-Ok.is).0)))
 
 pub slice_bounds-ids-end : goal.slice_bounds-ids-end
-slice_bounds-ids-end g c = omega (arith, (reads_most _ _ _ _ _ _ c.read-found.ensures _ c.in-File.is).1)
+slice_bounds-ids-end g c = omega (arith, (reads_most _ _ _ _ _ _ c.read.ensures _ c.in-Ok.is).1)
 
-pub slice_bounds-print_answers-end-in-File : goal.slice_bounds-print_answers-end-in-File
-slice_bounds-print_answers-end-in-File g c =
-    sym (length-take-le _ _ (omega (arith, (reads_most _ _ _ _ _ _ c.read-found.ensures _ c.in-File.is).1)))
+pub slice_bounds-print_answers-end-in-Ok : goal.slice_bounds-print_answers-end-in-Ok
+slice_bounds-print_answers-end-in-Ok g c =
+    sym (length-take-le _ _ (omega (arith, (reads_most _ _ _ _ _ _ c.read.ensures _ c.in-Ok.is).1)))

@@ -1,6 +1,5 @@
 -- What filling the two areas supposes and gives.
-use Rattle.std.specs.Prelude.{◌≡◌, ℕ, ◌*◌, ◌≤◌, List, Float}
-use Rattle.stl.specs.declared.Stl.{Stl}
+use Rattle.std.specs.Prelude.{◌≡◌, ℕ, ◌*◌, ◌≤◌, List, Float, Ok}
 use Rattle.stl.specs.Stl.{stl_length}
 use Rattle.stl.specs.Reading.{corners_later, ids_later}
 
@@ -12,5 +11,5 @@ pub record RoomFor (n b v w : ℕ) : Type 0 where
   pub ids_fit : 3 * n ≤ 4294967296
 
 pub record Filled (bytes : List ℕ) (n : ℕ) (vs : List Float) (ids : List ℕ) (vs' : List Float) (ids' : List ℕ) : Type 0 where
-  pub floats : vs' ≡ corners_later (Stl.Triangles n) bytes vs
-  pub ids_later_lem : ids' ≡ ids_later (Stl.Triangles n) ids
+  pub floats : vs' ≡ corners_later (Ok n) bytes vs
+  pub ids_later_lem : ids' ≡ ids_later (Ok n) ids

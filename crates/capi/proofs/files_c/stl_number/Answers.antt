@@ -1,4 +1,5 @@
 -- The number of an answer is the definition's, case by case; few triangles leave room for it. Assumes nothing.
+use mathlib.Core.Path.{◌∙◌}
 use native.Mathlib.Omega.{arith}
 use Prim.Native.Nat.{◌≤◌}
 use Rattle.stl.specs.Reading.{most_large}
@@ -8,12 +9,12 @@ use Rattle.capi.proofs.files_c.stl_number.Goals as goal
 
 pub overflow_cast-result : goal.overflow_cast-result
 unfolding FewTriangles
-overflow_cast-result c = let few : c.in-Triangles.n ≤ most_large = rw c.in-Triangles.is at c.requires in omega arith
+overflow_cast-result c = let few : c.in-Ok.n ≤ most_large = rw c.in-Ok.is at c.requires in omega arith
 
-pub returns-in-Triangles : goal.returns-in-Triangles
+pub returns-in-Ok : goal.returns-in-Ok
 unfolding stl_number
-returns-in-Triangles c = rw c.in-Triangles.is
+returns-in-Ok c = rw c.in-Ok.is
 
-pub returns-in-Refused : goal.returns-in-Refused
+pub returns-in-Err : goal.returns-in-Err
 unfolding stl_number
-returns-in-Refused c = rw c.in-Refused.is
+returns-in-Err c = c.refused.ensures ∙ rw c.in-Err.is

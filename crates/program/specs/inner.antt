@@ -1,0 +1,2 @@
+-- What only the contracts of this crate's own functions speak of: nobody has to believe it.
+pub mod Read

@@ -10,7 +10,7 @@ ghost use Rattle.meshfile.specs.Format.{length_fits, front_of, flags_in, ending_
 ghost use Rattle.meshfile.specs.Reading.{mesh_bits, with_float, Reads, ReadsBits};
 ghost use Rattle.meshfile.specs.inner.Steps.{parts_by, ids_from, vertices_from, layout_of, in_room, contents_at, IdsRead};
 
-use record::Profile;
+use record::ProfileDefect;
 pub use writing::{Writing, write};
 
 // What a file holds beside its floats and ids: their numbers, the unit's pattern and the flags.
@@ -20,7 +20,7 @@ pub struct MeshBits {
     pub floats: usize,
     pub ids: usize,
     pub clip: bool,
-    pub profile: Profile,
+    pub profile: Option<ProfileDefect>,
 }
 
 #[derive(Clone, Copy)]
@@ -36,7 +36,7 @@ pub struct MeshFile {
     pub floats: usize,
     pub ids: usize,
     pub clip: bool,
-    pub profile: Profile,
+    pub profile: Option<ProfileDefect>,
 }
 
 #[derive(Clone, Copy)]

@@ -1,4 +1,5 @@
 -- The cube's text, by computing: its file, its record, its rows and its pieces, and then the listing of these. Assumes nothing.
+use Rattle.std.specs.Prelude.{Ok}
 use mathlib.Core.Path.{◌≡◌, refl}
 use lib.Ieee.{binary32, add, climb, div, eq, is_nan, le, lt, mul, neg, odd, of_bits, of_fields, of_int, round, size as numberSize, span, sub}
 use lib.Ieee.{sum, to_signed, units}
@@ -44,7 +45,7 @@ unfolding cube_file plain_file chunk_of all_bytes bytes_of file_of front_of u16_
 cube_file_lem = refl
 
 cube_passes : check_of (floats_of cube_file.vertices) cube_file.ids (of_bits binary32 cube_file.unit) named_edition 13824 65536 2048
-    ≡ Check.Full
+    ≡ Ok Check.Full
 unfolding cube_file floats_of check_of unit_fits edition_known all_fine magnitude le lt eq of_bits of_fields
 cube_passes = refl
 

@@ -1,5 +1,5 @@
 -- Demand 3 for the programs: what is printed for a file, and for the same file with its mesh moved.
-use Rattle.std.specs.Prelude.{◌≡◌, List, ℕ, T, eqb, ℤ, Float}
+use Rattle.std.specs.Prelude.{◌≡◌, List, ℕ, T, eqb, ℤ, Float, Ok}
 use Rattle.std.specs.Float.{binary32}
 use Rattle.std.specs.Float.Ieee.{of_bits}
 use Rattle.ids.specs.Pieces.{share_edge, pieces}
@@ -39,7 +39,7 @@ mesh_rows m = surface_rows (mesh_floats m) m.ids (mesh_unit m)
 
 -- the table of checks lets it pass, and its verdict is open
 pub record IsOpen (m : Contents) : Type 0 where
-  pub passes : check_mesh (mesh_floats m) m.ids (mesh_unit m) ≡ Check.Full
+  pub passes : check_mesh (mesh_floats m) m.ids (mesh_unit m) ≡ Ok Check.Full
   pub verdict : (mesh_record m).mesh_quality ≡ Quality.OpenShell
 
 -- ---- the text of a file with the mesh m, and that of one with m', the same mesh moved

@@ -2,13 +2,12 @@
 // listing or of `refused N` out.
 #![tactic(auto)]
 
-ghost use Rattle.std.specs.Prelude.{◌≡◌, false, ◌+◌, ◌*◌, ◌/◌, ◌≤◌, length, take};
+ghost use Rattle.std.specs.Prelude.{◌≡◌, false, ◌+◌, ◌*◌, ◌/◌, ◌≤◌, length, take, None};
 ghost use Rattle.std.specs.Float.{binary32};
 ghost use Rattle.std.specs.Float.Ieee.{of_bits};
 ghost use Rattle.ids.specs.Pieces.{share_edge, pieces as pieces_in};
 ghost use Rattle.rows.specs.Rows.{rows_of};
 ghost use Rattle.record.specs.Flags.{flagged};
-ghost use Rattle.record.specs.declared.Profile.{Profile};
 ghost use Rattle.listing.specs.Listing.{listing_of, refused_line};
 ghost use Rattle.listing.specs.Lists.{head_bytes};
 ghost use Rattle.program.specs.Program.{mesh_text, text_of, Prints};
@@ -18,8 +17,7 @@ ghost use Rattle.program.specs.StlText.{stl_unit, stl_text_of};
 use listing::Listed;
 use meshfile::{MeshFile, Reading};
 use pieces::PieceCount;
-use qto::Answer;
-use record::{MeshQto, Profile};
+use record::MeshQto;
 use stl::Stl;
 
 // How many bytes of its input a program keeps. The longest file has one byte less, so these decide about all input (`PrintsFront`).
@@ -94,8 +92,8 @@ fn print_mesh(m: MeshFile, vertices: &[f32], ids: &[u32], text: &mut [u8]) -> us
         &mut surfaces,
     );
     match answer {
-        Answer::Record(t) => print_record(t.qto, m, count, &surfaces, text),
-        Answer::Refused(n) => print_refusal(n, text),
+        Ok(t) => print_record(t.qto, m, count, &surfaces, text),
+        Err(refusal) => print_refusal(u32::from(refusal) as u8, text),
     }
 }
 
@@ -130,7 +128,7 @@ pub fn run_front(bytes: &[u8; KEPT], n: usize, text: &mut [u8; TEXT]) -> usize
 // What a mesh file says beside its floats and ids, for n triangles of an STL: the unit is 0.001, and there are no flags.
 fn stl_mesh(n: usize) -> MeshFile
     requires { n ≤ 170 }
-    ensures { (result.unit ≡ of_bits binary32 stl_unit) × (result.clip ≡ false) × (result.profile ≡ Profile.Valid)
+    ensures { (result.unit ≡ of_bits binary32 stl_unit) × (result.clip ≡ false) × (result.profile ≡ None)
         × (result.floats ≡ 9 * n) × (result.ids ≡ 3 * n) }
 {
     MeshFile {
@@ -138,7 +136,7 @@ fn stl_mesh(n: usize) -> MeshFile
         floats: 9 * n,
         ids: 3 * n,
         clip: false,
-        profile: Profile::Valid,
+        profile: None,
     }
 }
 

@@ -1,5 +1,6 @@
 -- The C form of the record: what `compute` answers becomes a number and words, after the flags are checked; and for every input there is
 -- one number and one later content of record and areas.
+use Rattle.std.specs.Prelude.{Option, Result, Ok, Err}
 use mathlib.Core.Path.{◌≡◌, refl, sym, ap, ◌∙◌}
 use Prim.Native.Nat.{ℕ, ◌+◌}
 use mathlib.Core.Bool.{Bool, true, false, not, cond}
@@ -7,16 +8,17 @@ use mathlib.Core.List.{List}
 use lib.Dec.{eqb}
 use lib.ListN.{length}
 use lib.Ieee.{Float}
+use Rattle.ids.specs.declared.refusal.Refusal.{Refusal}
+use Rattle.ids.specs.Refusal.{refusal_number}
 use Rattle.ids.specs.Lent.{cleared}
+use Rattle.record.specs.declared.ProfileDefect.{ProfileDefect}
 use Rattle.record.specs.declared.MeshQto.{MeshQto}
-use Rattle.record.specs.declared.Profile.{Profile}
 use Rattle.record.specs.Flags.{flagged}
 use Rattle.record.specs.Numbers.{profile_at, flags_fit}
 use Rattle.refusals.specs.declared.Check.{Check}
 use Rattle.refusals.specs.Refusals.{check_of}
 use Rattle.sums.specs.Editions.{thresholds_of}
 use Rattle.vertices.specs.Areas.{work_words, raster_bytes}
-use Rattle.qto.specs.declared.Answer.{Answer}
 use Rattle.qto.specs.declared.Takeoff.{Takeoff}
 use Rattle.qto.specs.Full.{takeoff_of, surfaces_after}
 use Rattle.qto.specs.Compute.{answer_at, area_at, Computes}
@@ -24,26 +26,26 @@ use Rattle.qto.specs.Numbers.{words_of, with_flags, number_at, words_at, check_f
 
 -- ---- an answer as a number and as words
 
-answer_number : Answer → ℕ
-answer_number (Answer.Record t) = 0
-answer_number (Answer.Refused n) = 0x8000_0000 + n
+answer_number : Result Takeoff Refusal → ℕ
+answer_number (Ok t) = 0
+answer_number (Err why) = 0x8000_0000 + refusal_number why
 
-answer_words : ℕ → ℕ → List ℕ → Answer → List ℕ
-answer_words clip defect words (Answer.Record t) = words_of (with_flags clip defect t)
-answer_words clip defect words (Answer.Refused n) = words
+answer_words : ℕ → ℕ → List ℕ → Result Takeoff Refusal → List ℕ
+answer_words clip defect words (Ok t) = words_of (with_flags clip defect t)
+answer_words clip defect words (Err why) = words
 
-number_of_answer : (c : Check) (t : Takeoff) → answer_number (answer_at c t) ≡ number_at c
+number_of_answer : (c : Result Check Refusal) (t : Takeoff) → answer_number (answer_at c t) ≡ number_at c
 unfolding answer_at number_at answer_number
-number_of_answer (Check.Refuse n) t = refl
-number_of_answer Check.Zero t = refl
-number_of_answer Check.Full t = refl
+number_of_answer (Err why) t = refl
+number_of_answer (Ok Check.Zero) t = refl
+number_of_answer (Ok Check.Full) t = refl
 
-words_of_answer : (c : Check) (clip defect : ℕ) (t : Takeoff) (words : List ℕ)
+words_of_answer : (c : Result Check Refusal) (clip defect : ℕ) (t : Takeoff) (words : List ℕ)
     → answer_words clip defect words (answer_at c t) ≡ words_at c clip defect t words
 unfolding answer_at words_at answer_words
-words_of_answer (Check.Refuse n) clip defect t words = refl
-words_of_answer Check.Zero clip defect t words = refl
-words_of_answer Check.Full clip defect t words = refl
+words_of_answer (Err why) clip defect t words = refl
+words_of_answer (Ok Check.Zero) clip defect t words = refl
+words_of_answer (Ok Check.Full) clip defect t words = refl
 
 -- ---- the contract of mf_compute
 
@@ -51,16 +53,16 @@ module _ (vs : List Float) (ids : List ℕ) (u : Float) (e clip defect : ℕ) (w
   abbrev made_of : Takeoff
   made_of = takeoff_of vs ids u (thresholds_of e)
 
-  abbrev said : Check
+  abbrev said : Result Check Refusal
   said = check_of vs ids u e (length w) (length r) (length s)
 
   -- the check once the flags are tested
-  fit : (b t : Bool) → t ≡ flags_fit clip defect → not t ≡ b → cond b (Check.Refuse 5) said ≡ check_flags clip defect said
+  fit : (b t : Bool) → t ≡ flags_fit clip defect → not t ≡ b → cond b (Err Refusal.File) said ≡ check_flags clip defect said
   unfolding check_flags
-  fit b t is h = ap (λ (f : Bool). cond f (Check.Refuse 5) said) (sym h ∙ ap not is)
+  fit b t is h = ap (λ (f : Bool). cond f (Err Refusal.File) said) (sym h ∙ ap not is)
 
   -- by what the flags and the table of refusals say
-  by_check : (c : Check) (n : ℕ) (w' r' : List ℕ) (s' : List Float) (words' : List ℕ) → c ≡ check_flags clip defect said
+  by_check : (c : Result Check Refusal) (n : ℕ) (w' r' : List ℕ) (s' : List Float) (words' : List ℕ) → c ≡ check_flags clip defect said
       → n ≡ number_at c → words' ≡ words_at c clip defect made_of words
       → w' ≡ area_at c (cleared (work_words (length vs) (length ids)) w) w → r' ≡ area_at c (cleared raster_bytes r) r
       → s' ≡ area_at c (surfaces_after vs ids u s) s
@@ -68,19 +70,19 @@ module _ (vs : List Float) (ids : List ℕ) (u : Float) (e clip defect : ℕ) (w
   by_check c n w' r' s' words' is hn hwords hw hr hs =
       record {
         number = hn ∙ ap number_at is;
-        record_words = hwords ∙ ap (λ (d : Check). words_at d clip defect made_of words) is;
-        work = hw ∙ ap (λ (d : Check). area_at d (cleared (work_words (length vs) (length ids)) w) w) is;
-        raster = hr ∙ ap (λ (d : Check). area_at d (cleared raster_bytes r) r) is;
-        surfaces = hs ∙ ap (λ (d : Check). area_at d (surfaces_after vs ids u s) s) is;
+        record_words = hwords ∙ ap (λ (d : Result Check Refusal). words_at d clip defect made_of words) is;
+        work = hw ∙ ap (λ (d : Result Check Refusal). area_at d (cleared (work_words (length vs) (length ids)) w) w) is;
+        raster = hr ∙ ap (λ (d : Result Check Refusal). area_at d (cleared raster_bytes r) r) is;
+        surfaces = hs ∙ ap (λ (d : Result Check Refusal). area_at d (surfaces_after vs ids u s) s) is;
       }
 
   -- where a flag value is none, nothing is done
   pub flags_refused : (t : Bool) → t ≡ flags_fit clip defect → not t ≡ true
       → ComputesNumbered vs ids u e clip defect w r s words 0x8000_0005 w r s words
   unfolding number_at words_at area_at
-  flags_refused t is h = by_check (Check.Refuse 5) 0x8000_0005 w r s words (fit true t is h) refl refl refl refl refl
+  flags_refused t is h = by_check (Err Refusal.File) 0x8000_0005 w r s words (fit true t is h) refl refl refl refl refl
 
-  module _ (a : Answer) (w' r' : List ℕ) (s' : List Float) (t : Bool) (is : t ≡ flags_fit clip defect) (h : not t ≡ false)
+  module _ (a : Result Takeoff Refusal) (w' r' : List ℕ) (s' : List Float) (t : Bool) (is : t ≡ flags_fit clip defect) (h : not t ≡ false)
       (made : Computes vs ids u e w r s a w' r' s') where
     -- else the answer is taken over
     numbered : (n : ℕ) (words' : List ℕ) → n ≡ answer_number a → words' ≡ answer_words clip defect words a
@@ -92,20 +94,21 @@ module _ (vs : List Float) (ids : List ℕ) (u : Float) (e clip defect : ℕ) (w
         made.work made.raster made.surfaces
 
     -- a record fills the words
-    pub filled : (t : Takeoff) (q : MeshQto) (p : Profile) (words' : List ℕ) → a ≡ Answer.Record t → p ≡ profile_at defect
+    pub filled : (t : Takeoff) (q : MeshQto) (p : Option ProfileDefect) (words' : List ℕ) → a ≡ Ok t → p ≡ profile_at defect
         → q ≡ flagged (eqb clip 1) p t.qto → words' ≡ words_of (record { qto = q; pairs = t.pairs })
         → ComputesNumbered vs ids u e clip defect w r s words 0 w' r' s' words'
     unfolding answer_number answer_words
     filled t q p words' ha hp hq hwords =
-        let flags = hq ∙ ap (λ (p' : Profile). flagged (eqb clip 1) p' t.qto) hp in
+        let flags = hq ∙ ap (λ (p' : Option ProfileDefect). flagged (eqb clip 1) p' t.qto) hp in
         numbered 0 words' (sym (ap answer_number ha))
         (hwords ∙ ap (λ (q' : MeshQto). words_of (record { qto = q'; pairs = t.pairs })) flags
         ∙ sym (ap (answer_words clip defect words) ha))
 
     -- a refusal leaves them
-    pub refused : (n : ℕ) → a ≡ Answer.Refused n → ComputesNumbered vs ids u e clip defect w r s words (0x8000_0000 + n) w' r' s' words
+    pub refused : (why : Refusal) → a ≡ Err why
+        → ComputesNumbered vs ids u e clip defect w r s words (0x8000_0000 + refusal_number why) w' r' s' words
     unfolding answer_number answer_words
-    refused n ha = numbered (0x8000_0000 + n) words (sym (ap answer_number ha)) (sym (ap (answer_words clip defect words) ha))
+    refused why ha = numbered (0x8000_0000 + refusal_number why) words (sym (ap answer_number ha)) (sym (ap (answer_words clip defect words) ha))
 
 -- any two numbers that the contract allows are equal, and so is what is left in the record's words and in the areas
 pub compute_numbered_one : ComputeNumberedOne

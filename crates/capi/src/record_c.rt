@@ -4,28 +4,28 @@ ghost use Rattle.record.specs.Numbers.{prism_number, prism_bits};
 ghost use Rattle.qto.specs.Numbers.{words_of, ComputesNumbered};
 
 use crate::ids_c::REFUSED;
-use qto::{Answer, Takeoff};
-use volume::PrismBound;
+use ids::Refusal;
+use qto::Takeoff;
 
 // ---- the prism bound as numbers
 
 // Was the bound computed?
-fn prism_number(prism: PrismBound) -> u32
+fn prism_number(prism: Option<f32>) -> u32
     ensures { result ≡ prism_number prism }
 {
     match prism {
-        PrismBound::NotComputed => 0,
-        PrismBound::Bound(_) => 1,
+        None => 0,
+        Some(_) => 1,
     }
 }
 
 // Its bits, and 0 where it was not.
-fn prism_bits(prism: PrismBound) -> u32
+fn prism_bits(prism: Option<f32>) -> u32
     ensures { result ≡ prism_bits prism }
 {
     match prism {
-        PrismBound::NotComputed => 0,
-        PrismBound::Bound(p) => floats::bits(p),
+        None => 0,
+        Some(p) => floats::bits(p),
     }
 }
 
@@ -89,16 +89,16 @@ pub extern "C" fn mf_compute(
         result work.new raster.new surfaces.new «record».new }
 {
     if !record::flags_fit(clip, defect) {
-        return REFUSED + 5;
+        return REFUSED + u32::from(Refusal::File);
     }
     let answer = qto::compute(vertices, ids, unit, edition, work, raster, surfaces);
     match answer {
-        Answer::Record(t) => {
+        Ok(t) => {
             let pairs = t.pairs;
             let qto = qto::apply_product_flags(t.qto, clip == 1, record::profile_of(defect));
             *record = record_words(Takeoff { qto, pairs });
             0
         }
-        Answer::Refused(n) => REFUSED + n as u32,
+        Err(refusal) => REFUSED + u32::from(refusal),
     }
 }

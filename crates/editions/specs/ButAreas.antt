@@ -1,10 +1,10 @@
 -- Everything but the four areas by slope does not hang on the edition: of any two outcomes that `compute`'s contract allows for one mesh
 -- under two editions that are known.
-use Rattle.std.specs.Prelude.{◌≡◌, List, ℕ, T, Float}
+use Rattle.std.specs.Prelude.{◌≡◌, List, ℕ, T, Float, Result}
+use Rattle.ids.specs.declared.refusal.Refusal.{Refusal}
 use Rattle.sums.specs.declared.totals.Thresholds.{Thresholds}
 use Rattle.sums.specs.Editions.{edition_known}
 use Rattle.record.specs.declared.MeshQto.{MeshQto}
-use Rattle.qto.specs.declared.Answer.{Answer}
 use Rattle.qto.specs.declared.Takeoff.{Takeoff}
 use Rattle.qto.specs.Full.{takeoff_of}
 use Rattle.qto.specs.Compute.{Computes}
@@ -30,7 +30,7 @@ PairUnseen = (vs : List Float) (ids : List ℕ) (u : Float) (p p' : Thresholds) 
 
 abbrev pub EditionUnseen : Type 0
 EditionUnseen =
-    (vs : List Float) (ids : List ℕ) (u : Float) (e e' : ℕ) (w r : List ℕ) (s : List Float) (a a' : Answer) (w₁ w₂ r₁ r₂ : List ℕ)
+    (vs : List Float) (ids : List ℕ) (u : Float) (e e' : ℕ) (w r : List ℕ) (s : List Float) (a a' : Result Takeoff Refusal) (w₁ w₂ r₁ r₂ : List ℕ)
     (s₁ s₂ : List Float)
     → T (edition_known e) → T (edition_known e') → Computes vs ids u e w r s a w₁ r₁ s₁ → Computes vs ids u e' w r s a' w₂ r₂ s₂
     → Agree ButAreas SameArea a a' w₁ w₂ r₁ r₂ s₁ s₂

@@ -1,13 +1,13 @@
 -- What the edition does to the four areas: from 1 to 2 the inclined area never grows, and top, bottom and side never shrink, in the
 -- record's own f32 numbers.
-use Rattle.std.specs.Prelude.{List, ℕ, T, Float}
+use Rattle.std.specs.Prelude.{List, ℕ, T, Float, Result}
 use Rattle.std.specs.Float.Ieee.{le}
+use Rattle.ids.specs.declared.refusal.Refusal.{Refusal}
 use Rattle.sums.specs.declared.totals.Areas.{Areas}
 use Rattle.sums.specs.declared.totals.Thresholds.{Thresholds}
 use Rattle.sums.specs.SlopeMoves.{NoMoreInclined}
 use Rattle.sums.specs.Fine.{all_fine}
 use Rattle.refusals.specs.Refusals.{unit_fits}
-use Rattle.qto.specs.declared.Answer.{Answer}
 use Rattle.qto.specs.declared.Takeoff.{Takeoff}
 use Rattle.qto.specs.Full.{record_of}
 use Rattle.qto.specs.Compute.{Computes}
@@ -34,6 +34,6 @@ TakeoffMoves t t' = AreasMove (areas_in t.qto) (areas_in t'.qto)
 
 abbrev pub SecondMoves : Type 0
 SecondMoves =
-    (vs : List Float) (ids : List ℕ) (u : Float) (w r : List ℕ) (s : List Float) (a a' : Answer) (w₁ w₂ r₁ r₂ : List ℕ)
+    (vs : List Float) (ids : List ℕ) (u : Float) (w r : List ℕ) (s : List Float) (a a' : Result Takeoff Refusal) (w₁ w₂ r₁ r₂ : List ℕ)
     (s₁ s₂ : List Float)
     → Computes vs ids u 1 w r s a w₁ r₁ s₁ → Computes vs ids u 2 w r s a' w₂ r₂ s₂ → Agree TakeoffMoves SameArea a a' w₁ w₂ r₁ r₂ s₁ s₂

@@ -1,4 +1,5 @@
 -- The glove for the C interface, from that for the record: the words are made of the record. Assumes nothing.
+use Rattle.std.specs.Prelude.{Option}
 use mathlib.Core.Path.{◌≡◌, refl}
 use mathlib.Core.Bool.{Bool}
 use mathlib.Core.List.{List}
@@ -9,8 +10,8 @@ use lib.Ieee.Bits.{of_bits-to_bits}
 use Rattle.ieee.proofs.Patterns.Narrowed.{rounded_fits}
 use Rattle.ids.specs.Reversed.{reversed}
 use Rattle.ids.proofs.Reversed.{reversed_is}
+use Rattle.record.specs.declared.ProfileDefect.{ProfileDefect}
 use Rattle.record.specs.declared.MeshQto.{MeshQto}
-use Rattle.record.specs.declared.Profile.{Profile}
 use Rattle.record.specs.Flags.{marked, flagged}
 use Rattle.record.specs.Numbers.{profile_at}
 use Rattle.record.proofs.Kept.{flags_leave}
@@ -32,11 +33,11 @@ use Rattle.glove.proofs.Glove.{check_same, no_rows, rows_after, takeoffs_turned,
 
 -- ---- a record's volume is of binary32, flagged or not
 
-flagged_volume : (clip : Bool) (profile : Profile) (q : MeshQto) → (flagged clip profile q).volume_m3 ≡ q.volume_m3
+flagged_volume : (clip : Bool) (profile : Option ProfileDefect) (q : MeshQto) → (flagged clip profile q).volume_m3 ≡ q.volume_m3
 unfolding marked
 flagged_volume = flags_leave (λ q. q.volume_m3) (λ to p q. refl)
 
-flagged_count : (clip : Bool) (profile : Profile) (q : MeshQto) → (flagged clip profile q).surface_count ≡ q.surface_count
+flagged_count : (clip : Bool) (profile : Option ProfileDefect) (q : MeshQto) → (flagged clip profile q).surface_count ≡ q.surface_count
 unfolding marked
 flagged_count = flags_leave (λ q. q.surface_count) (λ to p q. refl)
 

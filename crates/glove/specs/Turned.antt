@@ -1,11 +1,12 @@
 -- A record and its rows turned over (02, A9): what the mesh with reversed ids has in their place.
-use Rattle.std.specs.Prelude.{◌≡◌, List, ℕ, ◌*◌, take, drop, Float}
+use Rattle.std.specs.Prelude.{◌≡◌, List, ℕ, ◌*◌, take, drop, Float, Result, Ok, Err}
 use Rattle.ieee.specs.Number.{as_number, opposite}
+use Rattle.ids.specs.declared.refusal.Refusal.{Refusal}
 use Rattle.rows.specs.declared.PlanarSurface.{PlanarSurface}
 use Rattle.rows.specs.Rows.{rows_of, sorted}
 use Rattle.rows.specs.Opposite.{opposite_rows, Partnered, areas_of}
 use Rattle.record.specs.declared.MeshQto.{MeshQto}
-use Rattle.qto.specs.declared.Answer.{Answer}
+use Rattle.qto.specs.declared.Takeoff.{Takeoff}
 use Rattle.road.specs.Agree.{AgreeRecords}
 use Rattle.road.specs.Replaced.{replaced}
 
@@ -46,6 +47,6 @@ pub record TurnedRows (n : ℕ) (s s' : List Float) : Type 0 where
   pub rest : drop (4 * n) s' ≡ drop (4 * n) s
 
 -- by the answer: on a refusal the area is as it was in both
-unfoldable pub TurnedArea : Answer → List Float → List Float → Type 0
-TurnedArea (Answer.Refused n) s s' = s' ≡ s
-TurnedArea (Answer.Record t) s s' = TurnedRows t.qto.surface_count s s'
+unfoldable pub TurnedArea : Result Takeoff Refusal → List Float → List Float → Type 0
+TurnedArea (Err why) s s' = s' ≡ s
+TurnedArea (Ok t) s s' = TurnedRows t.qto.surface_count s s'

@@ -1,4 +1,5 @@
 -- What is printed can be read back: numbers by their digits, the cases of an enum by a letter of their names. Assumes nothing.
+use Rattle.std.specs.Prelude.{Option, Some, None}
 use mathlib.Core.Path.{◌≡◌, refl, sym, ap, ◌∙◌}
 use mathlib.Core.Bool.{cond}
 use mathlib.Core.List.{List}
@@ -10,7 +11,6 @@ use lib.Ieee.{Float, binary32, to_bits, of_bits, fits}
 use lib.Ieee.Bits.{of_bits-to_bits, to_bits-lt}
 use Rattle.verdict.specs.declared.Quality.{Quality}
 use Rattle.volume.specs.declared.Method.{Method}
-use Rattle.record.specs.declared.Profile.{Profile}
 use Rattle.record.specs.declared.ProfileDefect.{ProfileDefect}
 use Rattle.record.specs.Names.{quality_name, method_name, defect_name, profile_name}
 use Rattle.spelling.specs.Text.{codes, glyph, hex, bits, decimal_in}
@@ -65,20 +65,20 @@ method_read Method.PrismFallback = refl
 method_read Method.MeshUnclipped = refl
 method_read Method.MeshProfileInvalid = refl
 
-profile_back : List ℕ → Profile
+profile_back : List ℕ → Option ProfileDefect
 profile_back l =
-    at 0 115 l (Profile.Invalid ProfileDefect.SelfIntersecting)
-    (at 0 100 l (Profile.Invalid ProfileDefect.Degenerate)
-    (at 0 104 l (Profile.Invalid ProfileDefect.HoleOutside)
-    (at 0 111 l (Profile.Invalid ProfileDefect.Overlapping) Profile.Valid)))
+    at 0 115 l (Some ProfileDefect.SelfIntersecting)
+    (at 0 100 l (Some ProfileDefect.Degenerate)
+    (at 0 104 l (Some ProfileDefect.HoleOutside)
+    (at 0 111 l (Some ProfileDefect.Overlapping) None)))
 
-profile_read : (p : Profile) → profile_back (codes (profile_name p)) ≡ p
+profile_read : (p : Option ProfileDefect) → profile_back (codes (profile_name p)) ≡ p
 unfolding profile_back profile_name defect_name
-profile_read Profile.Valid = refl
-profile_read (Profile.Invalid ProfileDefect.SelfIntersecting) = refl
-profile_read (Profile.Invalid ProfileDefect.Degenerate) = refl
-profile_read (Profile.Invalid ProfileDefect.HoleOutside) = refl
-profile_read (Profile.Invalid ProfileDefect.Overlapping) = refl
+profile_read None = refl
+profile_read (Some ProfileDefect.SelfIntersecting) = refl
+profile_read (Some ProfileDefect.Degenerate) = refl
+profile_read (Some ProfileDefect.HoleOutside) = refl
+profile_read (Some ProfileDefect.Overlapping) = refl
 
 pub legible : Legible
 unfolding decimal_in glyph

@@ -1,4 +1,5 @@
 -- What the code picks from lines, by the number of a case, and what it makes of a form are the lines of the listing. Assumes nothing.
+use Rattle.std.specs.Prelude.{Option, Some, None}
 use mathlib.Core.Path.{◌≡◌, refl, ap}
 use mathlib.Core.Bool.{Bool, true, false}
 use mathlib.Core.List.{List, [], ◌∷◌}
@@ -10,9 +11,7 @@ use mir.Val.{bool_byte}
 use Rattle.ids.specs.Uses.{bit}
 use Rattle.verdict.specs.declared.Quality.{Quality}
 use Rattle.volume.specs.declared.Method.{Method}
-use Rattle.volume.specs.declared.PrismBound.{PrismBound}
 use Rattle.record.specs.declared.MeshQto.{MeshQto}
-use Rattle.record.specs.declared.Profile.{Profile}
 use Rattle.record.specs.declared.ProfileDefect.{ProfileDefect}
 use Rattle.record.specs.Names.{quality_name, method_name, defect_name, profile_name}
 use Rattle.record.specs.Numbers.{quality_number, method_number, defect_number, profile_number}
@@ -54,16 +53,16 @@ method_line Method.PrismFallback = record { is = refl; short = omega arith }
 method_line Method.MeshUnclipped = record { is = refl; short = omega arith }
 method_line Method.MeshProfileInvalid = record { is = refl; short = omega arith }
 
-pub profile_line : (p : Profile)
+pub profile_line : (p : Option ProfileDefect)
     → Spells (line_of 0 (profile_number p)
     (codes "profile none\nprofile self_intersecting\nprofile degenerate\nprofile hole_outside\nprofile overlapping\n"))
     (line "profile " (codes (profile_name p))) 26
 unfolding line_of line profile_number defect_number profile_name defect_name
-profile_line Profile.Valid = record { is = refl; short = omega arith }
-profile_line (Profile.Invalid ProfileDefect.SelfIntersecting) = record { is = refl; short = omega arith }
-profile_line (Profile.Invalid ProfileDefect.Degenerate) = record { is = refl; short = omega arith }
-profile_line (Profile.Invalid ProfileDefect.HoleOutside) = record { is = refl; short = omega arith }
-profile_line (Profile.Invalid ProfileDefect.Overlapping) = record { is = refl; short = omega arith }
+profile_line None = record { is = refl; short = omega arith }
+profile_line (Some ProfileDefect.SelfIntersecting) = record { is = refl; short = omega arith }
+profile_line (Some ProfileDefect.Degenerate) = record { is = refl; short = omega arith }
+profile_line (Some ProfileDefect.HoleOutside) = record { is = refl; short = omega arith }
+profile_line (Some ProfileDefect.Overlapping) = record { is = refl; short = omega arith }
 
 pub reliable_line : (b : Bool) → Spells (line_of 0 (bool_byte b) (codes "reliable 0\nreliable 1\n")) (line "reliable " (decimal (bit b))) 11
 unfolding line_of line decimal_in glyph bit
@@ -80,10 +79,10 @@ pub number_lines_lem : (q : MeshQto) → Spells
 unfolding filled_at filled line bits hex number_lines
 number_lines_lem q = record { is = refl; short = omega arith }
 
-pub prism_none : Spells (codes "prism none\n") (line "prism " (prism_text PrismBound.NotComputed)) 15
+pub prism_none : Spells (codes "prism none\n") (line "prism " (prism_text None)) 15
 unfolding line prism_text
 prism_none = record { is = refl; short = omega arith }
 
-pub prism_bits_lem : (p : Float) → Spells (filled (codes "prism #\n") (p ∷ [])) (line "prism " (prism_text (PrismBound.Bound p))) 15
+pub prism_bits_lem : (p : Float) → Spells (filled (codes "prism #\n") (p ∷ [])) (line "prism " (prism_text (Some p))) 15
 unfolding filled_at filled line bits hex prism_text
 prism_bits_lem p = record { is = refl; short = omega arith }

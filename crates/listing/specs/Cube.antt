@@ -1,14 +1,12 @@
 -- The cube of document 01: its record and rows, and the listing printed there.
-use Rattle.std.specs.Prelude.{ℕ, ◌≡◌, true, List, [], ◌∷◌, ◌++◌, Float}
+use Rattle.std.specs.Prelude.{ℕ, ◌≡◌, true, List, [], ◌∷◌, ◌++◌, Float, None}
 use Prim.Native.String.{String}
 use Rattle.std.specs.Float.{binary32}
 use Rattle.std.specs.Float.Ieee.{of_bits}
 use Rattle.rows.specs.declared.PlanarSurface.{PlanarSurface}
 use Rattle.verdict.specs.declared.Quality.{Quality}
 use Rattle.volume.specs.declared.Method.{Method}
-use Rattle.volume.specs.declared.PrismBound.{PrismBound}
 use Rattle.record.specs.declared.MeshQto.{MeshQto}
-use Rattle.record.specs.declared.Profile.{Profile}
 use Rattle.spelling.specs.Text.{codes}
 use Rattle.listing.specs.Listing.{listing_of}
 
@@ -32,8 +30,8 @@ cube_record =
       volume_reliable = true;
       volume_method = Method.Mesh;
       volume_best_m3 = f32_of 0x4100_0000;
-      volume_prism_bound_m3 = PrismBound.NotComputed;
-      profile_invalid = Profile.Valid;
+      volume_prism_bound_m3 = None;
+      profile_invalid = None;
       triangles_used = 12;
       triangles_out_of_range = 0;
       triangles_sliver = 0;

@@ -1,10 +1,10 @@
 -- What is printed can be read back: two different numbers or cases are never spelt alike.
-use Rattle.std.specs.Prelude.{◌≡◌, ℕ, ◌^◌, ◌<◌, T, get_or, Float}
+use Rattle.std.specs.Prelude.{◌≡◌, ℕ, ◌^◌, ◌<◌, T, get_or, Float, Option}
 use Rattle.std.specs.Float.{binary32}
 use Rattle.std.specs.Float.Ieee.{fits}
 use Rattle.verdict.specs.declared.Quality.{Quality}
 use Rattle.volume.specs.declared.Method.{Method}
-use Rattle.record.specs.declared.Profile.{Profile}
+use Rattle.record.specs.declared.ProfileDefect.{ProfileDefect}
 use Rattle.record.specs.Names.{quality_name, method_name, profile_name}
 use Rattle.spelling.specs.Text.{codes, hex, bits, decimal}
 
@@ -19,4 +19,4 @@ pub record Legible : Type 0 where
   pub nought : decimal 0 ≡ codes "0"
   pub qualities : (p q : Quality) → codes (quality_name p) ≡ codes (quality_name q) → p ≡ q
   pub methods : (p q : Method) → codes (method_name p) ≡ codes (method_name q) → p ≡ q
-  pub profiles : (p q : Profile) → codes (profile_name p) ≡ codes (profile_name q) → p ≡ q
+  pub profiles : (p q : Option ProfileDefect) → codes (profile_name p) ≡ codes (profile_name q) → p ≡ q

@@ -1,8 +1,7 @@
 -- The listing of document 01 with 02's counts (A1), line by line, and the line of a refusal.
-use Rattle.std.specs.Prelude.{ℕ, List, [], ◌++◌, ◌∷◌}
+use Rattle.std.specs.Prelude.{ℕ, List, [], ◌++◌, ◌∷◌, Option, Some, None, Float}
 use Rattle.ids.specs.Uses.{bit}
 use Rattle.rows.specs.declared.PlanarSurface.{PlanarSurface}
-use Rattle.volume.specs.declared.PrismBound.{PrismBound}
 use Rattle.record.specs.declared.MeshQto.{MeshQto}
 use Rattle.record.specs.Names.{quality_name, method_name, profile_name}
 use Rattle.spelling.specs.Text.{codes, bits, decimal, line}
@@ -28,9 +27,9 @@ number_lines q =
     ++ line "best " (bits q.volume_best_m3)))))))))
 
 -- none, or bits
-unfoldable pub prism_text : PrismBound → List ℕ
-prism_text PrismBound.NotComputed = codes "none"
-prism_text (PrismBound.Bound p) = bits p
+unfoldable pub prism_text : Option Float → List ℕ
+prism_text None = codes "none"
+prism_text (Some p) = bits p
 
 -- 02's counts of triangles
 unfoldable pub triangle_lines : MeshQto → List ℕ

@@ -12,7 +12,6 @@ ghost use Rattle.listing.specs.inner.Steps.{Short};
 
 use ids::Refusal;
 use record::MeshQto;
-use volume::PrismBound;
 
 // How many bytes of a text area are for the lines above the rows.
 const HEAD: usize = 352;
@@ -76,13 +75,13 @@ fn number_lines(out: &mut [u8], at: usize, q: MeshQto) -> usize
     )
 }
 
-fn prism_line(out: &mut [u8], at: usize, prism: PrismBound) -> usize
+fn prism_line(out: &mut [u8], at: usize, prism: Option<f32>) -> usize
     requires { at + 15 ≤ length out.old }
     ensures { PutsText at (line "prism " (prism_text prism)) out.old result out.new × (result ≤ at + 15) }
 {
     match prism {
-        PrismBound::NotComputed => spelling::put(out, at, b"prism none\n"),
-        PrismBound::Bound(p) => spelling::fill(out, at, b"prism #\n", &[p]),
+        None => spelling::put(out, at, b"prism none\n"),
+        Some(p) => spelling::fill(out, at, b"prism #\n", &[p]),
     }
 }
 

@@ -1,5 +1,6 @@
 -- Flags and their numbers: each comes back from the other, so contents that a file can hold are those of a unit, vertices, ids and flags.
 -- Assumes nothing.
+use Rattle.std.specs.Prelude.{Option, Some, None}
 use mathlib.Core.Path.{◌≡◌, refl}
 use mathlib.Core.Bool.{Bool, true, false, cond}
 use Prim.Native.Nat.{ℕ, zero, suc, ◌≤◌}
@@ -8,7 +9,6 @@ use borrow.Author.Tests.{leb-true}
 use denote.Floats.{is_true}
 use lib.Dec.{T, eqb, leb}
 use Rattle.ids.proofs.Same.{both}
-use Rattle.record.specs.declared.Profile.{Profile}
 use Rattle.record.specs.declared.ProfileDefect.{ProfileDefect}
 use Rattle.record.specs.Numbers.{defect_number, profile_number, profile_at, flags_fit}
 use Rattle.meshfile.specs.Format.{Contents}
@@ -18,26 +18,26 @@ pub clip_back : (clip : Bool) → eqb (cond clip 1 0) 1 ≡ clip
 clip_back true = refl
 clip_back false = refl
 
-pub profile_back : (p : Profile) → profile_at (profile_number p) ≡ p
+pub profile_back : (p : Option ProfileDefect) → profile_at (profile_number p) ≡ p
 unfolding profile_at profile_number defect_number
-profile_back Profile.Valid = refl
-profile_back (Profile.Invalid ProfileDefect.SelfIntersecting) = refl
-profile_back (Profile.Invalid ProfileDefect.Degenerate) = refl
-profile_back (Profile.Invalid ProfileDefect.HoleOutside) = refl
-profile_back (Profile.Invalid ProfileDefect.Overlapping) = refl
+profile_back None = refl
+profile_back (Some ProfileDefect.SelfIntersecting) = refl
+profile_back (Some ProfileDefect.Degenerate) = refl
+profile_back (Some ProfileDefect.HoleOutside) = refl
+profile_back (Some ProfileDefect.Overlapping) = refl
 
-pub flags_known : (clip : Bool) (p : Profile) → T (flags_fit (cond clip 1 0) (profile_number p))
+pub flags_known : (clip : Bool) (p : Option ProfileDefect) → T (flags_fit (cond clip 1 0) (profile_number p))
 unfolding flags_fit profile_number defect_number
-flags_known true Profile.Valid = tt
-flags_known true (Profile.Invalid ProfileDefect.SelfIntersecting) = tt
-flags_known true (Profile.Invalid ProfileDefect.Degenerate) = tt
-flags_known true (Profile.Invalid ProfileDefect.HoleOutside) = tt
-flags_known true (Profile.Invalid ProfileDefect.Overlapping) = tt
-flags_known false Profile.Valid = tt
-flags_known false (Profile.Invalid ProfileDefect.SelfIntersecting) = tt
-flags_known false (Profile.Invalid ProfileDefect.Degenerate) = tt
-flags_known false (Profile.Invalid ProfileDefect.HoleOutside) = tt
-flags_known false (Profile.Invalid ProfileDefect.Overlapping) = tt
+flags_known true None = tt
+flags_known true (Some ProfileDefect.SelfIntersecting) = tt
+flags_known true (Some ProfileDefect.Degenerate) = tt
+flags_known true (Some ProfileDefect.HoleOutside) = tt
+flags_known true (Some ProfileDefect.Overlapping) = tt
+flags_known false None = tt
+flags_known false (Some ProfileDefect.SelfIntersecting) = tt
+flags_known false (Some ProfileDefect.Degenerate) = tt
+flags_known false (Some ProfileDefect.HoleOutside) = tt
+flags_known false (Some ProfileDefect.Overlapping) = tt
 
 -- known values come back from what they stand for
 clip_number : (c : ℕ) → c ≤ 1 → cond (eqb c 1) 1 0 ≡ c

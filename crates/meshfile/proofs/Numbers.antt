@@ -1,5 +1,5 @@
 -- The C forms: what `write` and `read_bits` give, as numbers; and there and back by them. Assumes nothing.
-use Rattle.std.specs.Prelude.{Result, Ok, Err}
+use Rattle.std.specs.Prelude.{Option, Result, Ok, Err}
 use mathlib.Core.Path.{◌≡◌, refl, sym, ap, ◌∙◌, subst}
 use mathlib.Core.Bool.{Bool, true, false, not, cond}
 use mathlib.Core.List.{List, [], ◌∷◌}
@@ -10,7 +10,7 @@ use borrow.Author.Tests.{not-false}
 use denote.Floats.{passes, is_true}
 use lib.Dec.{T, eqb}
 use lib.ListN.{length, take}
-use Rattle.record.specs.declared.Profile.{Profile}
+use Rattle.record.specs.declared.ProfileDefect.{ProfileDefect}
 use Rattle.record.specs.Numbers.{profile_at, profile_number, flags_fit}
 use Rattle.words.specs.Words.{Below}
 use Rattle.meshfile.specs.declared.MeshBits.{MeshBits}
@@ -48,7 +48,7 @@ module _ (m : Contents) (area : List ℕ) (t : Bool) (e : t ≡ flags_fit m.clip
       record { number = rw none; bytes = rw none }
 
   -- else what `write` gives
-  pub as_written : not t ≡ false → (p : Profile) → p ≡ profile_at m.defect → (r : Result ℕ Refusal) (area' : List ℕ)
+  pub as_written : not t ≡ false → (p : Option ProfileDefect) → p ≡ profile_at m.defect → (r : Result ℕ Refusal) (area' : List ℕ)
       → Writes (contents_of m.unit m.vertices m.ids (eqb m.clip 1) p) area r area'
       → (k : ℕ) → k ≡ writing_number r → WritesNumbered m area k area'
   unfolding flags_then

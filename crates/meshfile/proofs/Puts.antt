@@ -1,5 +1,6 @@
 -- Bytes put one behind the other into an area: what stands in front so far, and all of it once the area is full. So a header and its
 -- payload make a record, and the records a file. Assumes nothing.
+use Rattle.std.specs.Prelude.{Option, Some, None}
 use mathlib.Core.Path.{◌≡◌, refl, sym, ap, ◌∙◌}
 use mathlib.Core.Bool.{Bool, true, false, cond}
 use mathlib.Core.List.{List, [], ◌∷◌, ◌++◌, append_assoc, append-nil}
@@ -9,7 +10,6 @@ use mir.Val.{bool_byte}
 use borrow.Rule.Slice.PartMut.{post_of, put_mid, Post-is}
 use lib.ListN.{length, take, drop, set, length-append, length-take, length-drop, drop_of_length-le}
 use lib.Seq.{take-append_seam}
-use Rattle.record.specs.declared.Profile.{Profile}
 use Rattle.record.specs.declared.ProfileDefect.{ProfileDefect}
 use Rattle.record.specs.Numbers.{defect_number, profile_number}
 use Rattle.words.specs.Words.{bytes_of, all_bytes}
@@ -65,7 +65,7 @@ words_put kind n ws area t new et en ea =
     begins_last head t new 6 refl front ∙ rw (ea, length_all ws, en)
 
 -- the flags behind theirs
-pair_put : (l : List ℕ) (clip : Bool) (d : ℕ) (p : Profile) → length l ≡ 2 → d ≡ profile_number p
+pair_put : (l : List ℕ) (clip : Bool) (d : ℕ) (p : Option ProfileDefect) → length l ≡ 2 → d ≡ profile_number p
     → set (set l 0 (bool_byte clip)) 1 d ≡ cond clip 1 0 ∷ profile_number p ∷ []
 pair_put [] clip d p h q = absurd (omega arith)
 pair_put (x ∷ []) clip d p h q = absurd (omega arith)
@@ -73,20 +73,20 @@ pair_put (x ∷ y ∷ z ∷ l) clip d p h q = absurd (omega arith)
 pair_put (x ∷ y ∷ []) true d p h q = ap (λ (n : ℕ). 1 ∷ n ∷ []) q
 pair_put (x ∷ y ∷ []) false d p h q = ap (λ (n : ℕ). 0 ∷ n ∷ []) q
 
-pub flags_put : (t u : List ℕ) (clip : Bool) (d : ℕ) (p : Profile) → length t ≡ 8 → u ≡ bytes_of 2 ++ (4 ∷ 0 ∷ drop 6 t)
+pub flags_put : (t u : List ℕ) (clip : Bool) (d : ℕ) (p : Option ProfileDefect) → length t ≡ 8 → u ≡ bytes_of 2 ++ (4 ∷ 0 ∷ drop 6 t)
     → d ≡ profile_number p → set (set u 6 (bool_byte clip)) 7 d ≡ chunk_of 4 (cond clip 1 0 ∷ profile_number p ∷ [])
 unfolding chunk_of bytes_of
 flags_put t u clip d p h e q =
     let long : length (drop 6 t) ≡ 2 = omega (arith, length-drop 6 t) in
     rw e (ap (λ (l : List ℕ). bytes_of 2 ++ (4 ∷ 0 ∷ l)) (pair_put (drop 6 t) clip d p long q))
 
-pub defect_small : (p : Profile) → profile_number p ≤ 4
+pub defect_small : (p : Option ProfileDefect) → profile_number p ≤ 4
 unfolding profile_number defect_number
-defect_small Profile.Valid = omega arith
-defect_small (Profile.Invalid ProfileDefect.SelfIntersecting) = omega arith
-defect_small (Profile.Invalid ProfileDefect.Degenerate) = omega arith
-defect_small (Profile.Invalid ProfileDefect.HoleOutside) = omega arith
-defect_small (Profile.Invalid ProfileDefect.Overlapping) = omega arith
+defect_small None = omega arith
+defect_small (Some ProfileDefect.SelfIntersecting) = omega arith
+defect_small (Some ProfileDefect.Degenerate) = omega arith
+defect_small (Some ProfileDefect.HoleOutside) = omega arith
+defect_small (Some ProfileDefect.Overlapping) = omega arith
 
 -- ---- the records in their order
 

@@ -1,7 +1,7 @@
 -- There and back: what was written is read to the bit, and what was read is written to the byte.
-use Rattle.std.specs.Prelude.{◌≡◌, ℕ, ◌+◌, ◌*◌, ◌^◌, ◌≤◌, ◌<◌, Bool, cond, List, [], ◌∷◌, ◌++◌, ltb, length, take, drop, Result, Ok}
-use Rattle.record.specs.declared.Profile.{Profile}
+use Rattle.std.specs.Prelude.{◌≡◌, ℕ, ◌+◌, ◌*◌, ◌^◌, ◌≤◌, ◌<◌, Bool, cond, List, [], ◌∷◌, ◌++◌, ltb, length, take, drop, Option, Result, Ok}
 use Rattle.words.specs.Words.{Below}
+use Rattle.record.specs.declared.ProfileDefect.{ProfileDefect}
 use Rattle.meshfile.specs.declared.MeshBits.{MeshBits}
 use Rattle.meshfile.specs.Format.{Contents, File, file_of}
 use Rattle.meshfile.specs.Written.{chunk_of}
@@ -11,7 +11,7 @@ use Rattle.ids.specs.declared.refusal.Refusal.{Refusal}
 
 -- Reading what was written gives the same unit, floats, ids and flags, to the bit: of every pattern, a NaN's too. (`reads_back`)
 abbrev pub ReadsBack : Type 0
-ReadsBack = (u : ℕ) (vs is : List ℕ) (clip : Bool) (profile : Profile) → u < 2 ^ 32 → Below (2 ^ 32) vs → Below (2 ^ 32) is
+ReadsBack = (u : ℕ) (vs is : List ℕ) (clip : Bool) (profile : Option ProfileDefect) → u < 2 ^ 32 → Below (2 ^ 32) vs → Below (2 ^ 32) is
     → (area : List ℕ) (n : ℕ) (area' : List ℕ) → Writes (contents_of u vs is clip profile) area (Ok n) area'
     → (ps ids : List ℕ) → length vs ≤ length ps → length is ≤ length ids
     → (r : Result MeshBits Refusal) (ps' ids' : List ℕ) → ReadsBits (take n area') ps ids r ps' ids'

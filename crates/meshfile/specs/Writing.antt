@@ -1,14 +1,14 @@
 -- What comes back of `write`, and what it leaves in the lent bytes: for every unit, vertices, ids and flags one answer, and one later
 -- content.
-use Rattle.std.specs.Prelude.{◌≡◌, ◌⊎◌, ℕ, ◌+◌, ◌*◌, ◌≤◌, Bool, false, ◌||◌, cond, List, ◌++◌, ltb, length, drop, Result, Ok, Err}
-use Rattle.record.specs.declared.Profile.{Profile}
+use Rattle.std.specs.Prelude.{◌≡◌, ◌⊎◌, ℕ, ◌+◌, ◌*◌, ◌≤◌, Bool, false, ◌||◌, cond, List, ◌++◌, ltb, length, drop, Option, Result, Ok, Err}
+use Rattle.record.specs.declared.ProfileDefect.{ProfileDefect}
 use Rattle.record.specs.Numbers.{profile_number}
 use Rattle.meshfile.specs.Format.{most_in_file, Contents}
 use Rattle.meshfile.specs.Written.{file_bytes, longest}
 use Rattle.ids.specs.declared.refusal.Refusal.{Refusal}
 
 -- what is to be written
-abbrev pub contents_of : ℕ → List ℕ → List ℕ → Bool → Profile → Contents
+abbrev pub contents_of : ℕ → List ℕ → List ℕ → Bool → Option ProfileDefect → Contents
 contents_of u vs is clip profile =
     record { unit = u; vertices = vs; ids = is; clip = cond clip 1 0; defect = profile_number profile }
 

@@ -10,7 +10,7 @@ ghost use Rattle.meshfile.specs.Reading.{mesh_bits, with_float, Reads, ReadsBits
 ghost use Rattle.meshfile.specs.inner.Steps.{ids_from, vertices_from, layout_of, in_room, contents_at, IdsRead};
 
 use ids::Refusal;
-use record::Profile;
+use record::ProfileDefect;
 pub use writing::write;
 
 // What a file holds beside its floats and ids: their numbers, the unit's pattern and the flags.
@@ -20,7 +20,7 @@ pub struct MeshBits {
     pub floats: usize,
     pub ids: usize,
     pub clip: bool,
-    pub profile: Profile,
+    pub profile: Option<ProfileDefect>,
 }
 
 // The same with the unit as a float.
@@ -30,7 +30,7 @@ pub struct MeshFile {
     pub floats: usize,
     pub ids: usize,
     pub clip: bool,
-    pub profile: Profile,
+    pub profile: Option<ProfileDefect>,
 }
 
 // ---- one record

@@ -7,7 +7,7 @@ ghost use Rattle.meshfile.specs.Written.{chunk_of, file_bytes};
 ghost use Rattle.meshfile.specs.Writing.{contents_of, Writes};
 
 use ids::Refusal;
-use record::Profile;
+use record::ProfileDefect;
 
 // ---- one record, into an area of its length
 
@@ -31,7 +31,7 @@ fn put_record(kind: u8, payload: &[u32], area: &mut [u8])
 }
 
 // Kind 4.
-fn put_flags(clip: bool, profile: Profile, area: &mut [u8])
+fn put_flags(clip: bool, profile: Option<ProfileDefect>, area: &mut [u8])
     requires { length area.old ≡ 8 }
     ensures { area.new ≡ chunk_of 4 (cond clip 1 0 ∷ profile_number profile ∷ []) }
 {
@@ -42,7 +42,7 @@ fn put_flags(clip: bool, profile: Profile, area: &mut [u8])
 
 // ---- the records in their order
 
-fn put_file(unit: u32, vertices: &[u32], ids: &[u32], clip: bool, profile: Profile, area: &mut [u8])
+fn put_file(unit: u32, vertices: &[u32], ids: &[u32], clip: bool, profile: Option<ProfileDefect>, area: &mut [u8])
     requires { (length area.old ≡ 30 + 4 * length vertices.now + 4 * length ids.now)
         × (length vertices.now ≤ most_in_file) × (length ids.now ≤ most_in_file) }
     ensures { area.new ≡ file_bytes (contents_of unit vertices.now ids.now clip profile) }
@@ -62,7 +62,7 @@ pub fn write(
     vertices: &[u32],
     ids: &[u32],
     clip: bool,
-    profile: Profile,
+    profile: Option<ProfileDefect>,
     bytes: &mut [u8],
 ) -> Result<usize, Refusal>
     ensures { Writes (contents_of unit vertices.now ids.now clip profile) bytes.old result

@@ -45,7 +45,7 @@ unfolding cube_file plain_file chunk_of all_bytes bytes_of file_of front_of u16_
 cube_file_lem = refl
 
 cube_passes : check_of (floats_of cube_file.vertices) cube_file.ids (of_bits binary32 cube_file.unit) named_edition 13824 65536 2048
-    ≡ Check.Full
+    ≡ Ok Check.Full
 unfolding cube_file floats_of check_of unit_fits edition_known all_fine magnitude le lt eq of_bits of_fields
 cube_passes = refl
 

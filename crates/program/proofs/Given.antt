@@ -1,5 +1,5 @@
 -- Callees that could refuse an area do not: what they answer is the count of the pieces, and the length of the text that they put.
-use Rattle.std.specs.Prelude.{Result, Ok, IsOk}
+use Rattle.std.specs.Prelude.{Option, Some, None, Result, Ok, IsOk}
 use Rattle.ids.specs.declared.refusal.Refusal.{Refusal}
 use mathlib.Core.Path.{◌≡◌, refl, ap}
 use Prim.Native.Nat.{ℕ, ◌+◌, ◌*◌, ◌≤◌}
@@ -13,8 +13,8 @@ use Rattle.ids.specs.Triangles.{triangle_count}
 use Rattle.ids.specs.Lent.{refusal, unless_refused, most_entries}
 use Rattle.ids.specs.Pieces.{share_edge, pieces}
 use Rattle.rows.specs.Rows.{rows_of}
+use Rattle.record.specs.declared.ProfileDefect.{ProfileDefect}
 use Rattle.record.specs.declared.MeshQto.{MeshQto}
-use Rattle.record.specs.declared.Profile.{Profile}
 use Rattle.record.specs.Flags.{marked, if_clip, if_invalid, flagged}
 use Rattle.pieces.specs.declared.PieceCount.{PieceCount}
 use Rattle.pieces.specs.Answer.{PiecesGiven}
@@ -54,14 +54,14 @@ refusal_prints n area r area' h given =
     listed_prints _ (refused_line n) area r area' (le-ltb (length area) head_bytes h) given.answers given.text
 
 -- the flags leave the number of rows alone
-keeps_count : (clip : Bool) (p : Profile) (q : MeshQto) → (flagged clip p q).surface_count ≡ q.surface_count
+keeps_count : (clip : Bool) (p : Option ProfileDefect) (q : MeshQto) → (flagged clip p q).surface_count ≡ q.surface_count
 unfolding if_clip if_invalid marked
-keeps_count true Profile.Valid q = refl
-keeps_count true (Profile.Invalid d) q = refl
-keeps_count false Profile.Valid q = refl
-keeps_count false (Profile.Invalid d) q = refl
+keeps_count true None q = refl
+keeps_count true (Some d) q = refl
+keeps_count false None q = refl
+keeps_count false (Some d) q = refl
 
-module _ (clip : Bool) (p : Profile) (q : MeshQto) (s : List Float) (n : ℕ) (area : List ℕ) where
+module _ (clip : Bool) (p : Option ProfileDefect) (q : MeshQto) (s : List Float) (n : ℕ) (area : List ℕ) where
   not_short : 4 * q.surface_count ≤ length s → head_bytes + 36 * q.surface_count ≤ length area
       → text_areas_short (flagged clip p q).surface_count (length s) (length area) ≡ false
   unfolding text_bytes

@@ -1,9 +1,10 @@
 -- The glove for the program, from that for the record: the text is made of the record, its rows and the pieces. Assumes nothing.
-use Rattle.std.specs.Prelude.{Ok}
+use Rattle.std.specs.Prelude.{Result, Ok, Err}
 use mathlib.Core.Path.{◌≡◌, refl, sym, subst}
 use mathlib.Core.List.{List}
 use Prim.Native.Nat.{ℕ}
 use lib.Dec.{eqb}
+use Rattle.ids.specs.declared.refusal.Refusal.{Refusal}
 use Rattle.ids.specs.Reversed.{reversed}
 use Rattle.ids.proofs.ReversedAlike.{reversed_alike}
 use Rattle.record.specs.Numbers.{profile_at}
@@ -34,7 +35,7 @@ module _ (m : Contents) where
   abbrev m' : Contents
   m' = with_reversed m
 
-  abbrev said : Check
+  abbrev said : Result Check Refusal
   said = check_mesh (mesh_floats m) m.ids (mesh_unit m)
 
   same_check : check_mesh (mesh_floats m) (reversed m.ids) (mesh_unit m) ≡ said
@@ -49,14 +50,14 @@ module _ (m : Contents) where
       flags_turn (eqb m.clip 1) (profile_at m.defect) _ _
       (takeoffs_turned (mesh_floats m) m.ids (mesh_unit m) named_edition (mesh full)).records
 
-  abbrev text_by : Check → Contents → List ℕ
+  abbrev text_by : Result Check Refusal → Contents → List ℕ
   text_by k c = text_at k (mesh_floats c) c.ids (mesh_unit c) (eqb c.clip 1) (profile_at c.defect)
 
-  same_text : (k : Check) → said ≡ k → (IsFull m → ⊥) → text_by k m' ≡ text_by k m
+  same_text : (k : Result Check Refusal) → said ≡ k → (IsFull m → ⊥) → text_by k m' ≡ text_by k m
   unfolding text_at listed
-  same_text (Check.Refuse n) e shut = refl
-  same_text Check.Zero e shut = rw (reversed_alike m.ids).piece_count
-  same_text Check.Full e shut = absurd (shut e)
+  same_text (Err why) e shut = refl
+  same_text (Ok Check.Zero) e shut = rw (reversed_alike m.ids).piece_count
+  same_text (Ok Check.Full) e shut = absurd (shut e)
 
   texts : TurnedTexts m m' (text_for (Ok m)) (text_for (Ok m'))
   unfolding text_for mesh_text text_at listed

@@ -1,10 +1,11 @@
 -- Demand 3 for the program, from that for the record: the text is made of the record, its rows and the ids. Assumes nothing.
-use Rattle.std.specs.Prelude.{Ok}
+use Rattle.std.specs.Prelude.{Result, Ok, Err}
 use mathlib.Core.Path.{◌≡◌, refl, sym, subst, ◌∙◌}
 use mathlib.Core.List.{List}
 use Prim.Native.Nat.{ℕ}
 use lib.Dec.{T, eqb}
 use lib.IntN.{ℤ}
+use Rattle.ids.specs.declared.refusal.Refusal.{Refusal}
 use Rattle.verdict.specs.declared.Quality.{Quality}
 use Rattle.record.specs.Numbers.{profile_at}
 use Rattle.refusals.specs.declared.Check.{Check}
@@ -38,14 +39,14 @@ module _ (m : Contents) (vertices : List ℕ) where
   m' = with_floats m vertices
 
   module _ (dx dy dz : ℤ) (moved : Moved dx dy dz (mesh_floats m) (floats_of vertices)) (enough : T (unit_enough (mesh_unit m))) where
-    abbrev said : Check
+    abbrev said : Result Check Refusal
     said = check_mesh (mesh_floats m) m.ids (mesh_unit m)
 
     same_check : check_mesh (mesh_floats m') m.ids (mesh_unit m) ≡ said
     same_check = check_stays dx dy dz (mesh_floats m) (mesh_floats m') moved m.ids (mesh_unit m) named_edition 13824 65536 2048
 
     -- of a mesh that the table lets pass
-    module _ (passes : said ≡ Check.Full) where
+    module _ (passes : said ≡ Ok Check.Full) where
       mesh : Passes (mesh_floats m) m.ids (mesh_unit m) named_edition
       mesh = (admitted (mesh_floats m) m.ids (mesh_unit m) named_edition 13824 65536 2048 said passes refl).mesh
 
@@ -59,14 +60,14 @@ module _ (m : Contents) (vertices : List ℕ) where
           (records_agree dx dy dz (mesh_floats m) (mesh_floats m') moved mesh.floats_least m.ids (mesh_unit m)
           (thresholds_of named_edition) enough mesh.unit)
 
-    abbrev text_by : Check → Contents → List ℕ
+    abbrev text_by : Result Check Refusal → Contents → List ℕ
     text_by k c = text_at k (mesh_floats c) c.ids (mesh_unit c) (eqb c.clip 1) (profile_at c.defect)
 
-    same_text : (k : Check) → said ≡ k → (IsOpen m → ⊥) → text_by k m' ≡ text_by k m
+    same_text : (k : Result Check Refusal) → said ≡ k → (IsOpen m → ⊥) → text_by k m' ≡ text_by k m
     unfolding text_at listed
-    same_text (Check.Refuse n) e shut = refl
-    same_text Check.Zero e shut = refl
-    same_text Check.Full e shut =
+    same_text (Err why) e shut = refl
+    same_text (Ok Check.Zero) e shut = refl
+    same_text (Ok Check.Full) e shut =
         let not_open : (mesh_record m).mesh_quality ≡ Quality.OpenShell → ⊥ = λ v. shut (record { passes = e; verdict = v }) in
         let same = same_record (mesh_record m).mesh_quality (mesh_record m) (mesh_record m') (records e).rest not_open in
         rw (same_rows e, same)

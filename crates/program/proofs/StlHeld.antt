@@ -1,6 +1,6 @@
 -- What is printed for an STL that was read is the text of its mesh: its corners and ids stand first in the two areas, which are never too
 -- short. Assumes nothing.
-use Rattle.std.specs.Prelude.{Result, Ok, Err, IfOk, MatchResult, IsOkAnd}
+use Rattle.std.specs.Prelude.{Option, None, Result, Ok, Err, IfOk, MatchResult, IsOkAnd}
 use Rattle.ids.specs.declared.refusal.Refusal.{Refusal}
 use Rattle.meshfile.specs.declared.MeshFile.{MeshFile}
 use mathlib.Core.Path.{◌≡◌, refl, sym, ◌∙◌}
@@ -12,7 +12,7 @@ use borrow.Author.Tests.{le-ltb}
 use lib.ListN.{length, take, drop}
 use lib.Seq.{take_at}
 use lib.Ieee.{Float, binary32, of_bits}
-use Rattle.record.specs.declared.Profile.{Profile}
+use Rattle.record.specs.declared.ProfileDefect.{ProfileDefect}
 use Rattle.record.specs.Numbers.{profile_at}
 use Rattle.words.specs.Words.{floats_of}
 use Rattle.stl.specs.Stl.{stl_of, corners_to, ids_to}
@@ -54,8 +54,8 @@ module _ (bytes : List ℕ) (vs : List Float) (ids : List ℕ) (hv : length vs �
         rw (made.ids_later_lem, e)
         (take_at (ids_to n) (drop (3 * n) ids) (3 * n) (mesh_of_stl n bytes (omega (arith, is_stl.size))).ids_length)
 
-    mesh_text_lem : (u : Float) (clip : Bool) (profile : Profile) → u ≡ of_bits binary32 stl_unit → clip ≡ false
-        → profile ≡ Profile.Valid → mesh_text (take (9 * n) vs') (take (3 * n) ids') u clip profile ≡ stl_text_of bytes
+    pub mesh_text_lem : (u : Float) (clip : Bool) (profile : Option ProfileDefect) → u ≡ of_bits binary32 stl_unit → clip ≡ false
+        → profile ≡ None → mesh_text (take (9 * n) vs') (take (3 * n) ids') u clip profile ≡ stl_text_of bytes
     unfolding stl_text_of stl_file text_for profile_at
     mesh_text_lem u clip profile eu ec ep = rw (answer_is, e, corners_first, ids_first, eu, ec, ep)
 

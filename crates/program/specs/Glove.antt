@@ -12,7 +12,7 @@ use Rattle.program.specs.Place.{mesh_floats, mesh_unit, mesh_record, mesh_rows}
 
 -- the table of checks lets the mesh pass
 abbrev pub IsFull : Contents → Type 0
-IsFull m = check_mesh (mesh_floats m) m.ids (mesh_unit m) ≡ Check.Full
+IsFull m = check_mesh (mesh_floats m) m.ids (mesh_unit m) ≡ Ok Check.Full
 
 -- The listings of two records, the second the first turned over. Equal are the lines quality, profile, aabb, surface, side, inclined,
 -- largest, smallest, pieces, used, range, sliver and surfaces, and of a mesh that is not open reliable, method, best and prism too; what

@@ -38,7 +38,7 @@ mesh_rows m = surface_rows (mesh_floats m) m.ids (mesh_unit m)
 
 -- the table of checks lets it pass, and its verdict is open
 pub record IsOpen (m : Contents) : Type 0 where
-  pub passes : check_mesh (mesh_floats m) m.ids (mesh_unit m) ≡ Check.Full
+  pub passes : check_mesh (mesh_floats m) m.ids (mesh_unit m) ≡ Ok Check.Full
   pub verdict : (mesh_record m).mesh_quality ≡ Quality.OpenShell
 
 -- ---- the text of a file with the mesh m, and that of one with m', the same mesh moved

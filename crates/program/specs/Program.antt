@@ -1,13 +1,15 @@
 -- The program `takeoff` (01): the text that it prints, for every list of bytes that it reads.
-use Rattle.std.specs.Prelude.{◌≡◌, ℕ, Bool, List, [], ◌++◌, eqb, length, drop, Float, Ok, Err}
+use Rattle.std.specs.Prelude.{◌≡◌, ℕ, Bool, List, [], ◌++◌, eqb, length, drop, Float, Option, Result, Ok, Err}
 use Rattle.std.specs.Float.{binary32}
 use Rattle.std.specs.Float.Ieee.{of_bits}
+use Rattle.ids.specs.declared.refusal.Refusal.{Refusal}
+use Rattle.ids.specs.Refusal.{refusal_number}
 use Rattle.ids.specs.Pieces.{share_edge, pieces}
 use Rattle.ids.specs.Refusal.{refusal_number}
 use Rattle.sums.specs.Editions.{thresholds_of}
 use Rattle.rows.specs.declared.PlanarSurface.{PlanarSurface}
+use Rattle.record.specs.declared.ProfileDefect.{ProfileDefect}
 use Rattle.record.specs.declared.MeshQto.{MeshQto}
-use Rattle.record.specs.declared.Profile.{Profile}
 use Rattle.record.specs.Record.{zero_record}
 use Rattle.record.specs.Flags.{flagged}
 use Rattle.record.specs.Numbers.{profile_at}
@@ -21,7 +23,7 @@ use Rattle.listing.specs.Listing.{listing_of, refused_line}
 -- ---- a mesh
 
 -- the record with its flags, listed with its rows and the pieces of the ids
-unfoldable pub listed : List ℕ → Bool → Profile → MeshQto → List PlanarSurface → List ℕ
+unfoldable pub listed : List ℕ → Bool → Option ProfileDefect → MeshQto → List PlanarSurface → List ℕ
 listed ids clip profile q rows = listing_of (flagged clip profile q) rows (pieces share_edge ids)
 
 -- the programs name edition 1 (02, A6)
@@ -29,17 +31,17 @@ abbrev pub named_edition : ℕ
 named_edition = 1
 
 -- by what the table says: `refused N`, or the listing; the zero record has one too
-unfoldable pub text_at : Check → List Float → List ℕ → Float → Bool → Profile → List ℕ
-text_at (Check.Refuse n) vs ids u clip profile = refused_line n
-text_at Check.Zero vs ids u clip profile = listed ids clip profile zero_record []
-text_at Check.Full vs ids u clip profile = listed ids clip profile (record_of vs ids u (thresholds_of named_edition)) (surface_rows vs ids u)
+unfoldable pub text_at : Result Check Refusal → List Float → List ℕ → Float → Bool → Option ProfileDefect → List ℕ
+text_at (Err why) vs ids u clip profile = refused_line (refusal_number why)
+text_at (Ok Check.Zero) vs ids u clip profile = listed ids clip profile zero_record []
+text_at (Ok Check.Full) vs ids u clip profile = listed ids clip profile (record_of vs ids u (thresholds_of named_edition)) (surface_rows vs ids u)
 
 -- The program lends 13,824 work words, 65,536 raster bytes and 2,048 surface floats, enough for every file, and names an edition that is
 -- known: so it never prints 1, 3 or 7 (`areas_suffice`).
-abbrev pub check_mesh : List Float → List ℕ → Float → Check
+abbrev pub check_mesh : List Float → List ℕ → Float → Result Check Refusal
 check_mesh vs ids u = check_of vs ids u named_edition 13824 65536 2048
 
-unfoldable pub mesh_text : List Float → List ℕ → Float → Bool → Profile → List ℕ
+unfoldable pub mesh_text : List Float → List ℕ → Float → Bool → Option ProfileDefect → List ℕ
 mesh_text vs ids u clip profile = text_at (check_mesh vs ids u) vs ids u clip profile
 
 -- ---- a file

@@ -1,6 +1,6 @@
 -- What is proved of the programs beside their contracts: which refusals a file can meet, what of an STL does not show, what is
 -- printed for a file that was written, that no NaN gets past, and what becomes of input that is longer than any file.
-use Rattle.std.specs.Prelude.{◌≡◌, ◌⊎◌, ℕ, ◌+◌, ◌%◌, ◌^◌, ◌≤◌, ◌<◌, Bool, false, not, ◌||◌, cond, List, eqb, ltb, length, take, Float, Ok}
+use Rattle.std.specs.Prelude.{◌≡◌, ◌⊎◌, ℕ, ◌+◌, ◌%◌, ◌^◌, ◌≤◌, ◌<◌, Bool, false, not, ◌||◌, cond, List, eqb, ltb, length, take, Float, Option, Result, Ok, Err}
 use Rattle.std.specs.Float.{binary32}
 use Rattle.std.specs.Float.Ieee.{of_bits}
 use Rattle.ids.specs.declared.refusal.Refusal.{Refusal}
@@ -8,8 +8,8 @@ use Rattle.ids.specs.Refusal.{refusal_number}
 use Rattle.sums.specs.Fine.{fine, all_fine}
 use Rattle.refusals.specs.declared.Check.{Check}
 use Rattle.refusals.specs.Refusals.{unit_fits}
-use Rattle.record.specs.declared.Profile.{Profile}
 use Rattle.words.specs.Words.{floats_of, Below}
+use Rattle.record.specs.declared.ProfileDefect.{ProfileDefect}
 use Rattle.meshfile.specs.Format.{Contents, File, file_of}
 use Rattle.meshfile.specs.Writing.{contents_of, Writes}
 use Rattle.meshfile.specs.RoundTrip.{with_kind4}
@@ -22,19 +22,19 @@ use Rattle.program.specs.StlText.{stl_contents, stl_text_of}
 use Rattle.program.specs.Place.{mesh_floats, mesh_unit}
 
 -- the rows of the table that a file can meet: it is never too large, the edition is known, and no area is too short (`areas_suffice`)
-unfoldable pub check_file : List Float → List ℕ → Float → Check
+unfoldable pub check_file : List Float → List ℕ → Float → Result Check Refusal
 check_file vs ids u =
-    cond (ltb (length ids) 3 || ltb (length vs) 9) Check.Zero
-    (cond (not (unit_fits u)) (Check.Refuse 2)
-    (cond (not (all_fine vs)) (Check.Refuse 4)
-    Check.Full))
+    cond (ltb (length ids) 3 || ltb (length vs) 9) (Ok Check.Zero)
+    (cond (not (unit_fits u)) (Err Refusal.Unit)
+    (cond (not (all_fine vs)) (Err Refusal.Float)
+    (Ok Check.Full)))
 
 abbrev pub AreasSuffice : Type 0
 AreasSuffice = (vs : List Float) (ids : List ℕ) (u : Float) → length vs ≤ 1536 → length ids ≤ 1536 → check_mesh vs ids u ≡ check_file vs ids u
 
 -- those that an STL of n triangles can meet: with none it is the zero record; its unit is always one that 2 lets pass (`stl_check`)
-unfoldable pub check_stl : ℕ → List Float → Check
-check_stl n vs = cond (eqb n 0) Check.Zero (cond (not (all_fine vs)) (Check.Refuse 4) Check.Full)
+unfoldable pub check_stl : ℕ → List Float → Result Check Refusal
+check_stl n vs = cond (eqb n 0) (Ok Check.Zero) (cond (not (all_fine vs)) (Err Refusal.Float) (Ok Check.Full))
 
 abbrev pub StlCheck : Type 0
 StlCheck = (bytes : List ℕ) (n : ℕ) → stl_of most_triangles bytes ≡ Ok n
@@ -46,7 +46,7 @@ StlUnseen = (bytes bytes' : List ℕ) → SameWhereSeen bytes bytes' → stl_tex
 
 -- What is printed for a mesh file that was written is the text of what was written. (`written_text`)
 abbrev pub WrittenText : Type 0
-WrittenText = (u : ℕ) (vs is : List ℕ) (clip : Bool) (profile : Profile) → u < 2 ^ 32 → Below (2 ^ 32) vs → Below (2 ^ 32) is
+WrittenText = (u : ℕ) (vs is : List ℕ) (clip : Bool) (profile : Option ProfileDefect) → u < 2 ^ 32 → Below (2 ^ 32) vs → Below (2 ^ 32) is
     → (area : List ℕ) (n : ℕ) (area' : List ℕ) → Writes (contents_of u vs is clip profile) area (Ok n) area'
     → text_of (take n area') ≡ mesh_text (floats_of vs) is (of_bits binary32 u) clip profile
 

@@ -16,8 +16,7 @@ ghost use Rattle.program.specs.inner.Read.{OfTriangles, read_text};
 use ids::Refusal;
 use meshfile::MeshFile;
 use pieces::PieceCount;
-use qto::Answer;
-use record::{MeshQto, Profile};
+use record::MeshQto;
 
 // How many bytes of its input a program keeps. The longest file has one byte less, so these decide about all input (`PrintsFront`).
 pub const KEPT: usize = 12319;
@@ -83,8 +82,8 @@ fn print_mesh(m: MeshFile, vertices: &[f32], ids: &[u32], text: &mut [u8]) -> us
         &mut surfaces,
     );
     match answer {
-        Answer::Record(t) => print_record(t.qto, m, count, &surfaces, text),
-        Answer::Refused(n) => print_refusal(n, text),
+        Ok(t) => print_record(t.qto, m, count, &surfaces, text),
+        Err(refusal) => print_refusal(refusal, text),
     }
 }
 
@@ -137,7 +136,7 @@ fn stl_mesh(n: usize) -> MeshFile
         floats: 9 * n,
         ids: 3 * n,
         clip: false,
-        profile: Profile::Valid,
+        profile: None,
     }
 }
 

@@ -1,7 +1,9 @@
 -- In every full record the three counts of triangles add up: the record carries those of the mesh, and the mesh passed refusal 4. Assumes
 -- nothing.
+use Rattle.std.specs.Prelude.{Result, Ok}
 use Rattle.std.proofs.Common.{◌≡◌, ℕ, ◌+◌, T, List, length, sym, refl, ap, ◌∙◌}
 use lib.Ieee.{Float}
+use Rattle.ids.specs.declared.refusal.Refusal.{Refusal}
 use Rattle.ids.specs.Triangles.{triangle_count}
 use Rattle.sums.specs.declared.totals.Thresholds.{Thresholds}
 use Rattle.sums.specs.Editions.{thresholds_of}
@@ -9,7 +11,6 @@ use Rattle.sums.specs.Fine.{all_fine}
 use Rattle.walk.proofs.Counts.{counts_add_up}
 use Rattle.refusals.specs.declared.Check.{Check}
 use Rattle.refusals.proofs.Checks.{admitted}
-use Rattle.qto.specs.declared.Answer.{Answer}
 use Rattle.qto.specs.Full.{measures_from, measures, record_from, record_by, record_of, takeoff_of}
 use Rattle.qto.specs.Compute.{answer_at}
 use Rattle.qto.specs.Counts.{FullCounts}
@@ -23,8 +24,8 @@ counts_of_mesh vs ids u p fine = counts_add_up vs ids fine
 pub full_counts : FullCounts
 unfolding answer_at takeoff_of
 full_counts vs ids u e w r s a w' r' s' t c is k =
-    let full : answer_at Check.Full (takeoff_of vs ids u (thresholds_of e)) ≡ Answer.Record t =
-    ap (λ (x : Check). answer_at x (takeoff_of vs ids u (thresholds_of e))) (sym k) ∙ sym c.answers ∙ is in
+    let full : answer_at (Ok Check.Full) (takeoff_of vs ids u (thresholds_of e)) ≡ Ok t =
+    ap (λ (x : Result Check Refusal). answer_at x (takeoff_of vs ids u (thresholds_of e))) (sym k) ∙ sym c.answers ∙ is in
     let same : takeoff_of vs ids u (thresholds_of e) ≡ t = cc in
     rw (← same)
-    (counts_of_mesh vs ids u (thresholds_of e) (admitted vs ids u e (length w) (length r) (length s) Check.Full refl (sym k)).mesh.fine)
+    (counts_of_mesh vs ids u (thresholds_of e) (admitted vs ids u e (length w) (length r) (length s) (Ok Check.Full) refl (sym k)).mesh.fine)

@@ -1,6 +1,7 @@
 -- No number of a record of the domain overflows (01): the sums are within 2^87, the volume's sum within 2^118, and a unit's square and cube
 -- up to 2^8 and 2^12. A sixth of
 -- 2^118 is under 3 * 2^114, and 3 * 2^126 is a value of f32. Assumes nothing.
+use Rattle.std.specs.Prelude.{Some}
 use Rattle.std.proofs.Common.{◌≡◌, ℕ, ◌*◌, ◌^◌, ◌≤◌, Bool, true, false, cond, T, ◌⊎◌, List, [], ◌∷◌, refl, inl, inr, le_trans, mul-le-mul_right, arith, lit<, lit≤, rules}
 use lib.Ieee.{Float, nan, inf, fin, binary32, binary64, lt, le, of_bits}
 use lib.Ieee.Exact.{HasValue}
@@ -26,7 +27,6 @@ use Rattle.walk.proofs.Finite.{TotalsWithin, Times, each_still, totals_within, b
 use Rattle.verdict.specs.declared.Quality.{Quality}
 use Rattle.volume.specs.declared.Best.{Best}
 use Rattle.volume.specs.declared.Method.{Method}
-use Rattle.volume.specs.declared.PrismBound.{PrismBound}
 use Rattle.volume.specs.Best.{prism, upper, trusted, open_best, best_of}
 use Rattle.record.specs.Record.{zero_record}
 use Rattle.refusals.specs.Refusals.{Passes}
@@ -148,8 +148,8 @@ best_finite Quality.OpenShell v s aabb p h g = go (trusted p (upper p aabb) v s)
   where
     go : (b : Bool)
         → FiniteBest
-        (cond b (record { volume = v; method = Method.MeshOpen; reliable = true; prism = PrismBound.Bound p })
-        (record { volume = p; method = Method.PrismFallback; reliable = false; prism = PrismBound.Bound p }))
+        (cond b (record { volume = v; method = Method.MeshOpen; reliable = true; prism = Some p })
+        (record { volume = p; method = Method.PrismFallback; reliable = false; prism = Some p }))
     go true = record { volume = h; prism = g }
     go false = record { volume = g; prism = g }
 

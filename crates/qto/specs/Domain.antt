@@ -1,18 +1,17 @@
 -- Domain (01): no sum overflows. What the numbers of a record are for a mesh of the domain. (`computes_finite`, `rows_finite`)
-use Rattle.std.specs.Prelude.{◌≡◌, ℕ, T, List, [], ◌∷◌, Float}
+use Rattle.std.specs.Prelude.{◌≡◌, ℕ, T, List, [], ◌∷◌, Float, Option, Result, Ok, Some, None}
 use Rattle.std.specs.Float.Ieee.Scale.{finite}
+use Rattle.ids.specs.declared.refusal.Refusal.{Refusal}
 use Rattle.rows.specs.declared.PlanarSurface.{PlanarSurface}
-use Rattle.volume.specs.declared.PrismBound.{PrismBound}
 use Rattle.record.specs.declared.MeshQto.{MeshQto}
 use Rattle.refusals.specs.Refusals.{Passes}
-use Rattle.qto.specs.declared.Answer.{Answer}
 use Rattle.qto.specs.declared.Takeoff.{Takeoff}
 use Rattle.qto.specs.Full.{surface_rows}
 use Rattle.qto.specs.Compute.{Computes}
 
-abbrev pub FiniteBound : PrismBound → Type 0
-FiniteBound PrismBound.NotComputed = Unit {0}
-FiniteBound (PrismBound.Bound p) = T (finite p)
+abbrev pub FiniteBound : Option Float → Type 0
+FiniteBound None = Unit {0}
+FiniteBound (Some p) = T (finite p)
 
 -- all of them are finite
 pub record FiniteRecord (q : MeshQto) : Type 0 where
@@ -37,9 +36,9 @@ FiniteRows (r ∷ rs) = T (finite r.area) × FiniteRows rs
 
 abbrev pub ComputesFinite : Type 0
 ComputesFinite =
-    (vs : List Float) (ids : List ℕ) (u : Float) (e : ℕ) (w r : List ℕ) (s : List Float) (a : Answer) (w' r' : List ℕ) (s' : List Float)
+    (vs : List Float) (ids : List ℕ) (u : Float) (e : ℕ) (w r : List ℕ) (s : List Float) (a : Result Takeoff Refusal) (w' r' : List ℕ) (s' : List Float)
     (t : Takeoff)
-    → Computes vs ids u e w r s a w' r' s' → a ≡ Answer.Record t → FiniteRecord t.qto
+    → Computes vs ids u e w r s a w' r' s' → a ≡ Ok t → FiniteRecord t.qto
 
 abbrev pub RowsFinite : Type 0
 RowsFinite = (vs : List Float) (ids : List ℕ) (u : Float) (e : ℕ) → Passes vs ids u e → FiniteRows (surface_rows vs ids u)

@@ -1,6 +1,6 @@
 -- Rules of the record (01): the record of a mesh that passes the checks, each float step rounded once, as 000 writes it. Beside it the
 -- pairs (02, A3). The slopes are by a pair of thresholds p, whichever it is: an edition gives one (02, A6).
-use Rattle.std.specs.Prelude.{ℕ, ◌*◌, List, ◌++◌, length, drop, from_bits, Float}
+use Rattle.std.specs.Prelude.{ℕ, ◌*◌, List, ◌++◌, length, drop, from_bits, Float, None}
 use Rattle.std.specs.Float.{binary32, binary64}
 use Rattle.ieee.specs.Magnitude.{magnitude}
 use Rattle.ieee.specs.Rounded.{rounded}
@@ -24,7 +24,6 @@ use Rattle.volume.specs.declared.Best.{Best}
 use Rattle.volume.specs.Best.{prism, best_of}
 use Rattle.volume.specs.Pairs.{prism_pairs, pairs_of}
 use Rattle.record.specs.declared.MeshQto.{MeshQto}
-use Rattle.record.specs.declared.Profile.{Profile}
 use Rattle.qto.specs.declared.Measures.{Measures}
 use Rattle.qto.specs.declared.Takeoff.{Takeoff}
 
@@ -108,7 +107,7 @@ record_from m aabb q b =
       volume_method = b.method;
       volume_best_m3 = b.volume;
       volume_prism_bound_m3 = b.prism;
-      profile_invalid = Profile.Valid;
+      profile_invalid = None;
       triangles_used = m.triangles.used;
       triangles_out_of_range = m.triangles.out_of_range;
       triangles_sliver = m.triangles.sliver;

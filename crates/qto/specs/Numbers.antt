@@ -1,7 +1,9 @@
 -- The record as the C interface has it, with the pairs behind it: 26 words, and refusals as numbers. Flag values that are none are
 -- refusal 5, tried first.
-use Rattle.std.specs.Prelude.{◌≡◌, ℕ, ◌+◌, cond, not, List, [], ◌∷◌, length, ◌==◌, to_bits, Float}
+use Rattle.std.specs.Prelude.{◌≡◌, ℕ, ◌+◌, cond, not, List, [], ◌∷◌, length, ◌==◌, to_bits, Float, Result, Ok, Err}
 use Rattle.std.specs.Float.{binary32}
+use Rattle.ids.specs.declared.refusal.Refusal.{Refusal}
+use Rattle.ids.specs.Refusal.{refusal_number}
 use Rattle.ids.specs.Lent.{cleared}
 use Rattle.ids.specs.Uses.{bit}
 use Rattle.record.specs.Flags.{flagged}
@@ -51,20 +53,19 @@ abbrev pub with_flags : ℕ → ℕ → Takeoff → Takeoff
 with_flags clip defect t = record { qto = flagged (clip == 1) (profile_at defect) t.qto; pairs = t.pairs }
 
 -- the number that comes back, and the record's words afterwards
-unfoldable pub number_at : Check → ℕ
-number_at (Check.Refuse n) = 0x8000_0000 + n
-number_at Check.Zero = 0
-number_at Check.Full = 0
+unfoldable pub number_at : Result Check Refusal → ℕ
+number_at (Err why) = 0x8000_0000 + refusal_number why
+number_at (Ok c) = 0
 
-unfoldable pub words_at : Check → ℕ → ℕ → Takeoff → List ℕ → List ℕ
-words_at (Check.Refuse n) clip defect t words = words
-words_at Check.Zero clip defect t words = words_of (with_flags clip defect zero_takeoff)
-words_at Check.Full clip defect t words = words_of (with_flags clip defect t)
+unfoldable pub words_at : Result Check Refusal → ℕ → ℕ → Takeoff → List ℕ → List ℕ
+words_at (Err why) clip defect t words = words
+words_at (Ok Check.Zero) clip defect t words = words_of (with_flags clip defect zero_takeoff)
+words_at (Ok Check.Full) clip defect t words = words_of (with_flags clip defect t)
 
-unfoldable pub check_flags : ℕ → ℕ → Check → Check
-check_flags clip defect c = cond (not (flags_fit clip defect)) (Check.Refuse 5) c
+unfoldable pub check_flags : ℕ → ℕ → Result Check Refusal → Result Check Refusal
+check_flags clip defect c = cond (not (flags_fit clip defect)) (Err Refusal.File) c
 
-abbrev pub check_all : List Float → List ℕ → Float → ℕ → ℕ → ℕ → List ℕ → List ℕ → List Float → Check
+abbrev pub check_all : List Float → List ℕ → Float → ℕ → ℕ → ℕ → List ℕ → List ℕ → List Float → Result Check Refusal
 check_all vs ids u e clip defect w r s = check_flags clip defect (check_of vs ids u e (length w) (length r) (length s))
 
 -- The contract of mf_compute: `words` are the record's before, words' afterwards, and n is what comes back.

@@ -1,5 +1,5 @@
 -- Document 01's starred examples, in one table with one statement, in its order, proved by `starred`.
-use Rattle.std.specs.Prelude.{◌≡◌, true, false, [], ◌∷◌, ◌++◌, pos, negsuc}
+use Rattle.std.specs.Prelude.{◌≡◌, true, false, [], ◌∷◌, ◌++◌, pos, negsuc, Some}
 use Rattle.std.specs.Float.{fin, binary64}
 use Rattle.ieee.specs.Integral.{half_away}
 use Rattle.ieee.specs.Root.{root}
@@ -9,7 +9,6 @@ use Rattle.ids.specs.Pieces.{share_edge, pieces}
 use Rattle.ids.specs.Examples.{tetrahedron, neighbour}
 use Rattle.volume.specs.declared.Method.{Method}
 use Rattle.record.specs.declared.MeshQto.{MeshQto}
-use Rattle.record.specs.declared.Profile.{Profile}
 use Rattle.record.specs.declared.ProfileDefect.{ProfileDefect}
 use Rattle.record.specs.Flags.{flagged}
 
@@ -41,8 +40,8 @@ pub record Starred : Type 0 where
   pub half_down : half_away binary64 (fin true 1 (negsuc 0)) ≡ fin true 1 (pos 0)
   -- clip with defect on `mesh`: `mesh_unclipped`; defect alone: `mesh_profile_invalid`
   pub clip_and_defect : (q : MeshQto) (d : ProfileDefect) → q.volume_method ≡ Method.Mesh
-      → (flagged true (Profile.Invalid d) q).volume_method ≡ Method.MeshUnclipped
+      → (flagged true (Some d) q).volume_method ≡ Method.MeshUnclipped
   pub defect_alone : (q : MeshQto) (d : ProfileDefect) → q.volume_method ≡ Method.Mesh
-      → (flagged false (Profile.Invalid d) q).volume_method ≡ Method.MeshProfileInvalid
+      → (flagged false (Some d) q).volume_method ≡ Method.MeshProfileInvalid
   -- two tetrahedra sharing one id: one piece in 01, two by 02 (A2), since no edge is common
   pub one_common_id : pieces share_edge (tetrahedron ++ neighbour) ≡ 2

@@ -8,7 +8,8 @@ ghost use Rattle.qto.specs.Compute.{Computes, zero_takeoff};
 ghost use Rattle.qto.specs.inner.Steps.{Arrangeable, Arranged, Measurable, Measured};
 ghost use Rattle.qto.specs.inner.Steps.{Recordable, RecordedBy, Recorded};
 
-use record::{MeshQto, Profile};
+use ids::Refusal;
+use record::MeshQto;
 pub use record::{apply_product_flags, mark_clip_unapplied, mark_profile_invalid};
 use refusals::Check;
 use sums::{Areas, Bounds};
@@ -139,7 +140,7 @@ fn record_by(
         volume_method: method,
         volume_best_m3: best.volume,
         volume_prism_bound_m3: prism,
-        profile_invalid: Profile::Valid,
+        profile_invalid: None,
         triangles_used: m.triangles.used,
         triangles_out_of_range: m.triangles.out_of_range,
         triangles_sliver: m.triangles.sliver,
@@ -197,13 +198,8 @@ fn zero_takeoff() -> Takeoff
     }
 }
 
-#[derive(Clone, Copy)]
-pub enum Answer {
-    Record(Takeoff),
-    Refused(u8),
-}
-
 // The takeoff of a mesh: the record and its pairs, or the one refusal that applies.
+#[tactic(auto, using(refusals::proofs::Checks::admitted))]
 pub fn compute(
     vertices: &[f32],
     indices: &[u32],
@@ -212,12 +208,12 @@ pub fn compute(
     work: &mut [u32],
     raster: &mut [u8],
     surfaces: &mut [f32],
-) -> Answer
+) -> Result<Takeoff, Refusal>
     ensures { Computes vertices.now indices.now unit_scale edition
         work.old raster.old surfaces.old
         result work.new raster.new surfaces.new }
 {
-    let c = refusals::checked(
+    match refusals::checked(
         vertices,
         indices,
         unit_scale,
@@ -225,12 +221,10 @@ pub fn compute(
         work.len(),
         raster.len(),
         surfaces.len(),
-    );
-    match c {
-        Check::Refuse(n) => Answer::Refused(n),
-        Check::Zero => Answer::Record(zero_takeoff()),
+    )? {
+        Check::Zero => Ok(zero_takeoff()),
         Check::Full => {
-            Answer::Record(full(
+            Ok(full(
                 vertices, indices, unit_scale, edition, work, raster, surfaces,
             ))
         }

@@ -1,8 +1,7 @@
 -- Flags (01): what an unapplied clip and a profile defect do to a record. Its numbers and its quality stay.
-use Rattle.std.specs.Prelude.{Bool, true, false}
+use Rattle.std.specs.Prelude.{Bool, true, false, Option, Some, None}
 use Rattle.volume.specs.declared.Method.{Method}
 use Rattle.record.specs.declared.MeshQto.{MeshQto}
-use Rattle.record.specs.declared.Profile.{Profile}
 use Rattle.record.specs.declared.ProfileDefect.{ProfileDefect}
 
 -- `mesh` and `mesh_open` become another method; the rest say already which number is carried
@@ -14,7 +13,7 @@ relabelled to Method.MeshUnclipped = Method.MeshUnclipped
 relabelled to Method.MeshProfileInvalid = Method.MeshProfileInvalid
 
 -- not reliable, with a method and a profile
-unfoldable pub marked : Method → Profile → MeshQto → MeshQto
+unfoldable pub marked : Method → Option ProfileDefect → MeshQto → MeshQto
 marked m p q =
     record {
       volume_m3 = q.volume_m3;
@@ -44,16 +43,16 @@ clip_unapplied q = marked (relabelled Method.MeshUnclipped q.volume_method) q.pr
 
 -- a profile defect: not reliable, recorded, and mesh_profile_invalid
 abbrev pub profile_invalid : MeshQto → ProfileDefect → MeshQto
-profile_invalid q d = marked (relabelled Method.MeshProfileInvalid q.volume_method) (Profile.Invalid d) q
+profile_invalid q d = marked (relabelled Method.MeshProfileInvalid q.volume_method) (Some d) q
 
 -- both: clip first
 unfoldable pub if_clip : Bool → MeshQto → MeshQto
 if_clip true q = clip_unapplied q
 if_clip false q = q
 
-unfoldable pub if_invalid : Profile → MeshQto → MeshQto
-if_invalid Profile.Valid q = q
-if_invalid (Profile.Invalid d) q = profile_invalid q d
+unfoldable pub if_invalid : Option ProfileDefect → MeshQto → MeshQto
+if_invalid None q = q
+if_invalid (Some d) q = profile_invalid q d
 
-abbrev pub flagged : Bool → Profile → MeshQto → MeshQto
+abbrev pub flagged : Bool → Option ProfileDefect → MeshQto → MeshQto
 flagged clip profile q = if_invalid profile (if_clip clip q)

@@ -1,8 +1,8 @@
 -- The names of the cases of each enum: 000's text for a quality and a method, and `as_str` of a defect.
+use Rattle.std.specs.Prelude.{Option, Some, None}
 use Prim.Native.String.{String}
 use Rattle.verdict.specs.declared.Quality.{Quality}
 use Rattle.volume.specs.declared.Method.{Method}
-use Rattle.record.specs.declared.Profile.{Profile}
 use Rattle.record.specs.declared.ProfileDefect.{ProfileDefect}
 
 unfoldable pub quality_name : Quality → String
@@ -24,6 +24,6 @@ defect_name ProfileDefect.HoleOutside = "hole_outside"
 defect_name ProfileDefect.Overlapping = "overlapping"
 
 -- none, or the defect's name
-unfoldable pub profile_name : Profile → String
-profile_name Profile.Valid = "none"
-profile_name (Profile.Invalid d) = defect_name d
+unfoldable pub profile_name : Option ProfileDefect → String
+profile_name None = "none"
+profile_name (Some d) = defect_name d

@@ -1,11 +1,9 @@
 -- The record of a mesh that is none: fewer than 3 ids or 9 floats (01, the zero record).
-use Rattle.std.specs.Prelude.{false}
+use Rattle.std.specs.Prelude.{false, Some, None}
 use Rattle.ieee.specs.Single.{nought}
 use Rattle.verdict.specs.declared.Quality.{Quality}
 use Rattle.volume.specs.declared.Method.{Method}
-use Rattle.volume.specs.declared.PrismBound.{PrismBound}
 use Rattle.record.specs.declared.MeshQto.{MeshQto}
-use Rattle.record.specs.declared.Profile.{Profile}
 
 -- all numbers 0, prism bound the number 0, degenerate, prism_fallback, not reliable, no surfaces
 abbrev pub zero_record : MeshQto
@@ -25,8 +23,8 @@ zero_record =
       volume_reliable = false;
       volume_method = Method.PrismFallback;
       volume_best_m3 = nought;
-      volume_prism_bound_m3 = PrismBound.Bound nought;
-      profile_invalid = Profile.Valid;
+      volume_prism_bound_m3 = Some nought;
+      profile_invalid = None;
       triangles_used = 0;
       triangles_out_of_range = 0;
       triangles_sliver = 0;

@@ -9,7 +9,7 @@ ghost use Rattle.record.specs.Flags.{relabelled as relabelled_to, marked as mark
 ghost use Rattle.record.specs.Flags.{if_clip, if_invalid, flagged};
 
 use verdict::Quality;
-use volume::{Method, PrismBound};
+use volume::Method;
 
 // Why a profile is no valid region.
 #[derive(Clone, Copy)]
@@ -18,12 +18,6 @@ pub enum ProfileDefect {
     Degenerate,
     HoleOutside,
     Overlapping,
-}
-
-#[derive(Clone, Copy)]
-pub enum Profile {
-    Valid,
-    Invalid(ProfileDefect),
 }
 
 // All numbers of a mesh but its surface rows, which are in the lent surface area.
@@ -43,8 +37,8 @@ pub struct MeshQto {
     pub volume_reliable: bool,
     pub volume_method: Method,
     pub volume_best_m3: f32,
-    pub volume_prism_bound_m3: PrismBound,
-    pub profile_invalid: Profile,
+    pub volume_prism_bound_m3: Option<f32>,
+    pub profile_invalid: Option<ProfileDefect>,
     // triangles: used, and left out because an id is out of range or because they are slivers
     pub triangles_used: u32,
     pub triangles_out_of_range: u32,
@@ -70,8 +64,8 @@ pub fn zero_record() -> MeshQto
         volume_reliable: false,
         volume_method: Method::PrismFallback,
         volume_best_m3: 0.0,
-        volume_prism_bound_m3: PrismBound::Bound(0.0),
-        profile_invalid: Profile::Valid,
+        volume_prism_bound_m3: Some(0.0),
+        profile_invalid: None,
         triangles_used: 0,
         triangles_out_of_range: 0,
         triangles_sliver: 0,
@@ -79,12 +73,12 @@ pub fn zero_record() -> MeshQto
 }
 
 // A method that says the volume is the mesh's becomes another.
+#[tactic(auto, unfolding(crate::specs::Flags::relabelled))]
 fn relabelled(to: Method, from: Method) -> Method
     ensures { result ≡ relabelled_to to from }
 {
     match from {
-        Method::Mesh => to,
-        Method::MeshOpen => to,
+        Method::Mesh | Method::MeshOpen => to,
         Method::PrismFallback => Method::PrismFallback,
         Method::MeshUnclipped => Method::MeshUnclipped,
         Method::MeshProfileInvalid => Method::MeshProfileInvalid,
@@ -92,31 +86,15 @@ fn relabelled(to: Method, from: Method) -> Method
 }
 
 // The record, not reliable, with a method and a profile.
-fn marked(method: Method, profile: Profile, q: MeshQto) -> MeshQto
+#[tactic(auto, unfolding(crate::specs::Flags::marked))]
+fn marked(method: Method, profile: Option<ProfileDefect>, q: MeshQto) -> MeshQto
     ensures { result ≡ marked_by method profile q }
 {
-    let quality = q.mesh_quality;
-    let prism = q.volume_prism_bound_m3;
     MeshQto {
-        volume_m3: q.volume_m3,
-        aabb_volume_m3: q.aabb_volume_m3,
-        surface_area_m2: q.surface_area_m2,
-        area_top_m2: q.area_top_m2,
-        area_bottom_m2: q.area_bottom_m2,
-        area_side_m2: q.area_side_m2,
-        area_inclined_m2: q.area_inclined_m2,
-        largest_surface_m2: q.largest_surface_m2,
-        smallest_surface_m2: q.smallest_surface_m2,
-        surface_count: q.surface_count,
-        mesh_quality: quality,
         volume_reliable: false,
         volume_method: method,
-        volume_best_m3: q.volume_best_m3,
-        volume_prism_bound_m3: prism,
         profile_invalid: profile,
-        triangles_used: q.triangles_used,
-        triangles_out_of_range: q.triangles_out_of_range,
-        triangles_sliver: q.triangles_sliver,
+        ..q
     }
 }
 
@@ -135,10 +113,11 @@ pub fn mark_profile_invalid(q: MeshQto, defect: ProfileDefect) -> MeshQto
 {
     let method = q.volume_method;
     let label = relabelled(Method::MeshProfileInvalid, method);
-    marked(label, Profile::Invalid(defect), q)
+    marked(label, Some(defect), q)
 }
 
 // The record with or without an unapplied clip.
+#[tactic(auto, unfolding(crate::specs::Flags::if_clip))]
 fn if_clip(q: MeshQto, clip: bool) -> MeshQto
     ensures { result ≡ if_clip clip q }
 {
@@ -149,17 +128,18 @@ fn if_clip(q: MeshQto, clip: bool) -> MeshQto
 }
 
 // The record with or without a defect.
-fn if_invalid(q: MeshQto, profile: Profile) -> MeshQto
+#[tactic(auto, unfolding(crate::specs::Flags::if_invalid))]
+fn if_invalid(q: MeshQto, profile: Option<ProfileDefect>) -> MeshQto
     ensures { result ≡ if_invalid profile q }
 {
     match profile {
-        Profile::Valid => q,
-        Profile::Invalid(defect) => mark_profile_invalid(q, defect),
+        None => q,
+        Some(defect) => mark_profile_invalid(q, defect),
     }
 }
 
 // Both flags, the clip first.
-pub fn apply_product_flags(q: MeshQto, clip: bool, profile: Profile) -> MeshQto
+pub fn apply_product_flags(q: MeshQto, clip: bool, profile: Option<ProfileDefect>) -> MeshQto
     ensures { result ≡ flagged clip profile q }
 {
     if_invalid(if_clip(q, clip), profile)
@@ -167,6 +147,7 @@ pub fn apply_product_flags(q: MeshQto, clip: bool, profile: Profile) -> MeshQto
 
 // ---- enums as numbers
 
+#[tactic(auto, unfolding(crate::specs::Numbers::quality_number))]
 pub fn quality_number(quality: Quality) -> u32
     ensures { result ≡ quality_number quality }
 {
@@ -177,6 +158,7 @@ pub fn quality_number(quality: Quality) -> u32
     }
 }
 
+#[tactic(auto, unfolding(crate::specs::Numbers::method_number))]
 pub fn method_number(method: Method) -> u32
     ensures { result ≡ method_number method }
 {
@@ -189,6 +171,7 @@ pub fn method_number(method: Method) -> u32
     }
 }
 
+#[tactic(auto, unfolding(crate::specs::Numbers::defect_number))]
 fn defect_number(defect: ProfileDefect) -> u32
     ensures { result ≡ defect_number defect }
 {
@@ -200,12 +183,13 @@ fn defect_number(defect: ProfileDefect) -> u32
     }
 }
 
-pub fn profile_number(profile: Profile) -> u32
+#[tactic(auto, unfolding(crate::specs::Numbers::profile_number))]
+pub fn profile_number(profile: Option<ProfileDefect>) -> u32
     ensures { result ≡ profile_number profile }
 {
     match profile {
-        Profile::Valid => 0,
-        Profile::Invalid(defect) => defect_number(defect),
+        None => 0,
+        Some(defect) => defect_number(defect),
     }
 }
 
@@ -218,15 +202,15 @@ pub fn flags_fit(clip: u32, defect: u32) -> bool
     (clip <= 1) & (defect <= 4)
 }
 
-// The profile of a number: 0 is valid, and all from 4 are the last defect.
-pub fn profile_of(defect: u32) -> Profile
+// The profile of a number: 0 is a valid one, and all from 4 are the last defect.
+pub fn profile_of(defect: u32) -> Option<ProfileDefect>
     ensures { result ≡ profile_at defect }
 {
     match defect {
-        0 => Profile::Valid,
-        1 => Profile::Invalid(ProfileDefect::SelfIntersecting),
-        2 => Profile::Invalid(ProfileDefect::Degenerate),
-        3 => Profile::Invalid(ProfileDefect::HoleOutside),
-        _ => Profile::Invalid(ProfileDefect::Overlapping),
+        0 => None,
+        1 => Some(ProfileDefect::SelfIntersecting),
+        2 => Some(ProfileDefect::Degenerate),
+        3 => Some(ProfileDefect::HoleOutside),
+        _ => Some(ProfileDefect::Overlapping),
     }
 }

@@ -8,6 +8,8 @@ use lib.Dec.{T, eqb, ltb}
 use lib.ListN.{length}
 use lib.Ieee.{Float}
 use borrow.Author.Tests.{eq-eqb, eqb-false, ltb-false, ne_eqb}
+use Rattle.std.specs.Prelude.{Result, Ok, Err}
+use Rattle.ids.specs.declared.refusal.Refusal.{Refusal}
 use Rattle.sums.specs.Editions.{edition_known}
 use Rattle.sums.specs.Fine.{all_fine}
 use Rattle.refusals.specs.declared.Check.{Check}
@@ -24,97 +26,16 @@ pub both_small : (f i : ℕ) → (ltb most_entries f || ltb most_entries i) ≡ 
 both_small f i e =
     let h = neither (ltb most_entries f) (ltb most_entries i) e in (not_more most_entries f h.0, not_more most_entries i h.1)
 
--- ---- the edition
-
-pub unknown_edition : (e : ℕ) → (e ≡ 1 → ⊥) → (e ≡ 2 → ⊥) → false ≡ edition_known e
-unfolding edition_known
-unknown_edition e not-1 not-2 = rw (ne_eqb e 1 not-1, ne_eqb e 2 not-2)
-
-pub edition_below : (e : ℕ) → e < 1 → false ≡ edition_known e
-edition_below e l = unknown_edition e (λ h. omega (arith, l, h)) (λ h. omega (arith, l, h))
-
-pub edition_above : (e : ℕ) → 2 < e → false ≡ edition_known e
-edition_above e l = unknown_edition e (λ h. omega (arith, l, h)) (λ h. omega (arith, l, h))
-
-pub known_edition : (e : ℕ) → 1 ≤ e → e ≤ 2 → true ≡ edition_known e
-unfolding edition_known
-known_edition e l h = go (eqb e 1) refl
-  where
-    go : (b : Bool) → eqb e 1 ≡ b → true ≡ (b || eqb e 2)
-    go true h1 = refl
-    go false h1 = let other = eqb-false e 1 h1 in sym (eq-eqb e 2 (omega arith))
-
--- ---- the first row that applies
-
-module _ (vs : List Float) (ids : List ℕ) (u : Float) (e w r s : ℕ) where
-  abbrev many : Bool
-  many = ltb most_entries (length vs) || ltb most_entries (length ids)
-
-  abbrev few : Bool
-  few = ltb (length ids) 3 || ltb (length vs) 9
-
-  abbrev short : Bool
-  short = areas_short (length vs) (length ids) w r s
-
-  pub row_1 : many ≡ true → Check.Refuse 1 ≡ check_of vs ids u e w r s
-  unfolding check_of
-  row_1 a = rw a
-
-  pub row_zero : many ≡ false → few ≡ true → Check.Zero ≡ check_of vs ids u e w r s
-  unfolding check_of
-  row_zero a b = rw (a, b)
-
-  pub row_2 : many ≡ false → few ≡ false → unit_fits u ≡ false → Check.Refuse 2 ≡ check_of vs ids u e w r s
-  unfolding check_of
-  row_2 a b c = rw (a, b, c)
-
-  pub row_7 : many ≡ false → few ≡ false → unit_fits u ≡ true → edition_known e ≡ false → Check.Refuse 7 ≡ check_of vs ids u e w r s
-  unfolding check_of
-  row_7 a b c d = rw (a, b, c, d)
-
-  -- no row above 3 applies
-  pub record Behind7 : Type 0 where
-    pub not_many : many ≡ false
-    pub not_few : few ≡ false
-    pub unit : unit_fits u ≡ true
-    pub edition : edition_known e ≡ true
-
-  module _ (h : Behind7) where
-    pub row_3 : short ≡ true → Check.Refuse 3 ≡ check_of vs ids u e w r s
-    unfolding check_of
-    row_3 d = rw (h.not_many, h.not_few, h.unit, h.edition, d)
-
-    pub row_4 : short ≡ false → all_fine vs ≡ false → Check.Refuse 4 ≡ check_of vs ids u e w r s
-    unfolding check_of
-    row_4 d f = rw (h.not_many, h.not_few, h.unit, h.edition, d, f)
-
-    pub no_row : short ≡ false → all_fine vs ≡ true → Check.Full ≡ check_of vs ids u e w r s
-    unfolding check_of
-    no_row d f = rw (h.not_many, h.not_few, h.unit, h.edition, d, f)
-
-  -- the last three of what the tests said, each by itself
-  pub by_3 : many ≡ false → few ≡ false → unit_fits u ≡ true → edition_known e ≡ true → short ≡ true
-      → Check.Refuse 3 ≡ check_of vs ids u e w r s
-  by_3 a b c d = row_3 (record { not_many = a; not_few = b; unit = c; edition = d })
-
-  pub by_4 : many ≡ false → few ≡ false → unit_fits u ≡ true → edition_known e ≡ true → short ≡ false → all_fine vs ≡ false
-      → Check.Refuse 4 ≡ check_of vs ids u e w r s
-  by_4 a b c d = row_4 (record { not_many = a; not_few = b; unit = c; edition = d })
-
-  pub by_none : many ≡ false → few ≡ false → unit_fits u ≡ true → edition_known e ≡ true → short ≡ false → all_fine vs ≡ true
-      → Check.Full ≡ check_of vs ids u e w r s
-  by_none a b c d = no_row (record { not_many = a; not_few = b; unit = c; edition = d })
-
 -- ---- none applies
 
-is_full : Check → Bool
-is_full (Check.Refuse n) = false
-is_full Check.Zero = false
-is_full Check.Full = true
+is_full : Result Check Refusal → Bool
+is_full (Err why) = false
+is_full (Ok Check.Zero) = false
+is_full (Ok Check.Full) = true
 
 -- a row that came out full was passed over
-passed : (p : Bool) (refused behind : Check) → is_full refused ≡ false → cond p refused behind ≡ Check.Full
-    → (p ≡ false) × (behind ≡ Check.Full)
+passed : (p : Bool) (refused behind : Result Check Refusal) → is_full refused ≡ false → cond p refused behind ≡ Ok Check.Full
+    → (p ≡ false) × (behind ≡ Ok Check.Full)
 unfolding is_full
 passed true refused behind not_full e = absurd (false≢true (sym not_full ∙ ap is_full e))
 passed false refused behind not_full e = (refl, e)
@@ -124,7 +45,7 @@ not_refused true h = tt
 not_refused false h = absurd (false≢true (sym h))
 
 -- the mesh passes, and the areas are long enough
-pub admitted : (vs : List Float) (ids : List ℕ) (u : Float) (e w r s : ℕ) (k : Check) → k ≡ Check.Full → k ≡ check_of vs ids u e w r s
+pub admitted : (vs : List Float) (ids : List ℕ) (u : Float) (e w r s : ℕ) (k : Result Check Refusal) → k ≡ Ok Check.Full → k ≡ check_of vs ids u e w r s
     → Admitted vs ids u e w r s
 unfolding check_of is_full
 admitted vs ids u e w r s k h is =
@@ -156,20 +77,20 @@ admitted vs ids u e w r s k h is =
 
 -- ---- the zero record
 
-is_zero : Check → Bool
-is_zero (Check.Refuse n) = false
-is_zero Check.Zero = true
-is_zero Check.Full = false
+is_zero : Result Check Refusal → Bool
+is_zero (Err why) = false
+is_zero (Ok Check.Zero) = true
+is_zero (Ok Check.Full) = false
 
 -- no row below it gives one
-never : (p : Bool) (x y : Check) → is_zero x ≡ false → is_zero y ≡ false → is_zero (cond p x y) ≡ false
+never : (p : Bool) (x y : Result Check Refusal) → is_zero x ≡ false → is_zero y ≡ false → is_zero (cond p x y) ≡ false
 never true x y h k = h
 never false x y h k = k
 
 -- the first two rows decide about it
-zero_only : (many few : Bool) (behind behind' : Check) → is_zero behind ≡ false
-    → cond many (Check.Refuse 1) (cond few Check.Zero behind) ≡ Check.Zero
-    → cond many (Check.Refuse 1) (cond few Check.Zero behind') ≡ Check.Zero
+zero_only : (many few : Bool) (behind behind' : Result Check Refusal) → is_zero behind ≡ false
+    → cond many (Err Refusal.TooMany) (cond few (Ok Check.Zero) behind) ≡ Ok Check.Zero
+    → cond many (Err Refusal.TooMany) (cond few (Ok Check.Zero) behind') ≡ Ok Check.Zero
 unfolding is_zero
 zero_only true is_few behind behind' h e = absurd (false≢true (ap is_zero e))
 zero_only false true behind behind' h e = refl
@@ -182,4 +103,4 @@ zero_whatever vs vs' ids ids' u u' e e' w w' r r' s s' floats same =
     (zero_only (ltb most_entries (length vs) || ltb most_entries (length ids)) (ltb (length ids) 3 || ltb (length vs) 9) _ _
     (never (not (unit_fits u)) _ _ refl
     (never (not (edition_known e)) _ _ refl
-    (never (areas_short (length vs) (length ids) w r s) _ _ refl (never (not (all_fine vs)) (Check.Refuse 4) Check.Full refl refl)))))
+    (never (areas_short (length vs) (length ids) w r s) _ _ refl (never (not (all_fine vs)) (Err Refusal.Float) (Ok Check.Full) refl refl)))))

@@ -1,7 +1,8 @@
 -- Order of checks (01, and 02, A6): the rows of the table are tried from the top, and the first that applies decides.
-use Rattle.std.specs.Prelude.{◌≡◌, ℕ, ◌≤◌, Bool, cond, not, ◌&&◌, ◌||◌, List, T, ltb, length, Float}
+use Rattle.std.specs.Prelude.{◌≡◌, ℕ, ◌≤◌, Bool, cond, not, ◌&&◌, ◌||◌, List, T, ltb, length, Float, Result, Ok, Err}
 use Rattle.std.specs.Float.{binary32}
 use Rattle.std.specs.Float.Ieee.{le, of_bits}
+use Rattle.ids.specs.declared.refusal.Refusal.{Refusal}
 use Rattle.ids.specs.Lent.{most_entries}
 use Rattle.vertices.specs.Areas.{work_words, surface_floats, raster_bytes}
 use Rattle.sums.specs.Editions.{edition_known}
@@ -27,18 +28,18 @@ pub record Passes (vs : List Float) (ids : List ℕ) (u : Float) (e : ℕ) : Typ
   pub fine : T (all_fine vs)
 
 -- by the floats, the ids, the unit, the edition, and the lengths of work area, raster and surface area
-unfoldable pub check_of : List Float → List ℕ → Float → ℕ → ℕ → ℕ → ℕ → Check
+unfoldable pub check_of : List Float → List ℕ → Float → ℕ → ℕ → ℕ → ℕ → Result Check Refusal
 check_of vs ids u e w r s =
-    cond (ltb most_entries (length vs) || ltb most_entries (length ids)) (Check.Refuse 1)
-    (cond (ltb (length ids) 3 || ltb (length vs) 9) Check.Zero
-    (cond (not (unit_fits u)) (Check.Refuse 2)
-    (cond (not (edition_known e)) (Check.Refuse 7)
-    (cond (areas_short (length vs) (length ids) w r s) (Check.Refuse 3)
-    (cond (not (all_fine vs)) (Check.Refuse 4)
-    Check.Full)))))
+    cond (ltb most_entries (length vs) || ltb most_entries (length ids)) (Err Refusal.TooMany)
+    (cond (ltb (length ids) 3 || ltb (length vs) 9) (Ok Check.Zero)
+    (cond (not (unit_fits u)) (Err Refusal.Unit)
+    (cond (not (edition_known e)) (Err Refusal.Edition)
+    (cond (areas_short (length vs) (length ids) w r s) (Err Refusal.ShortArea)
+    (cond (not (all_fine vs)) (Err Refusal.Float)
+    (Ok Check.Full))))))
 
 -- the zero record hangs on how many floats and ids there are, and on nothing else: not on unit, edition or areas (`zero_whatever`)
 abbrev pub ZeroWhatever : Type 0
 ZeroWhatever =
     (vs vs' : List Float) (ids ids' : List ℕ) (u u' : Float) (e e' w w' r r' s s' : ℕ) → length vs' ≡ length vs → length ids' ≡ length ids
-    → check_of vs ids u e w r s ≡ Check.Zero → check_of vs' ids' u' e' w' r' s' ≡ Check.Zero
+    → check_of vs ids u e w r s ≡ Ok Check.Zero → check_of vs' ids' u' e' w' r' s' ≡ Ok Check.Zero

@@ -8,34 +8,28 @@ ghost use Rattle.sums.specs.Fine.{all_fine};
 ghost use Rattle.refusals.specs.Refusals.{unit_fits, areas_short, check_of};
 ghost use Rattle.vertices.specs.Areas.{work_words, raster_bytes};
 
-use ids::MOST_ENTRIES;
+use ids::{MOST_ENTRIES, Refusal};
 
+// What comes back of a mesh that is not refused: the zero record, or a full one.
 #[derive(Clone, Copy)]
 pub enum Check {
-    Refuse(u8),
     Zero,
     Full,
 }
 
 // From 2^-20 to 16.
+#[tactic(auto, unfolding(crate::specs::Refusals::unit_fits))]
 fn unit_fits(unit: f32) -> bool
     ensures { result ≡ unit_fits unit }
 {
     (unit >= 0.00000095367431640625) & (unit <= 16.0)
 }
 
-// 1 or 2.
-#[tactic(auto, using(crate::proofs::Checks::edition_below, crate::proofs::Checks::edition_above, crate::proofs::Checks::known_edition))]
+#[tactic(auto, unfolding(sums::specs::Editions::edition_known))]
 fn edition_known(edition: u32) -> bool
     ensures { result ≡ edition_known edition }
 {
-    if edition < 1 {
-        return false;
-    }
-    if edition > 2 {
-        return false;
-    }
-    true
+    matches!(edition, 1 | 2)
 }
 
 // Is every float finite, and at most 2^33 in magnitude? All are looked at whatever the first ones are: a processor then does several
@@ -44,11 +38,9 @@ fn all_fine(vertices: &[f32]) -> bool
     ensures { result ≡ all_fine vertices.now }
 {
     let mut fine = true;
-    let mut i = 0;
-    while i < vertices.len() {
-        let size = floats::magnitude(vertices[i]);
+    for x in vertices {
+        let size = floats::magnitude(*x);
         fine = fine & (size <= 8589934592.0);
-        i += 1;
     }
     fine
 }
@@ -78,7 +70,7 @@ fn areas_short(f: usize, i: usize, work: usize, raster: usize, surfaces: usize) 
 }
 
 // What the table says.
-#[tactic(auto, using(crate::proofs::Checks::row_1, crate::proofs::Checks::row_zero, crate::proofs::Checks::row_2, crate::proofs::Checks::row_7, crate::proofs::Checks::by_3, crate::proofs::Checks::by_4, crate::proofs::Checks::by_none))]
+#[tactic(auto, unfolding(crate::specs::Refusals::check_of))]
 pub fn checked(
     vertices: &[f32],
     indices: &[u32],
@@ -87,30 +79,30 @@ pub fn checked(
     work: usize,
     raster: usize,
     surfaces: usize,
-) -> Check
+) -> Result<Check, Refusal>
     ensures { result ≡ check_of vertices.now indices.now unit_scale edition work raster surfaces }
 {
     let f = vertices.len();
     let i = indices.len();
     if (MOST_ENTRIES < f) | (MOST_ENTRIES < i) {
-        return Check::Refuse(1);
+        return Err(Refusal::TooMany);
     }
     if (i < 3) | (f < 9) {
-        return Check::Zero;
+        return Ok(Check::Zero);
     }
     if !unit_fits(unit_scale) {
-        return Check::Refuse(2);
+        return Err(Refusal::Unit);
     }
     if !edition_known(edition) {
-        return Check::Refuse(7);
+        return Err(Refusal::Edition);
     }
     let short = areas_short(f, i, work, raster, surfaces);
     let fine = all_fine(vertices);
     if short {
-        return Check::Refuse(3);
+        return Err(Refusal::ShortArea);
     }
     if !fine {
-        return Check::Refuse(4);
+        return Err(Refusal::Float);
     }
-    Check::Full
+    Ok(Check::Full)
 }

@@ -8,12 +8,11 @@
 
 ghost use Rattle.std.specs.Prelude.{◌≤◌, length};
 
-use chain::{EdgeChain, FaceNet, Verdict};
 use ids::Refusal;
+use qto::Takeoff;
+use chain::{EdgeChain, FaceNet, Verdict};
 use meshfile::MeshBits;
-use qto::Answer;
 use raster::Pair;
-use record::Profile;
 use std::fs::File;
 use std::io::Read;
 use std::rt::Files;
@@ -108,14 +107,14 @@ fn print_short(
         &mut surfaces,
     );
     match answer {
-        Answer::Record(_) => print_count(rt, label, 0),
-        Answer::Refused(n) => print_count(rt, label, n as u64),
+        Ok(_) => print_count(rt, label, 0),
+        Err(refusal) => print_count(rt, label, u32::from(refusal) as u64),
     }
 }
 
 // ---- in areas that suffice, under an edition
 
-fn answer_under(edition: u32, vertices: &[f32], ids: &[u32], unit: f32) -> Answer {
+fn answer_under(edition: u32, vertices: &[f32], ids: &[u32], unit: f32) -> Result<Takeoff, Refusal> {
     let mut work = [0u32; 13824];
     let mut raster = [0u8; 65536];
     let mut surfaces = [0f32; 2048];
@@ -141,14 +140,14 @@ fn print_pair(rt: &impl Print, p: Pair) {
 fn print_pairs(rt: &impl Print, vertices: &[f32], ids: &[u32], unit: f32) {
     let answer = answer_under(1, vertices, ids, unit);
     match answer {
-        Answer::Record(t) => {
+        Ok(t) => {
             let pairs = t.pairs;
             print_text(rt, b" pairs");
             print_pair(rt, pairs.z);
             print_pair(rt, pairs.y);
             print_pair(rt, pairs.x);
         }
-        Answer::Refused(_) => {}
+        Err(_) => {}
     }
 }
 
@@ -162,7 +161,7 @@ fn print_area(rt: &impl Print, area: f32) {
 fn print_second(rt: &impl Print, vertices: &[f32], ids: &[u32], unit: f32) {
     let answer = answer_under(2, vertices, ids, unit);
     match answer {
-        Answer::Record(t) => {
+        Ok(t) => {
             let q = t.qto;
             print_text(rt, b" second");
             print_area(rt, q.area_top_m2);
@@ -170,7 +169,7 @@ fn print_second(rt: &impl Print, vertices: &[f32], ids: &[u32], unit: f32) {
             print_area(rt, q.area_side_m2);
             print_area(rt, q.area_inclined_m2);
         }
-        Answer::Refused(_) => {}
+        Err(_) => {}
     }
 }
 
@@ -257,9 +256,9 @@ fn print_many(rt: &impl Print) {
     let words = [0u32; 1537];
     let few = [0u32; 1];
     let mut area = [0u8; 1];
-    let floats = meshfile::write(0, &words, &few, false, Profile::Valid, &mut area);
+    let floats = meshfile::write(0, &words, &few, false, None, &mut area);
     print_refusal(rt, b"many ", floats);
-    let ids = meshfile::write(0, &few, &words, false, Profile::Valid, &mut area);
+    let ids = meshfile::write(0, &few, &words, false, None, &mut area);
     print_refusal(rt, b" ", ids);
     print_text(rt, b"\n");
 }

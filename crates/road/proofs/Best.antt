@@ -1,10 +1,10 @@
 -- With the same measures and verdict, two records agree whatever the prisms are: only an open shell asks for its own. Assumes nothing.
+use Rattle.std.specs.Prelude.{Some}
 use mathlib.Core.Path.{◌≡◌, refl, sym, ◌∙◌}
 use mathlib.Core.Bool.{Bool, true, false, cond}
 use lib.Ieee.{Float}
 use Rattle.verdict.specs.declared.Quality.{Quality}
 use Rattle.volume.specs.declared.Method.{Method}
-use Rattle.volume.specs.declared.PrismBound.{PrismBound}
 use Rattle.volume.specs.declared.Best.{Best}
 use Rattle.volume.specs.Best.{upper, trusted, open_best, best_of}
 use Rattle.record.specs.Numbers.{prism_number}
@@ -18,8 +18,8 @@ unfolding open_best prism_number
 open_bounded v s aabb p = go (trusted p (upper p aabb) v s)
   where
     go : (t : Bool) → prism_number
-        (cond {A = Best} t (record { volume = v; method = Method.MeshOpen; reliable = true; prism = PrismBound.Bound p })
-        (record { volume = p; method = Method.PrismFallback; reliable = false; prism = PrismBound.Bound p })).prism ≡ 1
+        (cond {A = Best} t (record { volume = v; method = Method.MeshOpen; reliable = true; prism = Some p })
+        (record { volume = p; method = Method.PrismFallback; reliable = false; prism = Some p })).prism ≡ 1
     go true = refl
     go false = refl
 

@@ -1,12 +1,13 @@
 -- The same flags on two records that agree: they still do; and flags pass over volume and areas. Assumes nothing.
+use Rattle.std.specs.Prelude.{Option, Some, None}
 use mathlib.Core.Path.{◌≡◌, refl, sym, ◌∙◌, ap, subst}
 use mathlib.Core.Bool.{Bool, true, false}
 use lib.Ieee.{Float}
 use Rattle.sums.specs.declared.totals.Areas.{Areas}
 use Rattle.verdict.specs.declared.Quality.{Quality}
 use Rattle.volume.specs.declared.Method.{Method}
+use Rattle.record.specs.declared.ProfileDefect.{ProfileDefect}
 use Rattle.record.specs.declared.MeshQto.{MeshQto}
-use Rattle.record.specs.declared.Profile.{Profile}
 use Rattle.record.specs.Flags.{marked, clip_unapplied, profile_invalid, if_clip, if_invalid, flagged}
 use Rattle.record.proofs.Kept.{flags_leave}
 use Rattle.road.specs.Agree.{AgreeBy, AgreeButBest, AgreeRecords, FlagsKeep}
@@ -28,7 +29,7 @@ keeps mark same open-keeps q q' r =
     by Quality.Degenerate e = ap mark e
     by Quality.OpenShell e = open-keeps q q' e
 
-marked_open : (to to' : Method) (p p' : Profile) (q q' : MeshQto) → p' ≡ p → AgreeButBest q q'
+marked_open : (to to' : Method) (p p' : Option ProfileDefect) (q q' : MeshQto) → p' ≡ p → AgreeButBest q q'
     → AgreeButBest (marked to p q) (marked to' p' q')
 unfolding marked
 marked_open to to' p p' q q' e r =
@@ -56,26 +57,26 @@ clip_keeps false q q' r = r
 clip_keeps true q q' r =
     keeps clip_unapplied (λ x. refl) (λ x x' e. marked_open _ _ x.profile_invalid x'.profile_invalid x x' e.profile e) q q' r
 
-profile_keeps : (profile : Profile) (q q' : MeshQto) → AgreeRecords q q' → AgreeRecords (if_invalid profile q) (if_invalid profile q')
+profile_keeps : (profile : Option ProfileDefect) (q q' : MeshQto) → AgreeRecords q q' → AgreeRecords (if_invalid profile q) (if_invalid profile q')
 unfolding if_invalid marked
-profile_keeps Profile.Valid q q' r = r
-profile_keeps (Profile.Invalid d) q q' r =
-    keeps (λ x. profile_invalid x d) (λ x. refl) (λ x x' e. marked_open _ _ (Profile.Invalid d) (Profile.Invalid d) x x' refl e) q q' r
+profile_keeps None q q' r = r
+profile_keeps (Some d) q q' r =
+    keeps (λ x. profile_invalid x d) (λ x. refl) (λ x x' e. marked_open _ _ (Some d) (Some d) x x' refl e) q q' r
 
 pub flags_keep : FlagsKeep
 flags_keep clip profile q q' r = profile_keeps profile (if_clip clip q) (if_clip clip q') (clip_keeps clip q q' r)
 
 -- flags neither look at the volume and the areas by slope nor write them
-pub flags_pass : (clip : Bool) (profile : Profile) (volume : Float) (areas : Areas) (q : MeshQto)
+pub flags_pass : (clip : Bool) (profile : Option ProfileDefect) (volume : Float) (areas : Areas) (q : MeshQto)
     → flagged clip profile (replaced volume areas q) ≡ replaced volume areas (flagged clip profile q)
 unfolding if_clip if_invalid marked replaced
-flags_pass true Profile.Valid volume areas q = refl
-flags_pass true (Profile.Invalid d) volume areas q = refl
-flags_pass false Profile.Valid volume areas q = refl
-flags_pass false (Profile.Invalid d) volume areas q = refl
+flags_pass true None volume areas q = refl
+flags_pass true (Some d) volume areas q = refl
+flags_pass false None volume areas q = refl
+flags_pass false (Some d) volume areas q = refl
 
 -- so what is made of these two is made of them behind the flags as well
-pub flags_replace : (volume : Float → Float) (areas : Areas → Areas) (clip : Bool) (profile : Profile) (q : MeshQto)
+pub flags_replace : (volume : Float → Float) (areas : Areas → Areas) (clip : Bool) (profile : Option ProfileDefect) (q : MeshQto)
     → flagged clip profile (replaced (volume q.volume_m3) (areas (areas_in q)) q)
     ≡ replaced (volume (flagged clip profile q).volume_m3) (areas (areas_in (flagged clip profile q))) (flagged clip profile q)
 unfolding marked

@@ -1,5 +1,6 @@
 -- The same of the C form: its words are made of the record and its flags, and flag values that are none are refused in both. Assumes
 -- nothing.
+use Rattle.std.specs.Prelude.{Result, Ok, Err}
 use mathlib.Core.Path.{◌≡◌, refl}
 use mathlib.Core.Bool.{Bool, true, false, not, cond}
 use native.Mathlib.Omega.{arith}
@@ -9,6 +10,8 @@ use borrow.Author.Tests.{ne_eqb}
 use lib.Dec.{eqb}
 use lib.ListN.{length}
 use lib.Ieee.{Float}
+use Rattle.ids.specs.declared.refusal.Refusal.{Refusal}
+use Rattle.ids.specs.Refusal.{refusal_number}
 use Rattle.sums.specs.Editions.{thresholds_of}
 use Rattle.vertices.specs.Areas.{work_words}
 use Rattle.verdict.specs.declared.Quality.{Quality}
@@ -93,24 +96,24 @@ module _ (W : ℕ → List ℕ → List ℕ → Type 0) (S : ℕ → List ℕ �
   abbrev made' : Takeoff
   made' = takeoff_of vs' ids' u (thresholds_of e')
 
-  abbrev words_as : Check → Takeoff → List ℕ
+  abbrev words_as : Result Check Refusal → Takeoff → List ℕ
   words_as c t = words_at c clip defect t words
 
-  words_at_lem : (c : Check) → (c ≡ Check.Full → Passes vs ids u e) → W (number_at c) (words_as c made) (words_as c made')
+  words_at_lem : (c : Result Check Refusal) → (c ≡ Ok Check.Full → Passes vs ids u e) → W (number_at c) (words_as c made) (words_as c made')
   unfolding number_at words_at
-  words_at_lem (Check.Refuse n) passes = k.refused n
-  words_at_lem Check.Zero passes = k.zero_record_lem
-  words_at_lem Check.Full passes = k.full (passes refl)
+  words_at_lem (Err why) passes = k.refused (refusal_number why)
+  words_at_lem (Ok Check.Zero) passes = k.zero_record_lem
+  words_at_lem (Ok Check.Full) passes = k.full (passes refl)
 
-  rows_at : (c : Check) → (c ≡ Check.Full → Passes vs ids u e)
+  rows_at : (c : Result Check Refusal) → (c ≡ Ok Check.Full → Passes vs ids u e)
       → S (number_at c) (words_as c made) (area_at c (surfaces_after vs ids u s) s) (area_at c (surfaces_after vs' ids' u s) s)
   unfolding number_at words_at area_at
-  rows_at (Check.Refuse n) passes = k.refused_rows n
-  rows_at Check.Zero passes = k.zero_rows
-  rows_at Check.Full passes = k.full_rows (passes refl)
+  rows_at (Err why) passes = k.refused_rows (refusal_number why)
+  rows_at (Ok Check.Zero) passes = k.zero_rows
+  rows_at (Ok Check.Full) passes = k.full_rows (passes refl)
 
   -- flags that are none are refused before anything is asked of the mesh
-  fitting : (fit : Bool) (c : Check) → (c ≡ Check.Full → Passes vs ids u e) → cond (not fit) (Check.Refuse 5) c ≡ Check.Full
+  fitting : (fit : Bool) (c : Result Check Refusal) → (c ≡ Ok Check.Full → Passes vs ids u e) → cond (not fit) (Err Refusal.File) c ≡ Ok Check.Full
       → Passes vs ids u e
   fitting false c passes h = let no : ◌≡◌ {A = ℕ} 0 1 = cc in absurd (no_more no)
     where
@@ -125,9 +128,9 @@ module _ (W : ℕ → List ℕ → List ℕ → Type 0) (S : ℕ → List ℕ �
   unfolding check_flags
   numbered_agree w r n n' w₁ w₂ r₁ r₂ s₁ s₂ words₁ words₂ c c' =
       let said = check_of vs ids u e (length w) (length r) (length s) in
-      let all = cond (not (flags_fit clip defect)) (Check.Refuse 5) said in
+      let all = cond (not (flags_fit clip defect)) (Err Refusal.File) said in
       let same = k.checks (length w) (length r) (length s) in
-      let passes : all ≡ Check.Full → Passes vs ids u e =
+      let passes : all ≡ Ok Check.Full → Passes vs ids u e =
       fitting (flags_fit clip defect) said (λ h. (admitted vs ids u e (length w) (length r) (length s) said h refl).mesh) in
       record {
         number = rw (c.number, c'.number, same);

@@ -1,13 +1,13 @@
 -- What agrees of two outcomes: two records but for what the documents except of an open shell, the pairs beside them, two answers, the
 -- areas afterwards.
-use Rattle.std.specs.Prelude.{◌≡◌, Bool, List, ℕ, Float}
+use Rattle.std.specs.Prelude.{◌≡◌, Bool, List, ℕ, Float, Option, Result, Ok, Err}
+use Rattle.ids.specs.declared.refusal.Refusal.{Refusal}
 use Rattle.verdict.specs.declared.Quality.{Quality}
 use Rattle.volume.specs.declared.Pairs.{Pairs}
+use Rattle.record.specs.declared.ProfileDefect.{ProfileDefect}
 use Rattle.record.specs.declared.MeshQto.{MeshQto}
-use Rattle.record.specs.declared.Profile.{Profile}
 use Rattle.record.specs.Flags.{flagged}
 use Rattle.record.specs.Numbers.{prism_number}
-use Rattle.qto.specs.declared.Answer.{Answer}
 use Rattle.qto.specs.declared.Takeoff.{Takeoff}
 
 -- all of a record but best volume, its method, its trust and the prism bound
@@ -42,7 +42,7 @@ pub record AgreeRecords (q q' : MeshQto) : Type 0 where
 -- the same flags keep that (`flags_keep`)
 abbrev pub FlagsKeep : Type 0
 FlagsKeep =
-    (clip : Bool) (profile : Profile) (q q' : MeshQto) → AgreeRecords q q' → AgreeRecords (flagged clip profile q) (flagged clip profile q')
+    (clip : Bool) (profile : Option ProfileDefect) (q q' : MeshQto) → AgreeRecords q q' → AgreeRecords (flagged clip profile q) (flagged clip profile q')
 
 -- the pairs, by the verdict: those of an open mesh may differ, all of them; of any other mesh they are the same
 unfoldable pub AgreePairs : Quality → Pairs → Pairs → Type 0
@@ -55,15 +55,15 @@ pub record Beside (R : MeshQto → MeshQto → Type 0) (t t' : Takeoff) : Type 0
   pub records : R t.qto t'.qto
   pub pairs : AgreePairs t.qto.mesh_quality t.pairs t'.pairs
 
--- two refusals with one number, or two records that stand to each other as R says, each with its pairs
-unfoldable pub AgreeAnswers : (Takeoff → Takeoff → Type 0) → Answer → Answer → Type 0
-AgreeAnswers R (Answer.Refused n) (Answer.Refused m) = m ≡ n
-AgreeAnswers R (Answer.Record t) (Answer.Record t') = R t t'
-AgreeAnswers R (Answer.Refused n) (Answer.Record t) = ⊥
-AgreeAnswers R (Answer.Record t) (Answer.Refused n) = ⊥
+-- one refusal twice, or two records that stand to each other as R says, each with its pairs
+unfoldable pub AgreeAnswers : (Takeoff → Takeoff → Type 0) → Result Takeoff Refusal → Result Takeoff Refusal → Type 0
+AgreeAnswers R (Err why) (Err why') = why' ≡ why
+AgreeAnswers R (Ok t) (Ok t') = R t t'
+AgreeAnswers R (Err why) (Ok t) = ⊥
+AgreeAnswers R (Ok t) (Err why) = ⊥
 
 -- the answers, and what stands in work area, raster and surface area afterwards; of the surface area S says it, by the answer
-pub record Agree (R : Takeoff → Takeoff → Type 0) (S : Answer → List Float → List Float → Type 0) (a a' : Answer) (w w' r r' : List ℕ)
+pub record Agree (R : Takeoff → Takeoff → Type 0) (S : Result Takeoff Refusal → List Float → List Float → Type 0) (a a' : Result Takeoff Refusal) (w w' r r' : List ℕ)
     (s s' : List Float) : Type 0 where
   pub answers : AgreeAnswers R a a'
   pub work : w' ≡ w
@@ -71,5 +71,5 @@ pub record Agree (R : Takeoff → Takeoff → Type 0) (S : Answer → List Float
   pub surfaces : S a s s'
 
 -- whatever the answer is, the surface area is the same
-abbrev pub SameArea : Answer → List Float → List Float → Type 0
+abbrev pub SameArea : Result Takeoff Refusal → List Float → List Float → Type 0
 SameArea a s s' = s' ≡ s

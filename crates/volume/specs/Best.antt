@@ -1,5 +1,5 @@
 -- Best volume (01): which volume is carried, by what method, whether it is to be trusted, and the prism bound. f32, each step rounded once.
-use Rattle.std.specs.Prelude.{ℕ, Bool, true, false, not, ◌&&◌, cond, List, Float}
+use Rattle.std.specs.Prelude.{ℕ, Bool, true, false, not, ◌&&◌, cond, List, Float, Some, None}
 use Rattle.std.specs.Float.{inf, binary32}
 use Rattle.std.specs.Float.Ieee.{lt, le, of_bits}
 use Rattle.ieee.specs.Cube.{cube_above}
@@ -12,7 +12,6 @@ use Rattle.sums.specs.declared.bounds.Bounds.{Bounds}
 use Rattle.verdict.specs.declared.Quality.{Quality}
 use Rattle.volume.specs.declared.Best.{Best}
 use Rattle.volume.specs.declared.Method.{Method}
-use Rattle.volume.specs.declared.PrismBound.{PrismBound}
 
 -- ---- the prism: the least positive of three products footprint × extent
 
@@ -83,14 +82,14 @@ trusted p most v s = lt nought most && (lt nought v && (not (collapsed p most v 
 unfoldable pub open_best : Float → Float → Float → Float → Best
 open_best v s box p =
     cond (trusted p (upper p box) v s)
-    (record { volume = v; method = Method.MeshOpen; reliable = true; prism = PrismBound.Bound p })
-    (record { volume = p; method = Method.PrismFallback; reliable = false; prism = PrismBound.Bound p })
+    (record { volume = v; method = Method.MeshOpen; reliable = true; prism = Some p })
+    (record { volume = p; method = Method.PrismFallback; reliable = false; prism = Some p })
 
 abbrev pub closed_best : Float → Best
-closed_best v = record { volume = v; method = Method.Mesh; reliable = true; prism = PrismBound.NotComputed }
+closed_best v = record { volume = v; method = Method.Mesh; reliable = true; prism = None }
 
 abbrev pub degenerate_best : Best
-degenerate_best = record { volume = nought; method = Method.PrismFallback; reliable = false; prism = PrismBound.Bound nought }
+degenerate_best = record { volume = nought; method = Method.PrismFallback; reliable = false; prism = Some nought }
 
 unfoldable pub best_of : Quality → Float → Float → Float → Float → Best
 best_of Quality.Closed v s box p = closed_best v

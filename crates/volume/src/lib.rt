@@ -14,13 +14,13 @@ use raster::{Axis, Pair, Window};
 use sums::Bounds;
 use verdict::{Quality, Sizes};
 
-// The volume that is carried, by which definition, whether it is to be relied on, and what bounds it.
+// The volume that is carried, by which definition, whether it is to be relied on, and what bounds it where that is computed.
 #[derive(Clone, Copy)]
 pub struct Best {
     pub volume: f32,
     pub method: Method,
     pub reliable: bool,
-    pub prism: PrismBound,
+    pub prism: Option<f32>,
 }
 
 // Which definition the best volume has.
@@ -31,12 +31,6 @@ pub enum Method {
     PrismFallback,
     MeshUnclipped,
     MeshProfileInvalid,
-}
-
-#[derive(Clone, Copy)]
-pub enum PrismBound {
-    NotComputed,
-    Bound(f32),
 }
 
 // The cells of the z, y and x footprints, each named by the axis that it is seen along.
@@ -193,14 +187,14 @@ fn open_best(volume: f32, surface: f32, aabb: f32, prism: f32) -> Best
             volume,
             method: Method::MeshOpen,
             reliable: true,
-            prism: PrismBound::Bound(prism),
+            prism: Some(prism),
         };
     }
     Best {
         volume: prism,
         method: Method::PrismFallback,
         reliable: false,
-        prism: PrismBound::Bound(prism),
+        prism: Some(prism),
     }
 }
 
@@ -213,7 +207,7 @@ fn closed_best(volume: f32) -> Best
         volume,
         method: Method::Mesh,
         reliable: true,
-        prism: PrismBound::NotComputed,
+        prism: None,
     }
 }
 
@@ -224,7 +218,7 @@ fn degenerate_best() -> Best
         volume: 0.0,
         method: Method::PrismFallback,
         reliable: false,
-        prism: PrismBound::Bound(0.0),
+        prism: Some(0.0),
     }
 }
 

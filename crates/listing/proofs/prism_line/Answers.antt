@@ -9,9 +9,9 @@ pub fill-requires : goal.fill-requires
 unfolding filled_at filled bits hex
 fill-requires c = search rules
 
-pub returns-in-NotComputed : goal.returns-in-NotComputed
-returns-in-NotComputed c = rw c.in-NotComputed.is (spells_puts prism_none c.put.ensures)
+pub returns-in-None : goal.returns-in-None
+returns-in-None c = rw c.in-None.is (spells_puts prism_none c.put.ensures)
 
-pub returns-in-Bound : goal.returns-in-Bound
-returns-in-Bound c =
-    rw c.in-Bound.is (spells_puts (prism_bits_lem _) c.fill.ensures)
+pub returns-in-Some : goal.returns-in-Some
+returns-in-Some c =
+    rw c.in-Some.is (spells_puts (prism_bits_lem _) c.fill.ensures)

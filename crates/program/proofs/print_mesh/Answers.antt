@@ -7,21 +7,21 @@ use Rattle.program.proofs.print_mesh.Goals as goal
 pub print_record-requires : goal.print_record-requires
 print_record-requires c =
     let m = c.args.m in
-    let fit = rows_fit _ _ _ m.clip m.profile _ _ _ _ _ _ _ c.compute-answer.ensures _ c.in-Record.is in
+    let fit = rows_fit _ _ _ m.clip m.profile _ _ _ _ _ _ _ c.compute-answer.ensures _ c.in-Ok.is in
     (fit, omega (arith, fit, c.requires))
 
-pub returns-in-Record : goal.returns-in-Record
-returns-in-Record c =
+pub returns-in-Ok : goal.returns-in-Ok
+returns-in-Ok c =
     let m = c.args.m in
     rw (
       ← record_text _ _ m.unit m.clip m.profile _ _ _ _ _ _ _ c.compute-answer.ensures (omega arith) (omega arith) (omega arith) _
-          c.in-Record.is,
+          c.in-Ok.is,
       ← c.pieces_of-count.ensures,
     ) c.print_record.ensures
 
-pub returns-in-Refused : goal.returns-in-Refused
-returns-in-Refused c =
+pub returns-in-Err : goal.returns-in-Err
+returns-in-Err c =
     let m = c.args.m in
     let said = c.print_refusal.ensures in
-    rw (← refusal_text _ _ m.unit m.clip m.profile _ _ _ _ _ _ _ c.compute-answer.ensures (omega arith) (omega arith) (omega arith)
-    _ c.in-Refused.is) (rw said.1 at said.2)
+    rw (← refusal_text _ _ m.unit m.clip m.profile _ _ _ _ _ _ _ c.compute-answer.ensures (omega arith) (omega arith) (omega arith) _
+    c.in-Err.is) (rw said.1 at said.2)

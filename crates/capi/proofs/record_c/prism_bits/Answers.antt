@@ -2,10 +2,10 @@
 use Rattle.record.specs.Numbers.{prism_bits}
 use Rattle.capi.proofs.record_c.prism_bits.Goals as goal
 
-pub returns-in-NotComputed : goal.returns-in-NotComputed
+pub returns-in-None : goal.returns-in-None
 unfolding prism_bits
-returns-in-NotComputed c = rw c.in-NotComputed.is
+returns-in-None c = rw c.in-None.is
 
-pub returns-in-Bound : goal.returns-in-Bound
+pub returns-in-Some : goal.returns-in-Some
 unfolding prism_bits
-returns-in-Bound c = rw c.in-Bound.is c.bits.ensures
+returns-in-Some c = rw c.in-Some.is c.bits.ensures

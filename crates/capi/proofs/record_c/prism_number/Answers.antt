@@ -2,10 +2,10 @@
 use Rattle.record.specs.Numbers.{prism_number}
 use Rattle.capi.proofs.record_c.prism_number.Goals as goal
 
-pub returns-in-NotComputed : goal.returns-in-NotComputed
+pub returns-in-None : goal.returns-in-None
 unfolding prism_number
-returns-in-NotComputed c = rw c.in-NotComputed.is
+returns-in-None c = rw c.in-None.is
 
-pub returns-in-Bound : goal.returns-in-Bound
+pub returns-in-Some : goal.returns-in-Some
 unfolding prism_number
-returns-in-Bound c = rw c.in-Bound.is
+returns-in-Some c = rw c.in-Some.is

@@ -7,7 +7,7 @@ ghost use Rattle.std.specs.Float.Ieee.{of_bits};
 ghost use Rattle.ieee.specs.Cube.{cube_above};
 ghost use Rattle.ieee.specs.inner.Fields.{exp, sig};
 
-use patterns::{Binary, bits};
+use patterns::{Binary, bits, exponent, trailing};
 
 // n / 2^k, also where k is more than a word has places.
 fn shifted_down(n: u64, k: u64) -> u64
@@ -57,19 +57,23 @@ fn sizes_above(a: u64, x: u64, b: u64, y: u64) -> bool
 }
 
 // A finite float's digits and their place, by the fields of its pattern: its size is digits * 2^place / 2^149.
+#[tactic(auto, using(ieee::proofs::Patterns::Fields::sig_above, ieee::proofs::Patterns::Fields::sig_zero))]
 fn digits(b: u64) -> u64
     ensures { (result ≡ sig binary32 (b % 2 ^ 31 / 2 ^ 23) (b % 2 ^ 23)) × (result < 2 ^ 24) }
 {
-    let e = b % f32::SIGN / f32::FIELD;
-    let t = b % f32::FIELD;
-    if e == 0 { t } else { f32::FIELD + t }
+    let t = trailing::<f32>(b);
+    if exponent::<f32>(b) == 0 {
+        t
+    } else {
+        f32::FIELD + t
+    }
 }
 
+#[tactic(auto, using(ieee::proofs::Patterns::Fields::exp_is))]
 fn place(b: u64) -> u64
     ensures { result ≡ exp (b % 2 ^ 31 / 2 ^ 23) }
 {
-    let e = b % f32::SIGN / f32::FIELD;
-    if e == 0 { 0 } else { e - 1 }
+    exponent::<f32>(b).saturating_sub(1)
 }
 
 // Nothing is above the square of an infinity or a NaN. A pattern past infinity's is a NaN's or has the sign: no such cube is
@@ -90,6 +94,7 @@ pub fn cube_above_bits(a: u32, b: u32) -> bool
     }
 }
 
+#[tactic(auto, using(ieee::proofs::Patterns::Back::read_back))]
 pub fn cube_above(s: f32, p: f32) -> bool
     ensures { result ≡ cube_above s p }
 {

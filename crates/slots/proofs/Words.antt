@@ -29,22 +29,6 @@ sets_at (a ∷ vs) l at (suc d) b room =
     let e : at + suc d ≡ suc at + d = omega arith in
     rw e (sets_at vs (set l at a) (suc at) d (omega arith) (omega (arith, length-set l at a)))
 
--- as code writes them
-pub three_set : (t : List ℕ) (at a b c : ℕ) → set (set (set t at a) (at + 1) b) (at + 2) c ≡ sets t at (a ∷ b ∷ c ∷ [])
-three_set t at a b c =
-    let one : at + 1 ≡ suc at = omega arith in
-    let two : at + 2 ≡ suc (suc at) = omega arith in
-    rw (one, two)
-
-pub six_set : (t : List ℕ) (at a b c d e f : ℕ)
-    → set (set (set (set (set (set t at a) (at + 1) b) (at + 2) c) (at + 3) d) (at + 4) e) (at + 5) f
-    ≡ sets t at (a ∷ b ∷ c ∷ d ∷ e ∷ f ∷ [])
-six_set t at a b c d e f =
-    let three : at + 3 ≡ suc (suc (suc at)) = omega arith in
-    let four : at + 4 ≡ suc (suc (suc (suc at))) = omega arith in
-    let five : at + 5 ≡ suc (suc (suc (suc (suc at)))) = omega arith in
-    rw (three_set t at a b c, three, four, five)
-
 -- ---- the words of an entry end where those of the table do, and no other entry has one of them
 
 pub entry_ends : (w n v : ℕ) → v < n → w * v + w ≤ w * n

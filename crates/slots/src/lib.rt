@@ -149,6 +149,7 @@ fn key_of<L: Layout>(part: &[u32], n: usize, v: usize) -> Code
 }
 
 // The search from slot `start` on and round.
+// Stays: a loop with no range, since it ends by a fact of the table (some slot is free), and not where a count does.
 fn find_from<L: Layout>(part: &[u32], n: usize, k: Code, start: usize) -> Result<usize, usize>
     requires { Searchable L.form n part.now × (start < 2 * n) }
     ensures { Finds L.form n part.now start k result }
@@ -169,6 +170,8 @@ fn find_from<L: Layout>(part: &[u32], n: usize, k: Code, start: usize) -> Result
 }
 
 // The entry that has the key, or the free slot that it would have.
+// Stays: the words and n side by side, since a struct over the lent words would serve this one call, and be made anew for each: between two
+// searches `claim` and whoever has the table write to them.
 pub fn find<L: Layout>(part: &[u32], n: usize, k: Code) -> Result<usize, usize>
     requires { Searchable L.form n part.now }
     ensures { Finds L.form n part.now (code_home n k) k result }

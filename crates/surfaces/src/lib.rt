@@ -35,6 +35,7 @@ fn tenfold(c: f32) -> u64
 }
 
 // A component in tenths, half away from zero.
+#[tactic(auto, using(ieee::proofs::Order::Ranges::signed_kept), unfolding(crate::specs::Surfaces::tenths))]
 fn tenths(c: f32) -> i32
     ensures { result ≡ tenths_of c }
 {

@@ -18,6 +18,7 @@ use Rattle.rows.specs.declared.PlanarSurface.{PlanarSurface}
 use Rattle.rows.specs.Rows.{flatten, rows_of, scaled, sorted}
 use Rattle.rows.specs.Plain.{all_plain}
 use Rattle.rows.proofs.Flat.{rows_flat, length_flatten}
+use Rattle.rows.proofs.Fours.{whole_of}
 use Rattle.rows.proofs.Areas.{length_scaled}
 use Rattle.rows.proofs.Order.{length_sorted}
 use Rattle.surfaces.specs.Surfaces.{rows}
@@ -120,8 +121,8 @@ module _
           subst (λ (l : List PlanarSurface). T (all_plain (scaled (square u) l))) (sym front_rows)
           (buckets_plain vs ids (square u) (triangle_count ids) fine (unit_square u h))
 
-      pub arrangeable : (e : ℕ) → Passes vs ids u e → Arrangeable (take k w) r.rows (square u)
-      arrangeable e h = record { few = few h.ids_most; floats = front_length; plain = front_plain h.unit h.fine }
+      pub arrangeable : (e : ℕ) → Passes vs ids u e → Arrangeable (take k w) (square u)
+      arrangeable e h = record { whole = whole_of (take k w) r.rows front_length; plain = front_plain h.unit h.fine }
 
       -- what the code makes of the sums and of the rows when these are in order: x before y, which stands behind the rows
       module _ (e : Extremes) (x : List Float) (arranged : Arranged (take k w) (square u) e x) where

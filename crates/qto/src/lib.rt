@@ -25,15 +25,15 @@ pub struct Extremes {
     pub smallest: f32,
 }
 
-// Scales n rows and puts them in order.
-fn arrange(rows: &mut [f32], n: usize, by: f32) -> Extremes
-    requires { Arrangeable rows.old n by }
+// Scales the rows and puts them in order.
+fn arrange(rows: &mut [f32], by: f32) -> Extremes
+    requires { Arrangeable rows.old by }
     ensures { Arranged rows.old by result rows.new }
 {
-    rows::scale(rows, n, by);
-    rows::sort(rows, n);
-    let largest = rows::largest(rows, n);
-    let smallest = rows::smallest(rows, n);
+    rows::scale(rows, by);
+    rows::sort(rows);
+    let largest = rows::largest(rows);
+    let smallest = rows::smallest(rows);
     Extremes { largest, smallest }
 }
 
@@ -76,7 +76,7 @@ fn measure(
     let t = w.totals;
     let triangles = w.counts;
     let areas = t.areas;
-    let e = arrange(&mut surfaces[0..4 * n], n, square);
+    let e = arrange(&mut surfaces[0..4 * n], square);
     Measures {
         volume: floats::narrow(t.volume6 / 6.0 * cube),
         surface: floats::narrow(t.surface * std::num::f32_to_f64_with_nan(square)),

@@ -8,9 +8,9 @@ use Rattle.std.specs.Float.{nan}
 use borrow.Rule.Slice.PartMut.{put_mid}
 use Rattle.ieee.specs.Single.{◌⊗◌, nought}
 use Rattle.rows.specs.declared.PlanarSurface.{PlanarSurface}
-use Rattle.rows.specs.Rows.{rows_of, scaled_row, largest, less_above, least_above}
+use Rattle.rows.specs.Rows.{rows_of, Whole, scaled_row, largest, less_above, least_above}
 use Rattle.rows.specs.Sorting.{row_at, passing, SameRows}
-use Rattle.rows.specs.inner.Passes.{Keeps, Whole, least_four}
+use Rattle.rows.specs.inner.Passes.{Keeps, least_four}
 use Rattle.rows.proofs.Flat.{length_rows}
 use Rattle.rows.proofs.Counts.{same_rows, same_then}
 

@@ -1,5 +1,5 @@
 -- Surfaces (01): rows of area, nx, ny and nz, in order; the largest and the smallest.
-use Rattle.std.specs.Prelude.{Bool, false, not, ◌&&◌, ◌||◌, cond, List, [], ◌∷◌, Float}
+use Rattle.std.specs.Prelude.{◌≡◌, Bool, false, not, ◌&&◌, ◌||◌, cond, List, [], ◌∷◌, ◌*◌, length, Float}
 use Rattle.std.specs.Float.{inf, binary32}
 use Rattle.std.specs.Float.Ieee.{lt, of_bits}
 use Rattle.ieee.specs.Order.{least}
@@ -19,6 +19,10 @@ rows_of (a ∷ []) = []
 rows_of (a ∷ x ∷ []) = []
 rows_of (a ∷ x ∷ y ∷ []) = []
 rows_of (a ∷ x ∷ y ∷ z ∷ l) = record { area = a; nx = x; ny = y; nz = z } ∷ rows_of l
+
+-- the floats are rows, and none is left over
+abbrev pub Whole : List Float → Type 0
+Whole t = length t ≡ 4 * length (rows_of t)
 
 -- ---- their order: falling area, then rising nx, ny, nz
 

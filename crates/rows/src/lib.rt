@@ -3,11 +3,11 @@
 #![tactic(auto)]
 
 ghost use Rattle.std.specs.Prelude.{◌≡◌, ◌+◌, ◌<◌, T, length, set, fold};
-ghost use Rattle.rows.specs.Rows.{flatten, rows_of, then_by, precedes as precedes_of, sorted, scaled, scaled_row};
+ghost use Rattle.rows.specs.Rows.{flatten, rows_of, Whole, then_by, precedes as precedes_of, sorted, scaled, scaled_row};
 ghost use Rattle.rows.specs.Rows.{largest as largest_of, smallest as smallest_of, less_above};
 ghost use Rattle.rows.specs.Plain.{all_plain};
 ghost use Rattle.rows.specs.Sorting.{row_at};
-ghost use Rattle.rows.specs.inner.Passes.{Inside, Whole, swapped, Keeps, Rising, AfterPass, least_four};
+ghost use Rattle.rows.specs.inner.Passes.{Inside, swapped, Keeps, Rising, AfterPass, least_four};
 
 // One planar surface: the summed area of the triangles with one key, and the key's direction.
 #[derive(Clone, Copy)]

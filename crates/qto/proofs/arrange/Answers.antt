@@ -1,12 +1,19 @@
 -- `qto::arrange` meets its contract: rows scaled and then sorted. Assumes nothing.
-use Rattle.qto.proofs.Arranged.{scaled_plain, arranged}
 use Rattle.std.proofs.Common.{◌∙◌}
+use Rattle.rows.proofs.Fours.{whole_of}
+use Rattle.qto.proofs.Arranged.{scaled_plain, arranged}
 use Rattle.qto.proofs.arrange.Goals as goal
+
+pub scale-requires : goal.scale-requires
+scale-requires c = c.requires.whole
 
 pub sort-requires : goal.sort-requires
 sort-requires c =
     let k = c.scale in
-    (c.requires.few, k.auto.rows ∙ c.requires.floats, scaled_plain c.args.by c.args.rows.now _ k.new.rows k.ensures c.requires.plain)
+    (whole_of k.new.rows _ (k.auto.rows ∙ c.requires.whole), scaled_plain c.args.by c.args.rows.now _ k.new.rows k.ensures c.requires.plain)
+
+pub largest-largest-requires : goal.largest-largest-requires
+largest-largest-requires c = whole_of c.sort.new.rows _ (c.sort.auto.rows ∙ c.scale.auto.rows ∙ c.requires.whole)
 
 pub returns : goal.returns
 returns c =

@@ -6,7 +6,7 @@ use Rattle.vertices.specs.Areas.{work_words, surface_floats, raster_bytes}
 use Rattle.sums.specs.declared.bounds.Bounds.{Bounds}
 use Rattle.sums.specs.Box.{box}
 use Rattle.sums.specs.Editions.{thresholds_of}
-use Rattle.rows.specs.Rows.{flatten, rows_of, scaled, sorted, largest, smallest}
+use Rattle.rows.specs.Rows.{flatten, rows_of, Whole, scaled, sorted, largest, smallest}
 use Rattle.rows.specs.Plain.{all_plain}
 use Rattle.volume.specs.Pairs.{prism_pairs, pairs_of}
 use Rattle.refusals.specs.Refusals.{Passes}
@@ -15,11 +15,10 @@ use Rattle.qto.specs.declared.Measures.{Measures}
 use Rattle.qto.specs.declared.Takeoff.{Takeoff}
 use Rattle.qto.specs.Full.{surfaces_after, measures, verdict, record_by, takeoff_of}
 
--- ---- `arrange`: n rows in 4n floats, and their areas times `by`
+-- ---- `arrange`: rows, and their areas times `by`
 
-pub record Arrangeable (rows : List Float) (n : ℕ) (by : Float) : Type 0 where
-  pub few : n ≤ 32768
-  pub floats : length rows ≡ 4 * n
+pub record Arrangeable (rows : List Float) (by : Float) : Type 0 where
+  pub whole : Whole rows
   pub plain : T (all_plain (scaled by (rows_of rows)))
 
 pub record Arranged (rows : List Float) (by : Float) (r : Extremes) (rows' : List Float) : Type 0 where

@@ -1,5 +1,5 @@
 -- What the parts of the sort keep, and what a pass over rows a gap apart leaves.
-use Rattle.std.specs.Prelude.{◌≡◌, List, ℕ, ◌+◌, ◌*◌, ◌≤◌, ◌<◌, length, set, get_or, Float}
+use Rattle.std.specs.Prelude.{List, ℕ, ◌+◌, ◌*◌, ◌≤◌, ◌<◌, length, set, get_or, Float}
 use Rattle.std.specs.Float.{nan}
 use Rattle.rows.specs.declared.PlanarSurface.{PlanarSurface}
 use Rattle.rows.specs.Rows.{rows_of, less_above}
@@ -8,10 +8,6 @@ use Rattle.rows.specs.Sorting.{row_at, SameRows, Behind}
 -- row j is one of the floats' rows
 abbrev pub Inside : ℕ → List Float → Type 0
 Inside j t = 4 * j + 4 ≤ length t
-
--- the floats are rows, and none is left over
-abbrev pub Whole : List Float → Type 0
-Whole t = length t ≡ 4 * length (rows_of t)
 
 -- rows i and j have changed places
 abbrev pub swapped : List PlanarSurface → ℕ → ℕ → List PlanarSurface

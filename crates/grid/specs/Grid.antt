@@ -1,10 +1,13 @@
 -- A grid of cells over a box, and the cells of a triangle's own box (01, Raster; 000, `footprint_raw`). f32, each step rounded once.
-use Rattle.std.specs.Prelude.{ℕ, ◌-◌, min, max, ℤ, pos, negsuc, Float}
+use Rattle.std.specs.Prelude.{ℕ, ◌-◌, ◌*◌, ◌≤◌, ◌<◌, min, max, ℤ, pos, negsuc, Float}
+use Rattle.std.proofs.Common.{lit≤}
+use Rattle.std.proofs.Math.Nat.{le-max_left, max-le, min-le_right}
 use Rattle.std.specs.Float.{binary32}
 use Rattle.std.specs.Float.Ieee.{of_bits, to_signed, to_unsigned}
 use Rattle.ieee.specs.Order.{least, greatest}
 use Rattle.ieee.specs.Integral.{floor, ceiling}
 use Rattle.ieee.specs.Single.{◌⊕◌, ◌⊖◌, ◌⊗◌, ◌⊘◌, number}
+use Rattle.grid.specs.declared.along.Along.{Along}
 use Rattle.grid.specs.declared.Grid.{Grid}
 
 -- 1/2
@@ -17,36 +20,51 @@ half = of_bits binary32 0x3f00_0000
 unfoldable pub cells_in : Float → Float → ℕ
 cells_in length size = max 1 (min (to_unsigned 64 (ceiling binary32 (length ⊘ size))) 256)
 
+pub cells_some : (length size : Float) → 0 < cells_in length size
+unfolding cells_in
+cells_some length size = le-max_left 1 _
+
+pub cells_few : (length size : Float) → cells_in length size ≤ 256
+unfolding cells_in
+cells_few length size = max-le (lit≤ tt) (min-le_right _ 256)
+
+-- the row from x on over a length, its cells near the size that is asked for
+unfoldable pub along_of : Float → Float → Float → Along
+along_of x length size =
+    record {
+      x = x;
+      w = length ⊘ number (cells_in length size);
+      n = cells_in length size;
+      some = cells_some length size;
+      few = cells_few length size;
+    }
+
 -- a whole number brought into 0 .. m
 unfoldable pub clamped : ℕ → ℤ → ℕ
 clamped m (pos n) = min n m
 clamped m (negsuc n) = 0
 
--- which of n cells of width w from x on p is in: the first where it lies before them, the last where it lies behind
-unfoldable pub cell_along : Float → Float → ℕ → Float → ℕ
-cell_along x w n p = clamped (n - 1) (to_signed 63 (floor binary32 ((p ⊖ x) ⊘ w)))
+-- which cell p is in: the first where it lies before them, the last where it lies behind
+unfoldable pub cell_along : Along → Float → ℕ
+cell_along a p = clamped (a.n - 1) (to_signed 63 (floor binary32 ((p ⊖ a.x) ⊘ a.w)))
 
 -- the first and the last of those of three points
-unfoldable pub first_cell : Float → Float → ℕ → Float → Float → Float → ℕ
-first_cell x w n a b c = cell_along x w n (least (least a b) c)
+unfoldable pub first_cell : Along → Float → Float → Float → ℕ
+first_cell row a b c = cell_along row (least (least a b) c)
 
-unfoldable pub last_cell : Float → Float → ℕ → Float → Float → Float → ℕ
-last_cell x w n a b c = cell_along x w n (greatest (greatest a b) c)
+unfoldable pub last_cell : Along → Float → Float → Float → ℕ
+last_cell row a b c = cell_along row (greatest (greatest a b) c)
 
--- the centre of cell i of those of width w from x on
-unfoldable pub centre_of : Float → Float → ℕ → Float
-centre_of x w i = x ⊕ (number i ⊕ half) ⊗ w
+-- the centre of cell i
+unfoldable pub centre_of : Along → ℕ → Float
+centre_of a i = a.x ⊕ (number i ⊕ half) ⊗ a.w
 
 -- ---- both axes
 
--- the grid from (x, y) on over the lengths w and h, its cells near the size that is asked for
+-- the grid from (x, y) on over the lengths w and h
 unfoldable pub grid_of : Float → Float → Float → Float → Float → Grid
-grid_of x y w h size =
-    record {
-      x = x;
-      y = y;
-      w = w ⊘ number (cells_in w size);
-      h = h ⊘ number (cells_in h size);
-      nx = cells_in w size;
-      ny = cells_in h size;
-    }
+grid_of x y w h size = record { columns = along_of x w size; rows = along_of y h size }
+
+-- how many cells it has
+abbrev pub cells : Grid → ℕ
+cells g = g.columns.n * g.rows.n

@@ -1,12 +1,14 @@
 // The point test, and the arithmetic of a grid of cells over a box. Internal: `paint` and `raster` use it.
 #![tactic(auto)]
 
-ghost use Rattle.std.specs.Prelude.{◌≡◌, ◌≤◌, ◌<◌, length};
+ghost use Rattle.std.specs.Prelude.{◌≡◌};
 ghost use Rattle.grid.specs.Point.{place, place_number, counts as is_counted};
-ghost use Rattle.grid.specs.Grid.{cells_in, cell_along, first_cell, last_cell, centre_of, grid_of};
-ghost use Rattle.grid.specs.inner.Centred.{Centred};
+ghost use Rattle.grid.specs.Grid.{grid_of};
 ghost use Rattle.grid.specs.inner.Edges.{edge_if};
-ghost use Rattle.grid.specs.inner.Sized.{GridSized};
+
+mod along; // the cells along one axis
+
+pub use along::{Along, Span};
 
 // A triangle in the plane.
 #[derive(Clone, Copy)]
@@ -19,19 +21,15 @@ pub struct Flat {
     pub cy: f32,
 }
 
-// nx by ny cells of w by h from (x, y) on.
+// Cells in columns and rows.
 #[derive(Clone, Copy)]
 pub struct Grid {
-    pub x: f32,
-    pub y: f32,
-    pub w: f32,
-    pub h: f32,
-    pub nx: usize,
-    pub ny: usize,
+    pub columns: Along,
+    pub rows: Along,
 }
 
 // Where a point lies by a triangle.
-#[derive(Clone, Copy)]
+#[derive(Clone, Copy, PartialEq, Eq)]
 pub enum Place {
     Inside,
     OnEdge,
@@ -78,13 +76,16 @@ pub fn point_in_triangle(px: f32, py: f32, t: Flat) -> Place
 }
 
 // A number for each case: the further in, the greater.
-pub fn place_number(place: Place) -> u8
-    ensures { result ≡ place_number place }
-{
-    match place {
-        Place::Inside => 2,
-        Place::OnEdge => 1,
-        Place::Outside => 0,
+impl From<Place> for u8 {
+    ghost from_gives = { λ place n. n ≡ place_number place };
+
+    #[tactic(auto, unfolding(crate::specs::Point::place_number))]
+    fn from(place: Place) -> u8 {
+        match place {
+            Place::Inside => 2,
+            Place::OnEdge => 1,
+            Place::Outside => 0,
+        }
     }
 }
 
@@ -96,89 +97,15 @@ pub fn counts(t: Flat) -> bool
     !((d < 1e-12) & (-d < 1e-12))
 }
 
-// ---- the cells along one axis
-
-// How many cells of a size a length has.
-fn cells(length: f32, size: f32) -> usize
-    ensures { (result ≡ cells_in length size) × (0 < result) × (result ≤ 256) }
-{
-    let n = floats::to_u64(floats::ceiling(length / size));
-    if n < 1 {
-        1
-    } else if n < 256 {
-        n as usize
-    } else {
-        256
-    }
-}
-
-// Which of n cells of width w from x on p is in. Between the first and the last the fraction is dropped, which is the floor.
-fn cell(x: f32, w: f32, n: usize, p: f32) -> usize
-    requires { (0 < n) × (n ≤ 256) }
-    ensures { (result ≡ cell_along x w n p) × (result < n) }
-{
-    let q = (p - x) / w;
-    if q < (n - 1) as u16 as f32 {
-        if q >= 1.0 {
-            integers::whole_part32(q) as usize
-        } else {
-            0
-        }
-    } else if q != q {
-        0
-    } else {
-        n - 1
-    }
-}
-
-pub fn first_cell(x: f32, w: f32, n: usize, a: f32, b: f32, c: f32) -> usize
-    requires { (0 < n) × (n ≤ 256) }
-    ensures { (result ≡ first_cell x w n a b c) × (result < n) }
-{
-    cell(x, w, n, floats::least(floats::least(a, b), c))
-}
-
-pub fn last_cell(x: f32, w: f32, n: usize, a: f32, b: f32, c: f32) -> usize
-    requires { (0 < n) × (n ≤ 256) }
-    ensures { (result ≡ last_cell x w n a b c) × (result < n) }
-{
-    cell(x, w, n, floats::greatest(floats::greatest(a, b), c))
-}
-
-// The centre of cell i of those of width w from x on.
-pub fn centre(x: f32, w: f32, i: usize) -> f32
-    requires { i < 256 }
-    ensures { result ≡ centre_of x w i }
-{
-    x + (i as u16 as f32 + 0.5) * w
-}
-
-// The centres of the first cells, as many as the list is long. Each row of a raster asks for them.
-pub fn centres(list: &mut [f32], x: f32, w: f32)
-    requires { length list.old ≤ 256 }
-    ensures { Centred x w list.new }
-{
-    let mut i = 0;
-    while i < list.len() {
-        list[i] = centre(x, w, i);
-        i += 1;
-    }
-}
-
 // ---- both axes
 
 // The grid from (x, y) on over the lengths w and h.
+#[tactic(auto, unfolding(crate::specs::Grid::grid_of))]
 pub fn grid_over(x: f32, y: f32, w: f32, h: f32, size: f32) -> Grid
-    ensures { (result ≡ grid_of x y w h size) × GridSized result }
+    ensures { result ≡ grid_of x y w h size }
 {
-    let nx = cells(w, size);
-    let ny = cells(h, size);
     Grid {
-        x,
-        y,
-        w: w / (nx as u16 as f32),
-        h: h / (ny as u16 as f32),
-        nx,
-        ny,
+        columns: Along::over(x, w, size),
+        rows: Along::over(y, h, size),
     }
 }

@@ -8,20 +8,21 @@ use native.Mathlib.Omega.{arith}
 use native.Mathlib.Nat.{div-eq_of_lt-le, mul-add-mod_self_right, mod-eq_of_lt, div-add-mod', mul-le-mul_right}
 use native.Mathlib.Decide.{ℕ_discrete, dec_lt}
 use lib.Dec.{leb, ltb, eqb}
+use lib.ListN.{length, get_or, set}
 use lib.Ieee.{Float}
 use borrow.Author.Tests.{lt-ltb, le-ltb, le-leb, lt-leb, eq-eqb, ne_eqb, eqb-true}
 use Rattle.grid.specs.declared.Flat.{Flat}
 use Rattle.grid.specs.declared.Grid.{Grid}
 use Rattle.grid.specs.Point.{place, place_number}
-use Rattle.grid.specs.Grid.{centre_of}
+use Rattle.grid.specs.Grid.{centre_of, cells}
 use Rattle.paint.specs.Covered.{between, centre_lies}
 use Rattle.paint.specs.inner.Painted.{only_if, centre_number, Adds}
-use Rattle.paint.proofs.Painting.{only_or, only_same, adds_none, adds_same, adds_both}
+use Rattle.paint.proofs.Painting.{only_or, only_same, adds_none, adds_same, adds_both, adds_one}
 
 -- ---- sizes
 
 -- the cell in column i and row j is one of the grid's
-pub in_grid : (nx ny i j : ℕ) → i < nx → j < ny → j * nx + i < nx * ny
+in_grid : (nx ny i j : ℕ) → i < nx → j < ny → j * nx + i < nx * ny
 in_grid nx ny i j l m = let e : (j + 1) * nx ≤ ny * nx = mul-le-mul_right nx (omega arith) in omega arith
 
 -- ---- from lo on, below i
@@ -95,28 +96,33 @@ either_in false x y z e = rw (and-false x, and-false y, and-false z)
 
 -- what is said of cell k by the columns from lo on, below i, in row j
 unfoldable pub row_sofar : Grid → Flat → ℕ → ℕ → ℕ → ℕ → ℕ
-row_sofar g t j lo i k = only_if (eqb (k / g.nx) j && sofar lo i (k % g.nx)) (centre_number g t (k % g.nx) (k / g.nx))
+row_sofar g t j lo i k = only_if (eqb (k / g.columns.n) j && sofar lo i (k % g.columns.n)) (centre_number g t (k % g.columns.n) (k / g.columns.n))
 
 module _ (g : Grid) (t : Flat) (j lo : ℕ) where
   pub row_first : (s : List ℕ) → Adds s s (row_sofar g t j lo lo)
   unfolding row_sofar
-  row_first s = adds_none s (row_sofar g t j lo lo) (λ k. rw (sofar_none lo (k % g.nx), and-false (eqb (k / g.nx) j)))
+  row_first s = adds_none s (row_sofar g t j lo lo) (λ k. rw (sofar_none lo (k % g.columns.n), and-false (eqb (k / g.columns.n) j)))
 
-  number_at : (k i : ℕ) (px py : Float) → i < g.nx → px ≡ centre_of g.x g.w i → py ≡ centre_of g.y g.h j → k ≡ j * g.nx + i
-      → place_number (place px py t) ≡ centre_number g t (k % g.nx) (k / g.nx)
+  number_at : (k i : ℕ) (px py : Float) → i < g.columns.n → px ≡ centre_of g.columns i → py ≡ centre_of g.rows j → k ≡ j * g.columns.n + i
+      → place_number (place px py t) ≡ centre_number g t (k % g.columns.n) (k / g.columns.n)
   unfolding centre_number centre_lies
-  number_at k i px py l ex ey e = rw (e, row_of g.nx i j l, column_of g.nx i j l, ex, ey)
+  number_at k i px py l ex ey e = rw (e, row_of g.columns.n i j l, column_of g.columns.n i j l, ex, ey)
 
-  pub row_next : {s u v : List ℕ} (i : ℕ) (px py : Float) → i < g.nx → lo ≤ i → px ≡ centre_of g.x g.w i
-      → py ≡ centre_of g.y g.h j → Adds s u (row_sofar g t j lo i)
-      → Adds u v (λ k. only_if (eqb k (j * g.nx + i)) (place_number (place px py t))) → Adds s v (row_sofar g t j lo (i + 1))
+  -- byte b is stored for column i
+  pub row_next : {s u : List ℕ} (i b : ℕ) (px py : Float) → i < g.columns.n → j < g.rows.n → length s ≡ cells g → lo ≤ i
+      → px ≡ centre_of g.columns i → py ≡ centre_of g.rows j
+      → b ≡ max (get_or u (j * g.columns.n + i) 0) (place_number (place px py t)) → Adds s u (row_sofar g t j lo i)
+      → Adds s (set u (j * g.columns.n + i) b) (row_sofar g t j lo (i + 1))
   unfolding row_sofar
-  row_next i px py l m ex ey a b = adds_same (row_sofar g t j lo (i + 1)) (adds_both a b) more
+  row_next {u = u} i b px py l below long m ex ey e a =
+      let there : j * g.columns.n + i < length u =
+      omega (arith, in_grid g.columns.n g.rows.n i j l below, a.long, long) in
+      adds_same (row_sofar g t j lo (i + 1)) (adds_both a (rw e (adds_one u (j * g.columns.n + i) (place_number (place px py t)) there))) more
     where
-      more : (k : ℕ) → max (row_sofar g t j lo i k) (only_if (eqb k (j * g.nx + i)) (place_number (place px py t)))
+      more : (k : ℕ) → max (row_sofar g t j lo i k) (only_if (eqb k (j * g.columns.n + i)) (place_number (place px py t)))
           ≡ row_sofar g t j lo (i + 1) k
       more k =
-          let n = g.nx in
+          let n = g.columns.n in
           let here = centre_number g t (k % n) (k / n) in
           let in_row = eqb (k / n) j in
           rw (
@@ -128,32 +134,32 @@ module _ (g : Grid) (t : Flat) (j lo : ℕ) where
           )
 
   pub row_last : {s u : List ℕ} (hi i : ℕ) → hi < i → i ≤ max lo (hi + 1) → Adds s u (row_sofar g t j lo i)
-      → Adds s u (λ k. only_if (eqb (k / g.nx) j && between lo hi (k % g.nx)) (centre_number g t (k % g.nx) (k / g.nx)))
+      → Adds s u (λ k. only_if (eqb (k / g.columns.n) j && between lo hi (k % g.columns.n)) (centre_number g t (k % g.columns.n) (k / g.columns.n)))
   unfolding row_sofar
-  row_last hi i l m a = adds_same _ a (λ k. rw (sofar_last lo hi i (k % g.nx) l m))
+  row_last hi i l m a = adds_same _ a (λ k. rw (sofar_last lo hi i (k % g.columns.n) l m))
 
 -- ---- a box
 
 -- what is said of cell k by the rows from first on, below j, in the columns from lo to hi
 unfoldable pub box_sofar : Grid → Flat → ℕ → ℕ → ℕ → ℕ → ℕ → ℕ
-box_sofar g t lo hi first j k = only_if (sofar first j (k / g.nx) && between lo hi (k % g.nx)) (centre_number g t (k % g.nx) (k / g.nx))
+box_sofar g t lo hi first j k = only_if (sofar first j (k / g.columns.n) && between lo hi (k % g.columns.n)) (centre_number g t (k % g.columns.n) (k / g.columns.n))
 
 module _ (g : Grid) (t : Flat) (lo hi first : ℕ) where
   pub box_first : (s : List ℕ) → Adds s s (box_sofar g t lo hi first first)
   unfolding box_sofar
-  box_first s = adds_none s (box_sofar g t lo hi first first) (λ k. rw (sofar_none first (k / g.nx)))
+  box_first s = adds_none s (box_sofar g t lo hi first first) (λ k. rw (sofar_none first (k / g.columns.n)))
 
   pub box_next : {s u v : List ℕ} (j : ℕ) → first ≤ j → Adds s u (box_sofar g t lo hi first j)
-      → Adds u v (λ k. only_if (eqb (k / g.nx) j && between lo hi (k % g.nx)) (centre_number g t (k % g.nx) (k / g.nx)))
+      → Adds u v (λ k. only_if (eqb (k / g.columns.n) j && between lo hi (k % g.columns.n)) (centre_number g t (k % g.columns.n) (k / g.columns.n)))
       → Adds s v (box_sofar g t lo hi first (j + 1))
   unfolding box_sofar
   box_next j m a b = adds_same (box_sofar g t lo hi first (j + 1)) (adds_both a b) more
     where
       more : (k : ℕ) → max (box_sofar g t lo hi first j k)
-          (only_if (eqb (k / g.nx) j && between lo hi (k % g.nx)) (centre_number g t (k % g.nx) (k / g.nx)))
+          (only_if (eqb (k / g.columns.n) j && between lo hi (k % g.columns.n)) (centre_number g t (k % g.columns.n) (k / g.columns.n)))
           ≡ box_sofar g t lo hi first (j + 1) k
       more k =
-          let n = g.nx in
+          let n = g.columns.n in
           let inside = between lo hi (k % n) in
           rw (
             only_or (sofar first j (k / n) && inside) (eqb (k / n) j && inside) (centre_number g t (k % n) (k / n)),
@@ -161,6 +167,6 @@ module _ (g : Grid) (t : Flat) (lo hi first : ℕ) where
           )
 
   pub box_last : {s u : List ℕ} (last j : ℕ) → last < j → j ≤ max first (last + 1) → Adds s u (box_sofar g t lo hi first j)
-      → Adds s u (λ k. only_if (between first last (k / g.nx) && between lo hi (k % g.nx)) (centre_number g t (k % g.nx) (k / g.nx)))
+      → Adds s u (λ k. only_if (between first last (k / g.columns.n) && between lo hi (k % g.columns.n)) (centre_number g t (k % g.columns.n) (k / g.columns.n)))
   unfolding box_sofar
-  box_last last j l m a = adds_same _ a (λ k. rw (sofar_last first last j (k / g.nx) l m))
+  box_last last j l m a = adds_same _ a (λ k. rw (sofar_last first last j (k / g.columns.n) l m))

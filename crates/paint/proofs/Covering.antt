@@ -28,17 +28,17 @@ number_if false p = refl
 module _ (g : Grid) (t : Flat) where
   -- it counts: the cells of its box, by their centres
   pub counts_in : {s u : List ℕ} (lo hi first last : ℕ) → counts t ≡ true
-      → lo ≡ first_cell g.x g.w g.nx t.ax t.bx t.cx → hi ≡ last_cell g.x g.w g.nx t.ax t.bx t.cx
-      → first ≡ first_cell g.y g.h g.ny t.ay t.by t.cy → last ≡ last_cell g.y g.h g.ny t.ay t.by t.cy
-      → Adds s u (λ k. only_if (between first last (k / g.nx) && between lo hi (k % g.nx)) (centre_number g t (k % g.nx) (k / g.nx)))
-      → Adds s u (λ k. place_number (cell_lies g t (k % g.nx) (k / g.nx)))
+      → lo ≡ first_cell g.columns t.ax t.bx t.cx → hi ≡ last_cell g.columns t.ax t.bx t.cx
+      → first ≡ first_cell g.rows t.ay t.by t.cy → last ≡ last_cell g.rows t.ay t.by t.cy
+      → Adds s u (λ k. only_if (between first last (k / g.columns.n) && between lo hi (k % g.columns.n)) (centre_number g t (k % g.columns.n) (k / g.columns.n)))
+      → Adds s u (λ k. place_number (cell_lies g t (k % g.columns.n) (k / g.columns.n)))
   unfolding cell_lies in_rows in_columns centre_number
   counts_in lo hi first last e p q v w a =
       adds_same _ a (λ k. rw (e, p, q, v, w)
-      (number_if (in_rows g t (k / g.nx) && in_columns g t (k % g.nx)) (centre_lies g t (k % g.nx) (k / g.nx))))
+      (number_if (in_rows g t (k / g.columns.n) && in_columns g t (k % g.columns.n)) (centre_lies g t (k % g.columns.n) (k / g.columns.n))))
 
   -- it does not
-  pub counts_out : (s : List ℕ) → counts t ≡ false → Adds s s (λ k. place_number (cell_lies g t (k % g.nx) (k / g.nx)))
+  pub counts_out : (s : List ℕ) → counts t ≡ false → Adds s s (λ k. place_number (cell_lies g t (k % g.columns.n) (k / g.columns.n)))
   unfolding cell_lies place_number
   counts_out s e = adds_none s _ (λ k. rw e)
 
@@ -46,31 +46,31 @@ module _ (g : Grid) (t : Flat) where
 
 module _ (vs : List Float) (u v : ℕ) (g : Grid) where
   pub lies_in : {s w : List ℕ} (t : Triangle) → corners_in_range vs t ≡ true
-      → Adds s w (λ k. place_number (cell_lies g (flat vs u v t) (k % g.nx) (k / g.nx)))
-      → Adds s w (λ k. place_number (lies vs u v g t (k % g.nx) (k / g.nx)))
+      → Adds s w (λ k. place_number (cell_lies g (flat vs u v t) (k % g.columns.n) (k / g.columns.n)))
+      → Adds s w (λ k. place_number (lies vs u v g t (k % g.columns.n) (k / g.columns.n)))
   unfolding lies
   lies_in t e a = adds_same _ a (λ k. rw e)
 
   pub lies_out : (s : List ℕ) (t : Triangle) → corners_in_range vs t ≡ false
-      → Adds s s (λ k. place_number (lies vs u v g t (k % g.nx) (k / g.nx)))
+      → Adds s s (λ k. place_number (lies vs u v g t (k % g.columns.n) (k / g.columns.n)))
   unfolding lies place_number
   lies_out s t e = adds_none s _ (λ k. rw e)
 
   -- what is said of cell k by the triangles with a number below n
   unfoldable pub all_sofar : List ℕ → ℕ → ℕ → ℕ
-  all_sofar ids n k = most_of (λ t. place_number (lies vs u v g (triangle ids t) (k % g.nx) (k / g.nx))) n
+  all_sofar ids n k = most_of (λ t. place_number (lies vs u v g (triangle ids t) (k % g.columns.n) (k / g.columns.n))) n
 
   pub all_first : (ids s : List ℕ) → Adds s s (all_sofar ids 0)
   unfolding all_sofar most_of
   all_first ids s = adds_none s (all_sofar ids 0) (λ k. refl)
 
   pub all_next : {s t w : List ℕ} (ids : List ℕ) (n : ℕ) → Adds s t (all_sofar ids n)
-      → Adds t w (λ k. place_number (lies vs u v g (triangle ids n) (k % g.nx) (k / g.nx)))
+      → Adds t w (λ k. place_number (lies vs u v g (triangle ids n) (k % g.columns.n) (k / g.columns.n)))
       → Adds s w (all_sofar ids (n + 1))
   unfolding all_sofar most_of
   all_next ids n a b = adds_same (all_sofar ids (n + 1)) (adds_both a b) (λ k. rw (add-one n))
 
   pub all_last : {s t : List ℕ} (ids : List ℕ) (n : ℕ) → n ≡ triangle_count ids → Adds s t (all_sofar ids n)
-      → Adds s t (λ k. cell_number vs u v g ids (k % g.nx) (k / g.nx))
+      → Adds s t (λ k. cell_number vs u v g ids (k % g.columns.n) (k / g.columns.n))
   unfolding all_sofar cell_number
   all_last ids n e a = adds_same _ a (λ k. rw e)

@@ -3,7 +3,7 @@
 use mathlib.Core.Path.{◌≡◌, refl, ◌∙◌}
 use mathlib.Core.Bool.{Bool, true, false, ◌||◌}
 use mathlib.Core.List.{List}
-use Prim.Native.Nat.{ℕ, ◌≤◌, ◌<◌, max}
+use Prim.Native.Nat.{ℕ, ◌<◌, max}
 use native.Mathlib.Omega.{arith}
 use native.Mathlib.Decide.{ℕ_discrete}
 use lib.Dec.{eqb}
@@ -38,20 +38,10 @@ pub adds_both : {s t u : List ℕ} {h h' : ℕ → ℕ} → Adds s t h → Adds 
 adds_both a b =
     record { long = b.long ∙ a.long; says = λ k l. omega (arith, a.says k l, b.says k (omega (arith, l, a.long))) }
 
--- byte k, of which n is to be said
-module _ (t : List ℕ) (k n : ℕ) where
-  -- it says as much already
-  pub adds_nothing : n ≤ get_or t k 0 → Adds t t (λ i. only_if (eqb i k) n)
-  adds_nothing most = record { long = refl; says = λ i l. go i (ℕ_discrete i k) }
-    where
-      go : (i : ℕ) → Dec (i ≡ k) → get_or t i 0 ≡ max (get_or t i 0) (only_if (eqb i k) n)
-      go i (yes e) = rw (e, eq-eqb k k refl) (omega (arith, most))
-      go i (no e) = rw (ne_eqb i k e) (omega arith)
-
-  -- it is said now
-  pub adds_one : k < length t → get_or t k 0 ≤ n → Adds t (set t k n) (λ i. only_if (eqb i k) n)
-  adds_one lk least = record { long = length-set t k n; says = λ i l. go i (ℕ_discrete i k) }
-    where
-      go : (i : ℕ) → Dec (i ≡ k) → get_or (set t k n) i 0 ≡ max (get_or t i 0) (only_if (eqb i k) n)
-      go i (yes e) = rw (e, eq-eqb k k refl) (omega (arith, get_or-set_same t k n 0 lk, least))
-      go i (no e) = rw (ne_eqb i k e) (omega (arith, get_or-set_other t k i n 0 e))
+-- byte k says n now, or what it said where that is greater
+pub adds_one : (t : List ℕ) (k n : ℕ) → k < length t → Adds t (set t k (max (get_or t k 0) n)) (λ i. only_if (eqb i k) n)
+adds_one t k n lk = record { long = length-set t k _; says = λ i l. go i (ℕ_discrete i k) }
+  where
+    go : (i : ℕ) → Dec (i ≡ k) → get_or (set t k (max (get_or t k 0) n)) i 0 ≡ max (get_or t i 0) (only_if (eqb i k) n)
+    go i (yes e) = rw (e, eq-eqb k k refl) (get_or-set_same t k _ 0 lk)
+    go i (no e) = rw (ne_eqb i k e) (omega (arith, get_or-set_other t k i (max (get_or t k 0) n) 0 e))

@@ -29,14 +29,14 @@ between lo hi i = leb lo i && leb i hi
 -- is column i, is row j in the triangle's box of cells, clamped into the grid?
 unfoldable pub in_columns : Grid → Flat → ℕ → Bool
 in_columns g t i =
-    between (first_cell g.x g.w g.nx t.ax t.bx t.cx) (last_cell g.x g.w g.nx t.ax t.bx t.cx) i
+    between (first_cell g.columns t.ax t.bx t.cx) (last_cell g.columns t.ax t.bx t.cx) i
 
 unfoldable pub in_rows : Grid → Flat → ℕ → Bool
-in_rows g t j = between (first_cell g.y g.h g.ny t.ay t.by t.cy) (last_cell g.y g.h g.ny t.ay t.by t.cy) j
+in_rows g t j = between (first_cell g.rows t.ay t.by t.cy) (last_cell g.rows t.ay t.by t.cy) j
 
 -- where the centre of the cell in column i and row j lies by the triangle
 unfoldable pub centre_lies : Grid → Flat → ℕ → ℕ → Place
-centre_lies g t i j = place (centre_of g.x g.w i) (centre_of g.y g.h j) t
+centre_lies g t i j = place (centre_of g.columns i) (centre_of g.rows j) t
 
 -- where the cell lies by a triangle in the plane: where its centre does, if the triangle counts and the cell is in its box; else outside
 unfoldable pub cell_lies : Grid → Flat → ℕ → ℕ → Place

@@ -1,164 +1,164 @@
 // Triangles on a raster of one byte a cell: which cells they cover, and which of these by edges alone. Internal: `raster` asks it.
 #![tactic(auto)]
 
-ghost use Rattle.std.specs.Prelude.{◌≡◌, ◌&&◌, ◌+◌, ◌*◌, ◌/◌, ◌%◌, ◌≤◌, ◌<◌, eqb, length};
+ghost use Rattle.std.specs.Prelude.{◌≡◌, ◌&&◌, ◌+◌, ◌*◌, ◌/◌, ◌%◌, ◌<◌, max, eqb, true, length};
 ghost use Rattle.ids.specs.Triangles.{triangle, triangle_count};
-ghost use Rattle.vertices.specs.Vertices.{coordinate as coordinate_of};
+ghost use Rattle.vertices.specs.Vertices.{axis_number, triangle_of, corners_in_range, coordinate as coordinate_of};
 ghost use Rattle.grid.specs.Point.{place, place_number};
-ghost use Rattle.grid.specs.inner.Sized.{GridSized};
+ghost use Rattle.grid.specs.Grid.{cells};
+ghost use Rattle.grid.specs.inner.Centred.{Centred};
 ghost use Rattle.paint.specs.Covered.{flat as flat_of, between, cell_lies, lies};
-ghost use Rattle.paint.specs.inner.Painted.{only_if, centre_number, cell_number, Adds, Columns};
+ghost use Rattle.paint.specs.inner.Painted.{only_if, centre_number, cell_number, Adds};
 
-use grid::{Flat, Grid};
+use grid::{Flat, Grid, Span};
+use vertices::{Axis, Corners};
 
-// ---- one triangle
+// A mesh, seen along the axis that is neither u nor v.
+#[derive(Clone, Copy)]
+pub struct View<'a> {
+    pub vertices: &'a [f32],
+    pub ids: &'a [u32],
+    pub u: Axis,
+    pub v: Axis,
+}
 
-// Byte k becomes the number of where the point lies, if that is greater. 2, inside, is the greatest: such a cell is not tested again.
+// A grid, and the centres of its columns. Every row asks for them, so they are worked out once.
+#[derive(Drop)]
+struct Sheet {
+    grid: Grid,
+    centres: [f32; 256],
+    ghost centred: { Centred grid.columns centres },
+}
+
+// ---- one triangle in the plane
+
+// The cell becomes the number of where the point lies, if that is greater. 2, inside, is the greatest: such a cell is not tested again.
 #[tactic(auto, using(crate::proofs::Numbers::most_two))]
-fn mark(part: &mut [u8], k: usize, px: f32, py: f32, t: Flat)
-    requires { k < length part.old }
-    ensures { Adds part.old part.new (λ i. only_if (eqb i k) (place_number (place px py t))) }
+fn mark(cell: &mut u8, px: f32, py: f32, t: Flat)
+    ensures { cell.new ≡ max cell.old (place_number (place px py t)) }
 {
-    let said = part[k];
-    if said < 2 {
-        let number = grid::place_number(grid::point_in_triangle(px, py, t));
-        if said < number {
-            part[k] = number;
+    if *cell < 2 {
+        *cell = (*cell).max(u8::from(grid::point_in_triangle(px, py, t)));
+    }
+}
+
+impl Sheet {
+    fn on(grid: Grid) -> Sheet
+        ensures { result.grid ≡ grid }
+    {
+        Sheet {
+            grid,
+            centres: grid.columns.centres(),
+        }
+    }
+
+    // The cells of row j in some columns.
+    fn paint_row(&self, part: &mut [u8], t: Flat, columns: Span, j: usize)
+        requires { (columns.last < self.now.grid.columns.n) × (j < self.now.grid.rows.n) × (length part.old ≡ cells self.now.grid) }
+        ensures { Adds part.old part.new
+            (λ k. only_if (eqb (k / self.now.grid.columns.n) j && between columns.first columns.last (k % self.now.grid.columns.n))
+            (centre_number self.now.grid t (k % self.now.grid.columns.n) (k / self.now.grid.columns.n))) }
+    {
+        let py = self.grid.rows.centre(j);
+        for i in columns.first..columns.last + 1 {
+            mark(
+                &mut part[j * self.grid.columns.n + i],
+                self.centres[i],
+                py,
+                t,
+            );
+        }
+    }
+
+    // Those of some rows.
+    fn paint_box(&self, part: &mut [u8], t: Flat, columns: Span, rows: Span)
+        requires { (columns.last < self.now.grid.columns.n) × (rows.last < self.now.grid.rows.n)
+            × (length part.old ≡ cells self.now.grid) }
+        ensures { Adds part.old part.new
+            (λ k. only_if (between rows.first rows.last (k / self.now.grid.columns.n)
+            && between columns.first columns.last (k % self.now.grid.columns.n))
+            (centre_number self.now.grid t (k % self.now.grid.columns.n) (k / self.now.grid.columns.n))) }
+    {
+        for j in rows.first..rows.last + 1 {
+            self.paint_row(part, t, columns, j);
+        }
+    }
+
+    // The cells that a triangle in the plane has inside or on an edge.
+    fn paint(&self, part: &mut [u8], t: Flat)
+        requires { length part.old ≡ cells self.now.grid }
+        ensures { Adds part.old part.new
+            (λ k. place_number (cell_lies self.now.grid t (k % self.now.grid.columns.n) (k / self.now.grid.columns.n))) }
+    {
+        if grid::counts(t) {
+            let columns = self.grid.columns.span(t.ax, t.bx, t.cx);
+            let rows = self.grid.rows.span(t.ay, t.by, t.cy);
+            self.paint_box(part, t, columns, rows);
+        }
+    }
+
+    // Those that triangle t of the list has: none where an id is out of range.
+    fn paint_triangle(&self, part: &mut [u8], mesh: &View, t: usize)
+        requires { (t < triangle_count mesh.now.ids.now) × (length part.old ≡ cells self.now.grid) }
+        ensures { Adds part.old part.new
+            (λ k. place_number (lies mesh.now.vertices.now (axis_number mesh.now.u) (axis_number mesh.now.v) self.now.grid
+            (triangle mesh.now.ids.now t) (k % self.now.grid.columns.n) (k / self.now.grid.columns.n))) }
+    {
+        let corners = Corners::of(mesh.ids, t);
+        if corners.in_range(mesh.vertices) {
+            self.paint(part, mesh.flat(corners));
+        }
+    }
+
+    // Those that all triangles have, one after the other.
+    fn paint_triangles(&self, part: &mut [u8], mesh: &View)
+        requires { length part.old ≡ cells self.now.grid }
+        ensures { Adds part.old part.new
+            (λ k. cell_number mesh.now.vertices.now (axis_number mesh.now.u) (axis_number mesh.now.v) self.now.grid mesh.now.ids.now
+            (k % self.now.grid.columns.n) (k / self.now.grid.columns.n)) }
+    {
+        for t in 0..mesh.ids.len() / 3 {
+            self.paint_triangle(part, mesh, t);
         }
     }
 }
 
-// The cells of row j from column lo to column hi.
-fn paint_row(part: &mut [u8], columns: &[f32], g: Grid, t: Flat, j: usize, lo: usize, hi: usize)
-    requires { GridSized g × Columns g columns.now × (j < g.ny) × (hi < g.nx) × (length part.old ≡ g.nx * g.ny) }
-    ensures { Adds part.old part.new
-        (λ k. only_if (eqb (k / g.nx) j && between lo hi (k % g.nx)) (centre_number g t (k % g.nx) (k / g.nx))) }
-{
-    let py = grid::centre(g.y, g.h, j);
-    let mut i = lo;
-    while i <= hi {
-        mark(part, j * g.nx + i, columns[i], py, t);
-        i += 1;
-    }
-}
-
-// Those of the rows from first to last.
-fn paint_box(
-    part: &mut [u8],
-    columns: &[f32],
-    g: Grid,
-    t: Flat,
-    lo: usize,
-    hi: usize,
-    first: usize,
-    last: usize,
-)
-    requires { GridSized g × Columns g columns.now × (last < g.ny) × (hi < g.nx) × (length part.old ≡ g.nx * g.ny) }
-    ensures { Adds part.old part.new
-        (λ k. only_if (between first last (k / g.nx) && between lo hi (k % g.nx)) (centre_number g t (k % g.nx) (k / g.nx))) }
-{
-    let mut j = first;
-    while j <= last {
-        paint_row(part, columns, g, t, j, lo, hi);
-        j += 1;
-    }
-}
-
-// The cells that a triangle in the plane has inside or on an edge.
-fn paint(part: &mut [u8], columns: &[f32], g: Grid, t: Flat)
-    requires { GridSized g × Columns g columns.now × (length part.old ≡ g.nx * g.ny) }
-    ensures { Adds part.old part.new (λ k. place_number (cell_lies g t (k % g.nx) (k / g.nx))) }
-{
-    if grid::counts(t) {
-        let lo = grid::first_cell(g.x, g.w, g.nx, t.ax, t.bx, t.cx);
-        let hi = grid::last_cell(g.x, g.w, g.nx, t.ax, t.bx, t.cx);
-        let first = grid::first_cell(g.y, g.h, g.ny, t.ay, t.by, t.cy);
-        let last = grid::last_cell(g.y, g.h, g.ny, t.ay, t.by, t.cy);
-        paint_box(part, columns, g, t, lo, hi, first, last);
-    }
-}
+// ---- one triangle of the mesh
 
 // A vertex's coordinate on an axis.
-fn coordinate(vertices: &[f32], axis: usize, id: u32) -> f32
-    requires { (axis ≤ 2) × (3 * id + 2 < length vertices.now) }
-    ensures { result ≡ coordinate_of vertices.now axis id }
+fn coordinate(vertices: &[f32], axis: Axis, id: u32) -> f32
+    requires { 3 * id + 2 < length vertices.now }
+    ensures { result ≡ coordinate_of vertices.now (axis_number axis) id }
 {
-    vertices[3 * id as usize + axis]
+    vertices[3 * id as usize + usize::from(axis)]
 }
 
-// Three vertices on the axes u and v.
-fn flat(vertices: &[f32], u: usize, v: usize, a: u32, b: u32, c: u32) -> Flat
-    requires { (u ≤ 2) × (v ≤ 2) × (3 * a + 2 < length vertices.now) × (3 * b + 2 < length vertices.now)
-        × (3 * c + 2 < length vertices.now) }
-    ensures { result ≡ flat_of vertices.now u v (record { a = a; b = b; c = c }) }
-{
-    Flat {
-        ax: coordinate(vertices, u, a),
-        ay: coordinate(vertices, v, a),
-        bx: coordinate(vertices, u, b),
-        by: coordinate(vertices, v, b),
-        cx: coordinate(vertices, u, c),
-        cy: coordinate(vertices, v, c),
-    }
-}
-
-// The cells that triangle t of the list has inside or on an edge: none where an id is out of range.
-fn paint_triangle(
-    vertices: &[f32],
-    ids: &[u32],
-    t: usize,
-    u: usize,
-    v: usize,
-    g: Grid,
-    columns: &[f32],
-    part: &mut [u8],
-)
-    requires { (t < triangle_count ids.now) × (u ≤ 2) × (v ≤ 2) × GridSized g × Columns g columns.now
-        × (length part.old ≡ g.nx * g.ny) }
-    ensures { Adds part.old part.new
-        (λ k. place_number (lies vertices.now u v g (triangle ids.now t) (k % g.nx) (k / g.nx))) }
-{
-    let at = 3 * t;
-    let a = ids[at];
-    let b = ids[at + 1];
-    let c = ids[at + 2];
-    if vertices::corners_in_range(vertices, a, b, c) {
-        paint(part, columns, g, flat(vertices, u, v, a, b, c));
+impl View<'_> {
+    // Three vertices in the plane of u and v.
+    fn flat(&self, t: Corners) -> Flat
+        requires { corners_in_range self.now.vertices.now (triangle_of t) ≡ true }
+        ensures { result ≡ flat_of self.now.vertices.now (axis_number self.now.u) (axis_number self.now.v) (triangle_of t) }
+    {
+        Flat {
+            ax: coordinate(self.vertices, self.u, t.a),
+            ay: coordinate(self.vertices, self.v, t.a),
+            bx: coordinate(self.vertices, self.u, t.b),
+            by: coordinate(self.vertices, self.v, t.b),
+            cx: coordinate(self.vertices, self.u, t.c),
+            cy: coordinate(self.vertices, self.v, t.c),
+        }
     }
 }
 
 // ---- all triangles
 
-// One after the other, with the centres of the columns at hand.
-fn paint_triangles(
-    vertices: &[f32],
-    ids: &[u32],
-    u: usize,
-    v: usize,
-    g: Grid,
-    columns: &[f32],
-    part: &mut [u8],
-)
-    requires { (u ≤ 2) × (v ≤ 2) × GridSized g × Columns g columns.now × (length part.old ≡ g.nx * g.ny) }
+// Each byte becomes the greatest number of its cell by any triangle, or stays what it was where that is greater.
+pub fn paint_all(mesh: &View, g: Grid, part: &mut [u8])
+    requires { length part.old ≡ cells g }
     ensures { Adds part.old part.new
-        (λ k. cell_number vertices.now u v g ids.now (k % g.nx) (k / g.nx)) }
+        (λ k. cell_number mesh.now.vertices.now (axis_number mesh.now.u) (axis_number mesh.now.v) g mesh.now.ids.now
+        (k % g.columns.n) (k / g.columns.n)) }
 {
-    let n = ids.len() / 3;
-    let mut t = 0;
-    while t < n {
-        paint_triangle(vertices, ids, t, u, v, g, columns, part);
-        t += 1;
-    }
-}
-
-// Each byte becomes the greatest number of its cell by any triangle, or stays what it was where that is greater. Every row asks for the
-// centres of its columns, so they are worked out once.
-pub fn paint_all(vertices: &[f32], ids: &[u32], u: usize, v: usize, g: Grid, part: &mut [u8])
-    requires { (u ≤ 2) × (v ≤ 2) × GridSized g × (length part.old ≡ g.nx * g.ny) }
-    ensures { Adds part.old part.new
-        (λ k. cell_number vertices.now u v g ids.now (k % g.nx) (k / g.nx)) }
-{
-    let mut columns = [0f32; 256];
-    grid::centres(&mut columns, g.x, g.w);
-    paint_triangles(vertices, ids, u, v, g, &columns, part);
+    let sheet = Sheet::on(g);
+    sheet.paint_triangles(part, mesh);
 }

@@ -72,7 +72,7 @@ pub extern "C" fn probe_point_in_triangle(q: &[f32; 8]) -> u32
         cx: q[6],
         cy: q[7],
     };
-    grid::place_number(grid::point_in_triangle(q[0], q[1], t)) as u32
+    u8::from(grid::point_in_triangle(q[0], q[1], t)) as u32
 }
 
 // 0 is x, 1 is y, and any other number z.

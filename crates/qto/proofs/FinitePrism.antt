@@ -10,12 +10,12 @@ use Rattle.ieee.specs.Order.{least}
 use Rattle.ieee.specs.Single.{◌⊗◌, ◌⊘◌, nought, number, extent}
 use Rattle.ieee.proofs.Numbers.Basic.{size_gt}
 use Rattle.ieee.proofs.Order.Extremes.{least_from}
-use Rattle.grid.specs.Grid.{cells_in, grid_of}
+use Rattle.vertices.specs.Vertices.{axis_number}
+use Rattle.grid.specs.Grid.{cells_in, cells_some, cells_few, along_of, grid_of}
 use Rattle.paint.specs.Covered.{covered}
 use Rattle.raster.specs.declared.Window.{Window}
-use Rattle.raster.specs.Footprint.{axis_number, covered_cells, area_on, footprint_on, no_footprint, footprint_over, cell_size, footprint}
+use Rattle.raster.specs.Footprint.{covered_cells, area_on, footprint_on, no_footprint, footprint_over, cell_size, footprint}
 use Rattle.raster.proofs.Counting.{count_most}
-use Rattle.raster.proofs.Cells.{cells_some}
 use Rattle.sums.specs.declared.bounds.Bounds.{Bounds}
 use Rattle.sums.specs.Fine.{fine}
 use Rattle.sums.proofs.FineBoxes.{FineBox, extent_within}
@@ -85,15 +85,13 @@ area_within c n m w h l N N' M M' W H =
 
 module _ (vs : List Float) (ids : List ℕ) (u v : ℕ) where
   grid_within : (x y w h size : Float) → Within (2 ^ 34) w → Within (2 ^ 34) h → Within (2 ^ 70) (area_on vs u v ids (grid_of x y w h size))
-  unfolding area_on grid_of covered_cells
+  unfolding area_on grid_of along_of covered_cells
   grid_within x y w h size W H =
       let g = grid_of x y w h size in
       let n = cells_in w size in
       let m = cells_in h size in
-      let N = cells_some w size in
-      let M = cells_some h size in
-      area_within (covered_cells vs u v g ids) n m w h (count_most (λ k. covered vs u v g ids (k % n) (k / n)) (n * m)) N.0 N.1
-      M.0 M.1 W H
+      area_within (covered_cells vs u v g ids) n m w h (count_most (λ k. covered vs u v g ids (k % n) (k / n)) (n * m))
+      (cells_some w size) (cells_few w size) (cells_some h size) (cells_few h size) W H
 
   over_within : (x y w h size : Float) → Within (2 ^ 34) w → Within (2 ^ 34) h
       → Within (2 ^ 70) (footprint_over vs u v ids x y w h size).area

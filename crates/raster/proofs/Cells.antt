@@ -1,31 +1,19 @@
 -- A rim cell is covered, and a grid has 65,536 cells at most. Assumes nothing.
-use Rattle.std.proofs.Common.{ℕ, ◌*◌, ◌<◌, ◌≤◌, Bool, true, false, cond, ◌||◌, List, le_trans, arith}
+use Rattle.std.proofs.Common.{ℕ, ◌≤◌, Bool, true, false, cond, ◌||◌, List, le_trans, arith}
 use lib.Ieee.{Float, le}
 use Rattle.ieee.specs.Single.{nought}
 use Rattle.grid.specs.declared.Grid.{Grid}
-use Rattle.grid.specs.Grid.{cells_in, grid_of}
-use Rattle.grid.specs.inner.Sized.{GridSized}
+use Rattle.grid.specs.Grid.{grid_of, cells}
 use Rattle.paint.specs.Covered.{rim}
 use Rattle.raster.specs.declared.Footprint.{Footprint}
 use Rattle.raster.specs.Cells.{PairFits, CellsFit}
 use Rattle.raster.specs.Footprint.{covered_cells, rim_cells, cells_on, footprint_on, no_cells, no_footprint, footprint_over, footprint}
 use Rattle.raster.proofs.Counting.{count_most, count_and, few_cells}
 
-pub cells_some : (length size : Float) → (0 < cells_in length size) × (cells_in length size ≤ 256)
-unfolding cells_in
-cells_some length size = (omega arith, omega arith)
-
-grid_sized : (x y w h size : Float) → GridSized (grid_of x y w h size)
-unfolding grid_of
-grid_sized x y w h size =
-    let across = cells_some w size in
-    let down = cells_some h size in
-    record { wide = across.0; wide_most = across.1; high = down.0; high_most = down.1 }
-
-on_grid : (vs : List Float) (u v : ℕ) (ids : List ℕ) (g : Grid) → g.nx * g.ny ≤ 65536 → PairFits (cells_on vs u v ids g)
+on_grid : (vs : List Float) (u v : ℕ) (ids : List ℕ) (g : Grid) → PairFits (cells_on vs u v ids g)
 unfolding cells_on covered_cells rim_cells rim
-on_grid vs u v ids g few =
-    record { rim_most = count_and _ _ (g.nx * g.ny); covered_most = le_trans (count_most _ (g.nx * g.ny)) few }
+on_grid vs u v ids g =
+    record { rim_most = count_and _ _ (cells g); covered_most = le_trans (count_most _ (cells g)) (few_cells g) }
 
 pub none_fits : PairFits no_cells
 none_fits = record { rim_most = omega arith; covered_most = omega arith }
@@ -39,7 +27,7 @@ unfolding footprint_over footprint_on
 over_fits vs u v ids x y w h size =
     let g = grid_of x y w h size in
     either_fits (le w nought || (le h nought || le size nought)) (footprint_on vs u v ids g)
-    (on_grid vs u v ids g (few_cells g (grid_sized x y w h size)))
+    (on_grid vs u v ids g)
 
 pub cells_fit : CellsFit
 unfolding footprint

@@ -1,12 +1,7 @@
 -- A raster that is cleared: it is zero, and nothing tells that a part of its front was lent before. Assumes nothing.
-use Rattle.std.proofs.Common.{◌≡◌, ℕ, ◌+◌, ◌-◌, ◌≤◌, List, length, drop, replicate, sym, refl, ap, ◌∙◌, arith, drop-drop}
+use Rattle.std.proofs.Common.{◌≡◌, ℕ, ◌+◌, ◌-◌, ◌≤◌, List, length, drop, sym, ap, ◌∙◌, arith, drop-drop}
 use borrow.Rule.Slice.PartMut.{mid_of, put_mid, mid_len, drop_put}
 use Rattle.ids.specs.Lent.{cleared}
-use Rattle.ids.proofs.Lent.{cleared_all}
-
--- all of it is cleared
-pub zeroed : (n : ℕ) (t z : List ℕ) → length t ≡ n → z ≡ cleared (length t) t → z ≡ replicate n 0
-zeroed n t z l e = e ∙ cleared_all (length t) t refl ∙ ap (λ (k : ℕ). replicate k 0) l
 
 -- what is the same from e on is the same from m on
 same_behind : (m e : ℕ) (s t : List ℕ) → e ≤ m → drop e s ≡ drop e t → drop m s ≡ drop m t

@@ -6,15 +6,15 @@ use lib.ListN.{length-replicate, get_or-replicate}
 use Rattle.ieee.specs.Order.{greatest}
 use Rattle.ieee.specs.Single.{◌⊖◌, ◌⊗◌, ◌⊘◌, nought, number, extent}
 use Rattle.ids.proofs.Bits.{byte_bit, bit_most, bit_and}
+use Rattle.vertices.specs.Vertices.{axis_number}
 use Rattle.grid.specs.declared.Grid.{Grid}
-use Rattle.grid.specs.Grid.{grid_of}
-use Rattle.grid.specs.inner.Sized.{GridSized}
+use Rattle.grid.specs.Grid.{grid_of, cells}
 use Rattle.paint.specs.inner.Painted.{cell_number, Adds}
 use Rattle.paint.proofs.Numbers.{number_covered, number_rim}
 use Rattle.raster.specs.declared.Footprint.{Footprint}
 use Rattle.raster.specs.declared.Pair.{Pair}
 use Rattle.raster.specs.declared.Window.{Window}
-use Rattle.raster.specs.Footprint.{axis_number, count, covered_cells, rim_cells, cells_on, area_on, footprint_on, no_footprint}
+use Rattle.raster.specs.Footprint.{count, covered_cells, rim_cells, cells_on, area_on, footprint_on, no_footprint}
 use Rattle.raster.specs.Footprint.{footprint_over, footprint}
 use Rattle.raster.specs.inner.Counts.{Counts}
 
@@ -42,39 +42,36 @@ count_and f h zero = omega arith
 count_and f h (suc n) = omega (arith, count_and f h n, bit_and (f n) (h n))
 
 -- a grid has 65,536 cells at most
-pub few_cells : (g : Grid) → GridSized g → g.nx * g.ny ≤ 65536
-few_cells g s = le_trans (mul-le-mul s.wide_most s.high_most) (lit≤ tt)
+pub few_cells : (g : Grid) → cells g ≤ 65536
+few_cells g = le_trans (mul-le-mul g.columns.few g.rows.few) (lit≤ tt)
 
 -- ---- on a grid
 
 module _ (vs : List Float) (u v : ℕ) (ids : List ℕ) (g : Grid) where
-  abbrev cells : ℕ
-  cells = g.nx * g.ny
-
   -- the byte of a cell, if the raster was zero before the triangles were painted
-  byte_is : (s t : List ℕ) → s ≡ replicate cells 0 → Adds s t (λ k. cell_number vs u v g ids (k % g.nx) (k / g.nx)) → (k : ℕ) → k < cells
-      → get_or t k 0 ≡ cell_number vs u v g ids (k % g.nx) (k / g.nx)
+  byte_is : (s t : List ℕ) → s ≡ replicate (cells g) 0 → Adds s t (λ k. cell_number vs u v g ids (k % g.columns.n) (k / g.columns.n)) → (k : ℕ) → k < cells g
+      → get_or t k 0 ≡ cell_number vs u v g ids (k % g.columns.n) (k / g.columns.n)
   byte_is s t e a k l =
-      let long : length s ≡ cells = rw e (length-replicate cells 0) in
-      let zero_there : get_or s k 0 ≡ 0 = rw e (get_or-replicate cells k 0 0 l) in
+      let long : length s ≡ cells g = rw e (length-replicate (cells g) 0) in
+      let zero_there : get_or s k 0 ≡ 0 = rw e (get_or-replicate (cells g) k 0 0 l) in
       omega (arith, a.says k (omega (arith, l, long)), zero_there)
 
   -- so counting the bytes counts covered cells and rim cells
-  pub counted : (s t : List ℕ) (r : Pair) → s ≡ replicate cells 0 → length t ≡ cells
-      → Adds s t (λ k. cell_number vs u v g ids (k % g.nx) (k / g.nx)) → Counts t r → r ≡ cells_on vs u v ids g
+  pub counted : (s t : List ℕ) (r : Pair) → s ≡ replicate (cells g) 0 → length t ≡ cells g
+      → Adds s t (λ k. cell_number vs u v g ids (k % g.columns.n) (k / g.columns.n)) → Counts t r → r ≡ cells_on vs u v ids g
   unfolding cells_on covered_cells rim_cells
   counted s t r e l a c =
-      let covered_so : count (λ k. ltb 0 (get_or t k 0)) cells ≡ covered_cells vs u v g ids =
-      count_same _ _ cells (λ k m. rw (byte_is s t e a k m) (number_covered vs u v g ids (k % g.nx) (k / g.nx))) in
-      let rim_so : count (λ k. eqb (get_or t k 0) 1) cells ≡ rim_cells vs u v g ids =
-      count_same _ _ cells (λ k m. rw (byte_is s t e a k m) (number_rim vs u v g ids (k % g.nx) (k / g.nx))) in
+      let covered_so : count (λ k. ltb 0 (get_or t k 0)) (cells g) ≡ covered_cells vs u v g ids =
+      count_same _ _ (cells g) (λ k m. rw (byte_is s t e a k m) (number_covered vs u v g ids (k % g.columns.n) (k / g.columns.n))) in
+      let rim_so : count (λ k. eqb (get_or t k 0) 1) (cells g) ≡ rim_cells vs u v g ids =
+      count_same _ _ (cells g) (λ k m. rw (byte_is s t e a k m) (number_rim vs u v g ids (k % g.columns.n) (k / g.columns.n))) in
       let covered_is : r.covered ≡ covered_cells vs u v g ids = rw (← covered_so, ← l) c.covered_is in
       let rim_is : r.rim ≡ rim_cells vs u v g ids = rw (← rim_so, ← l) c.rim_is in
       λ i. record { covered = covered_is i; rim = rim_is i }
 
   -- the footprint of so many cells
   pub footprint_of : (r : Pair) (n : Float) → r ≡ cells_on vs u v ids g → n ≡ number r.covered
-      → ◌≡◌ {A = Footprint} (record { area = n ⊗ g.w ⊗ g.h; cells = r }) (footprint_on vs u v ids g)
+      → ◌≡◌ {A = Footprint} (record { area = n ⊗ g.columns.w ⊗ g.rows.w; cells = r }) (footprint_on vs u v ids g)
   unfolding footprint_on area_on cells_on
   footprint_of r n e q = rw (q, e)
 
@@ -99,6 +96,6 @@ module _ (vs : List Float) (ids : List ℕ) (s : Window) (w h m : Float)
   pub foot_none : (r : Footprint) → none ≡ true → r ≡ no_footprint → r ≡ footprint vs ids s
   foot_none r e a = a ∙ (rw e at (sym by_size))
 
-  pub foot_some : (u v : ℕ) (g : Grid) (r : Footprint) → none ≡ false → u ≡ axis_number s.u → v ≡ axis_number s.v
-      → g ≡ grid_of s.xmin s.ymin w h size → r ≡ on u v g → r ≡ footprint vs ids s
-  foot_some u v g r e eu ev q a = a ∙ rw (q, eu, ev) (rw e at (sym by_size))
+  pub foot_some : (g : Grid) (r : Footprint) → none ≡ false → g ≡ grid_of s.xmin s.ymin w h size
+      → r ≡ on (axis_number s.u) (axis_number s.v) g → r ≡ footprint vs ids s
+  foot_some g r e q a = a ∙ rw q (rw e at (sym by_size))

@@ -1,24 +1,19 @@
 -- Raster (01; 000, `footprint_raw`): how much ground a mesh covers, seen along the axis that is neither u nor v; how many cells that is,
 -- and how many of them are on the rim (02, A3). f32, not rebased, each step rounded once.
-use Rattle.std.specs.Prelude.{ℕ, zero, suc, ◌+◌, ◌*◌, ◌/◌, ◌%◌, Bool, cond, ◌||◌, List, from_bits, Float}
+use Rattle.std.specs.Prelude.{ℕ, zero, suc, ◌+◌, ◌/◌, ◌%◌, Bool, cond, ◌||◌, List, from_bits, Float}
 use Rattle.std.specs.Float.{binary32}
 use Rattle.std.specs.Float.Ieee.{le}
 use Rattle.ieee.specs.Order.{greatest}
 use Rattle.ieee.specs.Single.{◌⊗◌, ◌⊘◌, nought, number, extent}
 use Rattle.ids.specs.Uses.{bit}
+use Rattle.vertices.specs.declared.Axis.{Axis}
+use Rattle.vertices.specs.Vertices.{axis_number}
 use Rattle.grid.specs.declared.Grid.{Grid}
-use Rattle.grid.specs.Grid.{grid_of}
+use Rattle.grid.specs.Grid.{grid_of, cells}
 use Rattle.paint.specs.Covered.{covered, rim}
-use Rattle.raster.specs.declared.Axis.{Axis}
 use Rattle.raster.specs.declared.Footprint.{Footprint}
 use Rattle.raster.specs.declared.Pair.{Pair}
 use Rattle.raster.specs.declared.Window.{Window}
-
--- 0 for x, 1 for y, 2 for z
-unfoldable pub axis_number : Axis → ℕ
-axis_number Axis.X = 0
-axis_number Axis.Y = 1
-axis_number Axis.Z = 2
 
 abbrev pub window_of : Axis → Axis → Float → Float → Float → Float → Window
 window_of u v xmin xmax ymin ymax = record { u = u; v = v; xmin = xmin; xmax = xmax; ymin = ymin; ymax = ymax }
@@ -32,11 +27,11 @@ count f (suc n) = count f n + bit (f n)
 
 -- how many cells are covered: cell k is in column k % nx and row k / nx
 unfoldable pub covered_cells : List Float → ℕ → ℕ → Grid → List ℕ → ℕ
-covered_cells vs u v g ids = count (λ k. covered vs u v g ids (k % g.nx) (k / g.nx)) (g.nx * g.ny)
+covered_cells vs u v g ids = count (λ k. covered vs u v g ids (k % g.columns.n) (k / g.columns.n)) (cells g)
 
 -- and how many are on the rim
 unfoldable pub rim_cells : List Float → ℕ → ℕ → Grid → List ℕ → ℕ
-rim_cells vs u v g ids = count (λ k. rim vs u v g ids (k % g.nx) (k / g.nx)) (g.nx * g.ny)
+rim_cells vs u v g ids = count (λ k. rim vs u v g ids (k % g.columns.n) (k / g.columns.n)) (cells g)
 
 unfoldable pub cells_on : List Float → ℕ → ℕ → List ℕ → Grid → Pair
 cells_on vs u v ids g = record { covered = covered_cells vs u v g ids; rim = rim_cells vs u v g ids }
@@ -45,7 +40,7 @@ cells_on vs u v ids g = record { covered = covered_cells vs u v g ids; rim = rim
 
 -- the number of covered cells times their width times their height
 unfoldable pub area_on : List Float → ℕ → ℕ → List ℕ → Grid → Float
-area_on vs u v ids g = number (covered_cells vs u v g ids) ⊗ g.w ⊗ g.h
+area_on vs u v ids g = number (covered_cells vs u v g ids) ⊗ g.columns.w ⊗ g.rows.w
 
 unfoldable pub footprint_on : List Float → ℕ → ℕ → List ℕ → Grid → Footprint
 footprint_on vs u v ids g = record { area = area_on vs u v ids g; cells = cells_on vs u v ids g }

@@ -2,21 +2,17 @@
 // `volume` asks it for an open shell, and has the raster cleared for any other.
 #![tactic(auto)]
 
-ghost use Rattle.std.specs.Prelude.{◌≡◌, ◌*◌, ◌≤◌, length};
+ghost use Rattle.std.specs.Prelude.{◌≡◌, ◌≤◌, length};
 ghost use Rattle.ids.specs.Lent.{cleared};
-ghost use Rattle.grid.specs.inner.Sized.{GridSized};
+ghost use Rattle.grid.specs.Grid.{cells};
 ghost use Rattle.vertices.specs.Areas.{raster_bytes};
-ghost use Rattle.raster.specs.Footprint.{axis_number, window_of, no_cells, no_footprint, footprint_on, footprint};
+ghost use Rattle.vertices.specs.Vertices.{axis_number};
+ghost use Rattle.raster.specs.Footprint.{window_of, no_cells, no_footprint, footprint_on, footprint};
 ghost use Rattle.raster.specs.inner.Counts.{Counts};
 
 use grid::Grid;
-
-#[derive(Clone, Copy)]
-pub enum Axis {
-    X,
-    Y,
-    Z,
-}
+use paint::View;
+pub use vertices::Axis;
 
 // What is looked at: the axes u and v, from xmin to xmax on the first and from ymin to ymax on the second.
 #[derive(Clone, Copy)]
@@ -61,17 +57,6 @@ pub fn no_cells() -> Pair
     Pair { covered: 0, rim: 0 }
 }
 
-// Where a vertex has its coordinate on the axis.
-fn offset(axis: Axis) -> usize
-    ensures { (result ≡ axis_number axis) × (result ≤ 2) }
-{
-    match axis {
-        Axis::X => 0,
-        Axis::Y => 1,
-        Axis::Z => 2,
-    }
-}
-
 // How many cells are covered, and how many of these are on the rim.
 fn tally(part: &[u8]) -> Pair
     requires { length part.now ≤ raster_bytes }
@@ -79,11 +64,9 @@ fn tally(part: &[u8]) -> Pair
 {
     let mut covered = 0u32;
     let mut rim = 0u32;
-    let mut i = 0;
-    while i < part.len() {
-        covered += (part[i] > 0) as u32;
-        rim += (part[i] == 1) as u32;
-        i += 1;
+    for cell in part {
+        covered += (*cell > 0) as u32;
+        rim += (*cell == 1) as u32;
     }
     Pair { covered, rim }
 }
@@ -93,11 +76,7 @@ pub fn clear(area: &mut [u8], n: usize)
     requires { n ≤ length area.old }
     ensures { area.new ≡ cleared n area.old }
 {
-    let mut i = 0;
-    while i < n {
-        area[i] = 0;
-        i += 1;
-    }
+    area[..n].fill(0);
 }
 
 fn no_footprint() -> Footprint
@@ -110,23 +89,15 @@ fn no_footprint() -> Footprint
 }
 
 // The footprint on a grid, over a part of one byte a cell.
-fn footprint_on(
-    vertices: &[f32],
-    ids: &[u32],
-    u: usize,
-    v: usize,
-    g: Grid,
-    part: &mut [u8],
-) -> Footprint
-    requires { (u ≤ 2) × (v ≤ 2) × GridSized g × (length part.old ≡ g.nx * g.ny) }
-    ensures { result ≡ footprint_on vertices.now u v ids.now g }
+fn footprint_on(mesh: &View, g: Grid, part: &mut [u8]) -> Footprint
+    requires { length part.old ≡ cells g }
+    ensures { result ≡ footprint_on mesh.now.vertices.now (axis_number mesh.now.u) (axis_number mesh.now.v) mesh.now.ids.now g }
 {
-    let n = part.len();
-    clear(part, n);
-    paint::paint_all(vertices, ids, u, v, g, part);
+    part.fill(0);
+    paint::paint_all(mesh, g, part);
     let cells = tally(part);
     Footprint {
-        area: std::num::nearest_u32_to_f32(cells.covered) * g.w * g.h,
+        area: std::num::nearest_u32_to_f32(cells.covered) * g.columns.w * g.rows.w,
         cells,
     }
 }
@@ -145,12 +116,13 @@ fn footprint_over(vertices: &[f32], ids: &[u32], s: Window, raster: &mut [u8]) -
         return no_footprint();
     }
     let g = grid::grid_over(s.xmin, s.ymin, w, h, size);
-    let n = g.nx * g.ny;
-    let first = s.u;
-    let second = s.v;
-    let u = offset(first);
-    let v = offset(second);
-    footprint_on(vertices, ids, u, v, g, &mut raster[0..n])
+    let mesh = View {
+        vertices,
+        ids,
+        u: s.u,
+        v: s.v,
+    };
+    footprint_on(&mesh, g, &mut raster[..g.columns.n * g.rows.n])
 }
 
 // The area of the cells that the mesh covers in the window, how many they are, and how many of them are on the rim. The raster's first

@@ -10,6 +10,8 @@ ghost use Rattle.sums.specs.Facet.{part_of, rebased, part};
 ghost use Rattle.sums.specs.Fine.{all_fine};
 ghost use Rattle.sums.specs.inner.Prepared.{no_triangle, facet_by, part_in, HasRoot, with_root};
 
+use vertices::Corners;
+
 // ---- three numbers
 
 // u - v
@@ -133,16 +135,13 @@ pub fn cross_at(vertices: &[f32], indices: &[u32], origin: [f64; 3], t: usize) -
     if indices.len() / 3 <= t {
         return nothing();
     }
-    let at = 3 * t;
-    let a = indices[at];
-    let b = indices[at + 1];
-    let c = indices[at + 2];
-    if !vertices::corners_in_range(vertices, a, b, c) {
+    let corners = Corners::of(indices, t);
+    if !corners.in_range(vertices) {
         return nothing();
     }
-    let p = corner(vertices, origin, a as usize);
-    let q = corner(vertices, origin, b as usize);
-    let r = corner(vertices, origin, c as usize);
+    let p = corner(vertices, origin, corners.a as usize);
+    let q = corner(vertices, origin, corners.b as usize);
+    let r = corner(vertices, origin, corners.c as usize);
     cross_corners([p, q, r])
 }
 

@@ -1,7 +1,15 @@
--- Vertices are the complete triples of a list of floats. An id is in range when it names one (01, Triangles).
+-- Vertices are the complete triples of a list of floats, one for each axis. An id is in range when it names one (01, Triangles).
 use Rattle.std.specs.Prelude.{ℕ, ◌+◌, ◌*◌, ◌/◌, Bool, ◌&&◌, List, ltb, length, get_or, Float}
 use Rattle.std.specs.Float.{nan}
 use Rattle.ids.specs.Triangles.{Triangle}
+use Rattle.vertices.specs.declared.Axis.{Axis}
+use Rattle.vertices.specs.declared.Corners.{Corners}
+
+-- 0 for x, 1 for y, 2 for z
+abbrev pub axis_number : Axis → ℕ
+axis_number Axis.X = 0
+axis_number Axis.Y = 1
+axis_number Axis.Z = 2
 
 -- how many there are
 abbrev pub vertex_count : List Float → ℕ
@@ -18,3 +26,7 @@ in_range vs i = ltb (3 * i + 2) (length vs)
 -- and a triangle when its three ids are
 unfoldable pub corners_in_range : List Float → Triangle → Bool
 corners_in_range vs t = in_range vs t.a && (in_range vs t.b && in_range vs t.c)
+
+-- a triangle whose ids are at hand
+abbrev pub triangle_of : Corners → Triangle
+triangle_of t = record { a = t.a; b = t.b; c = t.c }

@@ -5,7 +5,7 @@ use Rattle.std.specs.Float.Ieee.{lt, le, of_bits}
 use Rattle.ieee.specs.Cube.{cube_above}
 use Rattle.ieee.specs.Order.{least}
 use Rattle.ieee.specs.Single.{◌⊗◌, nought, extent}
-use Rattle.raster.specs.declared.Axis.{Axis}
+use Rattle.vertices.specs.declared.Axis.{Axis}
 use Rattle.raster.specs.declared.Window.{Window}
 use Rattle.raster.specs.Footprint.{window_of, footprint}
 use Rattle.sums.specs.declared.bounds.Bounds.{Bounds}

@@ -5,7 +5,6 @@ use Rattle.ids.specs.Triangles.{triangle, triangle_count}
 use Rattle.grid.specs.declared.Flat.{Flat}
 use Rattle.grid.specs.declared.Grid.{Grid}
 use Rattle.grid.specs.Point.{place_number}
-use Rattle.grid.specs.inner.Centred.{Centred}
 use Rattle.paint.specs.Covered.{centre_lies, lies}
 
 -- n if b holds, else 0
@@ -29,8 +28,3 @@ cell_number vs u v g ids i j = most_of (λ t. place_number (lies vs u v g (trian
 pub record Adds (s t : List ℕ) (h : ℕ → ℕ) : Type 0 where
   pub long : length t ≡ length s
   pub says : (k : ℕ) → k < length s → get_or t k 0 ≡ max (get_or s k 0) (h k)
-
--- the list has the centres of 256 columns, though the grid may have fewer
-pub record Columns (g : Grid) (list : List Float) : Type 0 where
-  pub all : length list ≡ 256
-  pub centred : Centred g.x g.w list

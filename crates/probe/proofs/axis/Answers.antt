@@ -2,7 +2,7 @@
 use mathlib.Core.Path.{◌≡◌, refl}
 use Prim.Native.Nat.{ℕ, zero, suc}
 use native.Mathlib.Omega.{arith}
-use Rattle.raster.specs.declared.Axis.{Axis}
+use Rattle.vertices.specs.declared.Axis.{Axis}
 use Rattle.probe.specs.inner.Asked.{axis_at}
 use Rattle.probe.proofs.axis.Goals as goal
 

@@ -4,4 +4,4 @@ use Rattle.grid.specs.Point.{place_number}
 use Rattle.probe.proofs.probe_point_in_triangle.Goals as goal
 
 pub returns : goal.returns
-returns c = c.place_number.ensures ∙ ap place_number c.point_in_triangle.ensures
+returns c = c.from.ensures ∙ ap place_number c.point_in_triangle.ensures

@@ -1,8 +1,8 @@
 -- What numbers in a row mean to the runs: an axis, a triangle in the plane, a window, a footprint's cells.
 use Rattle.std.specs.Prelude.{ℕ, zero, suc, List, [], ◌∷◌, get_or, Float}
 use Rattle.std.specs.Float.{nan}
+use Rattle.vertices.specs.declared.Axis.{Axis}
 use Rattle.grid.specs.declared.Flat.{Flat}
-use Rattle.raster.specs.declared.Axis.{Axis}
 use Rattle.raster.specs.declared.Pair.{Pair}
 use Rattle.raster.specs.declared.Window.{Window}
 

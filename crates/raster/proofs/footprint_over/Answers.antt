@@ -1,9 +1,12 @@
 -- `raster::footprint_over` meets its contract: nothing for a box with no length, else the footprint on its grid, over the front of the
 -- raster. Assumes nothing.
-use Rattle.std.proofs.Common.{◌*◌, refl, arith}
+use Rattle.std.proofs.Common.{◌≡◌, length, refl, ◌∙◌, arith}
+use Rattle.std.proofs.lemmas.List.{length-take-le}
+use Rattle.std.proofs.lemmas.Slice.{drop-append-drop}
+use Rattle.ids.specs.Lent.{cleared}
 use Rattle.vertices.specs.Areas.{raster_bytes}
+use Rattle.grid.specs.Grid.{cells}
 use Rattle.raster.proofs.Counting.{few_cells, foot_none, foot_some}
-use Rattle.raster.proofs.Clearing.{cleared_back}
 use Rattle.raster.proofs.footprint_over.Goals as goal
 
 pub returns-then-w-h : goal.returns-then-w-h
@@ -17,27 +20,19 @@ returns-then-w-h c =
       refl,
     )
 
-pub overflow_mul-n : goal.overflow_mul-n
-overflow_mul-n c = let z = c.grid_over-g in omega (arith, few_cells z.result z.ensures.1)
-
-pub slice_bounds-footprint_on-end : goal.slice_bounds-footprint_on-end
-slice_bounds-footprint_on-end c =
-    let z = c.grid_over-g in
-    omega (arith, few_cells z.result z.ensures.1, c.requires)
-
 pub returns : goal.returns
+unfolding cleared
 returns c =
     let found = c.footprint_on in
     let a = c.args in
     let w = c.greatest-w in
     let h = c.greatest-h in
     let m = c.greatest-size in
-    let z = c.grid_over-g in
-    let few = few_cells z.result z.ensures.1 in (
+    let g = c.grid_over-g in
+    let few = few_cells g.result in
+    let front = length-take-le (cells g.result) a.raster.now (omega (arith, few, c.requires)) in
+    let long : length found.new.part ≡ cells g.result = found.auto.part ∙ front in (
       foot_some a.vertices.now a.ids.now a.s w.result h.result m.result w.ensures h.ensures m.ensures
-          c.offset-u.result c.offset-v.result z.result found.result c.if-w-h.false c.offset-u.ensures.0
-          c.offset-v.ensures.0
-          z.ensures.0 found.ensures,
-      cleared_back raster_bytes (z.result.nx * z.result.ny) a.raster.now found.new.part few
-          (omega (arith, few, c.requires)) found.auto.part,
+          g.result found.result c.if-w-h.false g.ensures found.ensures,
+      rw (drop-append-drop (cells g.result) a.raster.now found.new.part raster_bytes few long),
     )

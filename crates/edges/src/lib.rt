@@ -162,6 +162,7 @@ impl EdgeTest for Incoherent {
 }
 
 // How many edges pass a test. The sums have 32 bits, so that a processor can add several rows at a time.
+// Stays: by row number, here and in `survey_rows`, since the contract sums over row numbers: a chunk of three words has none.
 pub fn count<T: EdgeTest>(work: &[u32], n: usize) -> u32
     requires { EdgeRows n work.now }
     ensures { (result ≡ sum_to (row_bit T.holds work.now) n) × (result ≤ n) }

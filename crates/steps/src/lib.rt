@@ -74,6 +74,8 @@ fn bump(work: &mut [u32], r: usize, edge: Edge, by: u32)
 }
 
 // Adds the use that a step from id u to id v makes.
+// Stays: `work` and `n` apart, here and in `edges` and `faces`: a struct of both would hold the lent words as a borrow, and each contract
+// would have to say that n and the borrow stay, besides what it says of the words.
 pub fn walk(work: &mut [u32], n: usize, u: u32, v: u32)
     requires { EdgesFit n 1 work.old }
     ensures { EdgesAdded n work.old work.new (step_use u v ∷ []) }

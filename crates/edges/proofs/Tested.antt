@@ -31,10 +31,10 @@ unfolding use_bit unbalanced bit sum_size
 unbalanced_bit u d = elim (ℕ_discrete u d) [
   | yes e ↦ rw (eq-eqb u d e, eq-eqb (sum_size (u + d) u) 0 (omega arith), gate_zero) refl
   | no n ↦ rw (
-      gate_pos (u + d) (bit (not (eqb (sum_size (u + d) u) 0))) (omega arith),
-      ne_eqb u d n,
-      ne_eqb (sum_size (u + d) u) 0 (λ z. omega arith),
-    ) refl
+    gate_pos (u + d) (bit (not (eqb (sum_size (u + d) u) 0))) (omega arith),
+    ne_eqb u d n,
+    ne_eqb (sum_size (u + d) u) 0 (λ z. omega arith),
+  ) refl
 ]
 
 -- used twice, once each way

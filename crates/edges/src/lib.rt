@@ -7,11 +7,12 @@ ghost use Rattle.ids.specs.Uses.{Use, bit};
 ghost use Rattle.ids.specs.Lent.{most_entries};
 ghost use Rattle.ids.specs.EdgeChain.{Edge, proper_step, around, around_proper, present, unbalanced, crowded, unpaired, incoherent};
 ghost use Rattle.table.specs.inner.Rows.{sum_to};
+ghost use Rattle.table.specs.inner.Words.{triangle_of};
 ghost use Rattle.steps.specs.inner.Rows.{EdgeTable, EdgeRows, EdgesFit, EdgesAdded};
 ghost use Rattle.edges.specs.inner.Tests.{use_bit, row_bit};
 ghost use Rattle.edges.specs.inner.Gather.{EdgesToCome, TriangleAdded};
 
-use table::Uses;
+use table::{Corners, Uses};
 
 // ---- one triangle
 
@@ -20,9 +21,9 @@ pub trait Counted {
     ghost edges: { Triangle → List (Use Edge) };
 
     // Adds their uses.
-    fn triangle(work: &mut [u32], n: usize, a: u32, b: u32, c: u32)
+    fn triangle(work: &mut [u32], n: usize, t: Corners)
         requires { EdgesFit n 3 work.old }
-        ensures { TriangleAdded n work.old work.new (edges (record { a = a; b = b; c = c })) };
+        ensures { TriangleAdded n work.old work.new (edges (triangle_of t)) };
 }
 
 // All three, but none if the triangle repeats an id.
@@ -31,13 +32,13 @@ pub struct Whole;
 impl Counted for Whole {
     ghost edges = { around };
 
-    fn triangle(work: &mut [u32], n: usize, a: u32, b: u32, c: u32) {
-        if !table::distinct(a, b, c) {
+    fn triangle(work: &mut [u32], n: usize, t: Corners) {
+        if !t.distinct() {
             return;
         }
-        steps::walk(work, n, a, b);
-        steps::walk(work, n, b, c);
-        steps::walk(work, n, c, a);
+        steps::walk(work, n, t.a, t.b);
+        steps::walk(work, n, t.b, t.c);
+        steps::walk(work, n, t.c, t.a);
     }
 }
 
@@ -47,10 +48,10 @@ pub struct Proper;
 impl Counted for Proper {
     ghost edges = { around_proper };
 
-    fn triangle(work: &mut [u32], n: usize, a: u32, b: u32, c: u32) {
-        proper_step(work, n, a, b);
-        proper_step(work, n, b, c);
-        proper_step(work, n, c, a);
+    fn triangle(work: &mut [u32], n: usize, t: Corners) {
+        proper_step(work, n, t.a, t.b);
+        proper_step(work, n, t.b, t.c);
+        proper_step(work, n, t.c, t.a);
     }
 }
 
@@ -81,7 +82,7 @@ pub fn gather<C: Counted>(ids: &[u32], work: &mut [u32], n: usize)
     ensures { EdgeTable n work.new (over_triangles C.edges ids.now) }
 {
     for t in 0..ids.len() / 3 {
-        C::triangle(work, n, ids[3 * t], ids[3 * t + 1], ids[3 * t + 2]);
+        C::triangle(work, n, Corners::of(ids, t));
     }
 }
 
@@ -161,6 +162,7 @@ impl EdgeTest for Incoherent {
 }
 
 // How many edges pass a test. The sums have 32 bits, so that a processor can add several rows at a time.
+// Stays: by row number, here and in `survey_rows`, since the contract sums over row numbers: a chunk of three words has none.
 pub fn count<T: EdgeTest>(work: &[u32], n: usize) -> u32
     requires { EdgeRows n work.now }
     ensures { (result ≡ sum_to (row_bit T.holds work.now) n) × (result ≤ n) }

@@ -1,10 +1,9 @@
 -- The weight of a triangle by the parity of its falling pairs, which the code counts as the definition does. Assumes nothing.
-use mathlib.Core.Path.{◌≡◌}
+use mathlib.Core.Path.{◌≡◌, refl}
 use mathlib.Core.Bool.{Bool, true, false, cond}
 use Prim.Native.Nat.{ℕ, ◌+◌, ◌%◌, ◌≤◌}
 use native.Mathlib.Omega.{arith}
-use borrow.Author.Tests.{eq-eqb, ne_eqb}
-use lib.Dec.{ltb}
+use lib.Dec.{eqb, ltb}
 use mir.Val.{bool_byte}
 use Rattle.ids.specs.Triangles.{Triangle}
 use Rattle.ids.specs.FaceNet.{falls, face_use}
@@ -26,10 +25,6 @@ module _ (t : Triangle) where
   pub fallen_small : fallen ≤ 3
   fallen_small = omega (arith, byte_small (ltb t.b t.a), byte_small (ltb t.c t.b), byte_small (ltb t.c t.a))
 
-  pub weight_even : fallen % 2 ≡ 0 → ◌≡◌ {A = ℕ} 65536 (cond (face_use t).up 65536 1)
+  pub fallen_up : eqb (fallen % 2) 0 ≡ (face_use t).up
   unfolding face_use
-  weight_even e = rw (eq-eqb (falls t % 2) 0 (omega (arith, fallen_falls)))
-
-  pub weight_odd : (fallen % 2 ≡ 0 → ⊥) → ◌≡◌ {A = ℕ} 1 (cond (face_use t).up 65536 1)
-  unfolding face_use
-  weight_odd o = rw (ne_eqb (falls t % 2) 0 (λ e. o (omega (arith, fallen_falls))))
+  fallen_up = rw fallen_falls refl

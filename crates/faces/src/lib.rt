@@ -1,16 +1,16 @@
 // The faces of the triangles of a list of ids, counted in a table in lent words. Internal: `chain` and `tally` ask it.
 #![tactic(auto)]
 
-ghost use Rattle.std.specs.Prelude.{◌≡◌, cond, [], ◌∷◌, ◌+◌, ◌*◌, ◌≤◌, ◌<◌, length};
+ghost use Rattle.std.specs.Prelude.{◌≡◌, ◌+◌, ◌*◌, ◌≤◌, ◌<◌, length};
 ghost use Rattle.ids.specs.Triangles.{triangle};
 ghost use Rattle.ids.specs.FaceNet.{sorted_ids, face_use, face, faces};
 ghost use Rattle.table.specs.inner.Rows.{sum_to, Found};
 ghost use Rattle.table.specs.inner.Table.{max_to};
-ghost use Rattle.table.specs.inner.Words.{TriangleOf};
+ghost use Rattle.table.specs.inner.Words.{triangle_of};
 ghost use Rattle.faces.specs.inner.Rows.{face_at, face_word, face_uses, put_face, face_of, face_hash, FaceTable, FaceRows};
 ghost use Rattle.faces.specs.inner.Rows.{FaceSearch, FaceToAdd, FacesToCome, FacesAdded, row_off, row_size};
 
-use table::Uses;
+use table::{Corners, Uses};
 
 // The ids of a triangle, sorted.
 #[derive(Clone, Copy, PartialEq)]
@@ -21,22 +21,16 @@ struct Face {
 }
 
 impl Face {
-    // That of triangle t.
-    #[tactic(auto, unfolding(ids::specs::Triangles::triangle), using(crate::proofs::Faces::sorted_by))]
-    fn of(ids: &[u32], t: usize) -> Face
-        requires { TriangleOf ids.now t }
-        ensures { sorted_ids (triangle ids.now t) ≡ face_of result }
+    #[tactic(auto, using(crate::proofs::Faces::sorted_by))]
+    fn of(t: Corners) -> Face
+        ensures { sorted_ids (triangle_of t) ≡ face_of result }
     {
-        let at = 3 * t;
-        let a = ids[at];
-        let b = ids[at + 1];
-        let c = ids[at + 2];
-        let first = a.min(b);
-        let last = a.max(b);
+        let first = t.a.min(t.b);
+        let last = t.a.max(t.b);
         Face {
-            low: first.min(c),
-            mid: first.max(last.min(c)),
-            high: last.max(c),
+            low: first.min(t.c),
+            mid: first.max(last.min(t.c)),
+            high: last.max(t.c),
         }
     }
 
@@ -51,17 +45,13 @@ impl Face {
     }
 }
 
-// What triangle t adds to the word that counts its face: 65536 if an even number of its pairs fall, else 1.
-fn weight(ids: &[u32], t: usize) -> u32
-    requires { TriangleOf ids.now t }
-    ensures { result ≡ cond (face_use (triangle ids.now t)).up 65536 1 }
+// Does a triangle use its face upwards? It does if an even number of its pairs fall.
+#[tactic(auto, using(crate::proofs::Parity::fallen_small))]
+fn upwards(t: Corners) -> bool
+    ensures { result ≡ (face_use (triangle_of t)).up }
 {
-    let at = 3 * t;
-    let a = ids[at];
-    let b = ids[at + 1];
-    let c = ids[at + 2];
-    let falls = (b < a) as u32 + ((c < b) as u32 + (c < a) as u32);
-    if falls % 2 == 0 { 65536 } else { 1 }
+    let falls = (t.b < t.a) as u32 + ((t.c < t.b) as u32 + (t.c < t.a) as u32);
+    falls % 2 == 0
 }
 
 // The first row, from `start` on and round, that holds the face or is free.
@@ -77,7 +67,7 @@ fn find(ids: &[u32], work: &[u32], n: usize, face: Face, start: usize) -> usize
         if work[at + 1] == 0 {
             break 'search r;
         }
-        if Face::of(ids, work[at] as usize) == face {
+        if Face::of(Corners::of(ids, work[at] as usize)) == face {
             break 'search r;
         }
         r = table::next(r, n);
@@ -95,28 +85,19 @@ fn bump(work: &mut [u32], r: usize, t: usize, by: u32)
     work[at + 1] = word;
 }
 
-// Adds the use that triangle t makes of its face, whether or not it repeats an id.
-fn add(ids: &[u32], work: &mut [u32], n: usize, t: usize)
-    requires { FaceToAdd ids.now n work.old t }
-    ensures { FacesAdded ids.now n work.old work.new
-        (face_use (triangle ids.now t) ∷ []) }
-{
-    let face = Face::of(ids, t);
-    let start = table::home(face.hash(), n);
-    let r = find(ids, work, n, face, start);
-    bump(work, r, t, weight(ids, t));
-}
-
-// Adds the use that triangle t makes: none if it repeats an id.
+// Adds the use that triangle t makes of its face: none if it repeats an id.
 fn triangle(ids: &[u32], work: &mut [u32], n: usize, t: usize)
     requires { FaceToAdd ids.now n work.old t }
-    ensures { FacesAdded ids.now n work.old work.new
-        (face (triangle ids.now t)) }
+    ensures { FacesAdded ids.now n work.old work.new (face (triangle ids.now t)) }
 {
-    if !table::distinct_at(ids, t) {
+    let corners = Corners::of(ids, t);
+    if !corners.distinct() {
         return;
     }
-    add(ids, work, n, t);
+    let face = Face::of(corners);
+    let start = table::home(face.hash(), n);
+    let r = find(ids, work, n, face, start);
+    bump(work, r, t, Uses::weight(upwards(corners)));
 }
 
 // Adds the uses of all triangles to an empty table of n rows.

@@ -2,17 +2,12 @@
 // it.
 #![tactic(auto)]
 
-ghost use Rattle.std.specs.Prelude.{◌≡◌, cond, [], ◌∷◌, ◌+◌, ◌*◌, ◌<◌, ltb, min, max, length};
+ghost use Rattle.std.specs.Prelude.{◌≡◌, [], ◌∷◌, ◌+◌, ◌*◌, ◌<◌, min, max, length};
 ghost use Rattle.ids.specs.EdgeChain.{step as step_use};
 ghost use Rattle.table.specs.inner.Rows.{Found};
 ghost use Rattle.steps.specs.inner.Rows.{edge_at, edge_word, edge_uses, put_edge, edge_hash, edge_of, EdgeSearch, EdgesFit, EdgesAdded};
 
-// What a step from u to v adds to the word that counts its edge: 65536 upwards, 1 downwards.
-fn weight(u: u32, v: u32) -> u32
-    ensures { result ≡ cond (ltb u v) 65536 1 }
-{
-    if u < v { 65536 } else { 1 }
-}
+use table::Uses;
 
 // The two ids of an edge, the lower one first.
 #[derive(Clone, Copy, PartialEq)]
@@ -79,6 +74,8 @@ fn bump(work: &mut [u32], r: usize, edge: Edge, by: u32)
 }
 
 // Adds the use that a step from id u to id v makes.
+// Stays: `work` and `n` apart, here and in `edges` and `faces`: a struct of both would hold the lent words as a borrow, and each contract
+// would have to say that n and the borrow stay, besides what it says of the words.
 pub fn walk(work: &mut [u32], n: usize, u: u32, v: u32)
     requires { EdgesFit n 1 work.old }
     ensures { EdgesAdded n work.old work.new (step_use u v ∷ []) }
@@ -86,5 +83,5 @@ pub fn walk(work: &mut [u32], n: usize, u: u32, v: u32)
     let edge = Edge::between(u, v);
     let start = table::home(edge.hash(), n);
     let r = find(work, n, edge, start);
-    bump(work, r, edge, weight(u, v));
+    bump(work, r, edge, Uses::weight(u < v));
 }

@@ -9,8 +9,10 @@ ghost use Rattle.table.specs.inner.Words.{TriangleOf};
 
 use ids::MOST_ENTRIES;
 
+mod corners; // a triangle's three ids
 mod uses; // how often a key is used, as its row's word has it
 
+pub use corners::Corners;
 pub use uses::Uses;
 
 pub fn lesser(a: u32, b: u32) -> u32

@@ -1,6 +1,6 @@
 // How often a key is used, each way, as the word of its row has it: 65536 for each use upwards, 1 for each downwards. Tables of edges and
 // of faces read their words here alone.
-ghost use Rattle.std.specs.Prelude.{◌≡◌, ◌+◌, ◌<◌};
+ghost use Rattle.std.specs.Prelude.{◌≡◌, cond, ◌+◌, ◌<◌};
 ghost use Rattle.table.specs.inner.Counts.{ups_in, uses_in, sum_size};
 
 #[derive(Clone, Copy)]
@@ -25,6 +25,13 @@ impl From<u32> for Uses {
 }
 
 impl Uses {
+    // What one use adds to the word.
+    pub fn weight(up: bool) -> u32
+        ensures { result ≡ cond up 65536 1 }
+    {
+        if up { 65536 } else { 1 }
+    }
+
     // Either way.
     pub fn all(self) -> u32
         ensures { result ≡ self.ups + self.downs }

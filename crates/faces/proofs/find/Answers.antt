@@ -31,7 +31,7 @@ module _ (c : lts.Else2 the-claims Pre Post goal.the-invariant-search goal.the-d
 
   told : same_face (key c.search.r) sought ≡ c.eq.result
   unfolding same_face
-  told = rw c.of.ensures (sym c.eq.ensures)
+  told = rw (← c.of.ensures, c.of-in-search.ensures) (sym c.eq.ensures)
 
   on : Onward c.args.n c.args.start key (face_uses c.args.work.now) sought c.search.r
   on =
@@ -46,4 +46,4 @@ search-preserved c = rw c.next-r.ensures (on c.before.before).next
 
 pub returns-then-eq : goal.returns-then-eq
 unfolding same_face
-returns-then-eq c = turn_ends c.search.invariant (λ u. face_eq _ _ (rw c.of.ensures (sym c.eq.ensures ∙ c.if-eq.true)))
+returns-then-eq c = turn_ends c.search.invariant (λ u. face_eq _ _ (rw (← c.of.ensures, c.of-in-search.ensures) (sym c.eq.ensures ∙ c.if-eq.true)))

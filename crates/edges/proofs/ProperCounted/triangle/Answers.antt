@@ -9,13 +9,13 @@ proper_step-requires c = first_fits c.requires
 
 pub proper_step-requires-2 : goal.proper_step-requires-2
 proper_step-requires-2 c =
-    second_fits c.requires (step_length c.args.a c.args.b) c.proper_step.auto.work
+    second_fits c.requires (step_length c.args.t.a c.args.t.b) c.proper_step.auto.work
     c.proper_step.ensures
 
 pub proper_step-requires-3 : goal.proper_step-requires-3
 proper_step-requires-3 c =
-    third_fits c.requires (step_length c.args.a c.args.b) c.proper_step.auto.work c.proper_step.ensures
-    (step_length c.args.b c.args.c) c.proper_step-2.auto.work c.proper_step-2.ensures
+    third_fits c.requires (step_length c.args.t.a c.args.t.b) c.proper_step.auto.work c.proper_step.ensures
+    (step_length c.args.t.b c.args.t.c) c.proper_step-2.auto.work c.proper_step-2.ensures
 
 pub returns : goal.returns
 unfolding around_proper

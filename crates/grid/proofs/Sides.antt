@@ -7,6 +7,7 @@ use lib.Ieee.Fits.{mul-fits}
 use Rattle.ieee.specs.Single.{◌⊖◌, ◌⊗◌, nought}
 use Rattle.ieee.proofs.Order.Comparison.{eq_not_lt, lt_asym, lt_left, lt_right}
 use Rattle.ieee.proofs.Order.Differences.{sub_sign, zero_bits}
+use Rattle.grid.specs.declared.Point.{Point}
 use Rattle.grid.specs.declared.Flat.{Flat}
 use Rattle.grid.specs.declared.Place.{Place}
 use Rattle.grid.specs.Point.{place, place_by, place_of, side}
@@ -57,47 +58,47 @@ differ false false true false h k = refl
 differ false false false true h k = refl
 differ false false false false h k = refl
 
-module _ (px py : Float) (t : Flat) where
+module _ (p : Point) (t : Flat) where
   abbrev d : Float
-  d = (px ⊖ t.bx) ⊗ (t.ay ⊖ t.by)
+  d = (p.x ⊖ t.b.x) ⊗ (t.a.y ⊖ t.b.y)
 
   abbrev d_less : Float
-  d_less = (t.ax ⊖ t.bx) ⊗ (py ⊖ t.by)
+  d_less = (t.a.x ⊖ t.b.x) ⊗ (p.y ⊖ t.b.y)
 
   abbrev e : Float
-  e = (px ⊖ t.cx) ⊗ (t.by ⊖ t.cy)
+  e = (p.x ⊖ t.c.x) ⊗ (t.b.y ⊖ t.c.y)
 
   abbrev e_less : Float
-  e_less = (t.bx ⊖ t.cx) ⊗ (py ⊖ t.cy)
+  e_less = (t.b.x ⊖ t.c.x) ⊗ (p.y ⊖ t.c.y)
 
   abbrev f : Float
-  f = (px ⊖ t.ax) ⊗ (t.cy ⊖ t.ay)
+  f = (p.x ⊖ t.a.x) ⊗ (t.c.y ⊖ t.a.y)
 
   abbrev f_less : Float
-  f_less = (t.cx ⊖ t.ax) ⊗ (py ⊖ t.ay)
+  f_less = (t.c.x ⊖ t.a.x) ⊗ (p.y ⊖ t.a.y)
 
   abbrev zero : Float → Float → Bool
   zero x less = eq (x ⊖ less) nought
 
-  in_products : place px py t ≡ place_by (lt d d_less || (lt e e_less || lt f f_less)) (lt d_less d || (lt e_less e || lt f_less f))
+  in_products : place p t ≡ place_by (lt d d_less || (lt e e_less || lt f f_less)) (lt d_less d || (lt e_less e || lt f_less f))
       (zero d d_less || (zero e e_less || zero f f_less))
   unfolding place place_of side
   in_products = simp (negative, positive)
 
   -- d is negative
-  pub below_outside : lt d d_less ≡ true → lt e_less e || lt f_less f ≡ true → Place.Outside ≡ place px py t
+  pub below_outside : lt d d_less ≡ true → lt e_less e || lt f_less f ≡ true → Place.Outside ≡ place p t
   below_outside h k = rw in_products (outside_by _ _ _ (rw (h, k, or-true (lt d_less d))))
 
-  pub below_edge : lt d d_less ≡ true → lt e_less e || lt f_less f ≡ false → edge_if (zero e e_less || zero f f_less) ≡ place px py t
+  pub below_edge : lt d d_less ≡ true → lt e_less e || lt f_less f ≡ false → edge_if (zero e e_less || zero f f_less) ≡ place p t
   below_edge h k =
       let n : zero d d_less ≡ false = below_not_eq (d ⊖ d_less) nought (negative _ _ _ _ ∙ h) in
       rw in_products (rw n (edge_by _ _ _ (rw (h, k, lt_asym d d_less h))))
 
   -- d is positive
-  pub above_outside : lt d_less d ≡ true → lt e e_less || lt f f_less ≡ true → Place.Outside ≡ place px py t
+  pub above_outside : lt d_less d ≡ true → lt e e_less || lt f f_less ≡ true → Place.Outside ≡ place p t
   above_outside h k = rw in_products (outside_by _ _ _ (rw (h, k, or-true (lt d d_less))))
 
-  pub above_edge : lt d_less d ≡ true → lt e e_less || lt f f_less ≡ false → edge_if (zero e e_less || zero f f_less) ≡ place px py t
+  pub above_edge : lt d_less d ≡ true → lt e e_less || lt f f_less ≡ false → edge_if (zero e e_less || zero f f_less) ≡ place p t
   above_edge h k =
       let n : zero d d_less ≡ false = above_not_eq (d ⊖ d_less) nought (positive _ _ _ _ ∙ h) in
       rw in_products (rw n (edge_by _ _ _ (rw (h, k, lt_asym d_less d h))))
@@ -109,9 +110,9 @@ module _ (px py : Float) (t : Flat) where
   both h k = rw (h, k) (sym (differ (lt e e_less) (lt e_less e) (lt f f_less) (lt f_less f) (lt_asym e e_less) (lt_asym f f_less)))
 
   pub neither_outside : lt d d_less ≡ false → lt d_less d ≡ false → (lt e e_less && lt f_less f) || (lt e_less e && lt f f_less) ≡ true
-      → Place.Outside ≡ place px py t
+      → Place.Outside ≡ place p t
   neither_outside h k o = rw in_products (outside_by _ _ _ (both h k ∙ o))
 
   pub neither_edge : lt d d_less ≡ false → lt d_less d ≡ false → (lt e e_less && lt f_less f) || (lt e_less e && lt f f_less) ≡ false
-      → edge_if (zero d d_less || (zero e e_less || zero f f_less)) ≡ place px py t
+      → edge_if (zero d d_less || (zero e e_less || zero f f_less)) ≡ place p t
   neither_edge h k o = rw in_products (edge_by _ _ _ (both h k ∙ o))

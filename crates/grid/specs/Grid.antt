@@ -1,5 +1,5 @@
 -- A grid of cells over a box, and the cells of a triangle's own box (01, Raster; 000, `footprint_raw`). f32, each step rounded once.
-use Rattle.std.specs.Prelude.{ℕ, ◌-◌, ◌*◌, ◌≤◌, ◌<◌, min, max, ℤ, pos, negsuc, Float}
+use Rattle.std.specs.Prelude.{ℕ, ◌-◌, ◌*◌, ◌/◌, ◌%◌, ◌≤◌, ◌<◌, min, max, ℤ, pos, negsuc, Float}
 use Rattle.std.proofs.Common.{lit≤}
 use Rattle.std.proofs.Math.Nat.{le-max_left, max-le, min-le_right}
 use Rattle.std.specs.Float.{binary32}
@@ -68,3 +68,7 @@ grid_of x y w h size = record { columns = along_of x w size; rows = along_of y h
 -- how many cells it has
 abbrev pub cells : Grid → ℕ
 cells g = g.columns.n * g.rows.n
+
+-- what is said of each cell by its column and its row, said of cell k, which is in column k % n and row k / n
+abbrev pub by_cell : {A : Type 0} → Grid → (ℕ → ℕ → A) → ℕ → A
+by_cell g says k = says (k % g.columns.n) (k / g.columns.n)

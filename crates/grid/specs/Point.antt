@@ -3,12 +3,13 @@ use Rattle.std.specs.Prelude.{ℕ, Bool, true, false, not, ◌||◌, Float}
 use Rattle.std.specs.Float.Ieee.{lt, eq}
 use Rattle.ieee.specs.Magnitude.{magnitude}
 use Rattle.ieee.specs.Single.{◌⊖◌, ◌⊗◌, nought, tiny}
+use Rattle.grid.specs.declared.Point.{Point}
 use Rattle.grid.specs.declared.Flat.{Flat}
 use Rattle.grid.specs.declared.Place.{Place}
 
 -- the doubled signed area of the triangle p, q, r: on which side of the line from q to r the point p lies
-unfoldable pub side : Float → Float → Float → Float → Float → Float → Float
-side px py qx qy rx ry = (px ⊖ rx) ⊗ (qy ⊖ ry) ⊖ (qx ⊖ rx) ⊗ (py ⊖ ry)
+unfoldable pub side : Point → Point → Point → Float
+side p q r = (p.x ⊖ r.x) ⊗ (q.y ⊖ r.y) ⊖ (q.x ⊖ r.x) ⊗ (p.y ⊖ r.y)
 
 -- some of three values is below 0, is above 0, is 0
 abbrev pub some_negative : Float → Float → Float → Bool
@@ -32,10 +33,8 @@ unfoldable pub place_of : Float → Float → Float → Place
 place_of d e f = place_by (some_negative d e f) (some_positive d e f) (some_zero d e f)
 
 -- the three values are the sides of the point by a to b, b to c and c to a
-unfoldable pub place : Float → Float → Flat → Place
-place px py t =
-    place_of (side px py t.ax t.ay t.bx t.by) (side px py t.bx t.by t.cx t.cy)
-    (side px py t.cx t.cy t.ax t.ay)
+unfoldable pub place : Point → Flat → Place
+place p t = place_of (side p t.a t.b) (side p t.b t.c) (side p t.c t.a)
 
 -- is it inside or on an edge?
 unfoldable pub not_outside : Place → Bool
@@ -57,4 +56,4 @@ place_number Place.Inside = 2
 
 -- does a triangle count? Not where its doubled area has a magnitude under 1e-12
 unfoldable pub counts : Flat → Bool
-counts t = not (lt (magnitude (side t.bx t.by t.cx t.cy t.ax t.ay)) tiny)
+counts t = not (lt (magnitude (side t.b t.c t.a)) tiny)

@@ -10,15 +10,19 @@ mod along; // the cells along one axis
 
 pub use along::{Along, Span};
 
+// A point of the plane.
+#[derive(Clone, Copy)]
+pub struct Point {
+    pub x: f32,
+    pub y: f32,
+}
+
 // A triangle in the plane.
 #[derive(Clone, Copy)]
 pub struct Flat {
-    pub ax: f32,
-    pub ay: f32,
-    pub bx: f32,
-    pub by: f32,
-    pub cx: f32,
-    pub cy: f32,
+    pub a: Point,
+    pub b: Point,
+    pub c: Point,
 }
 
 // Cells in columns and rows.
@@ -48,15 +52,15 @@ fn edge_if(zero: bool) -> Place
 // Where the point lies. 000 asks for the signs of three differences. They are those of comparing the two products, since the difference
 // of two unequal floats is never rounded to zero. Zero is asked of the difference itself: two infinite products are equal, and their
 // difference is a NaN. The first sign decides which of the others matter.
-pub fn point_in_triangle(px: f32, py: f32, t: Flat) -> Place
-    ensures { result ≡ place px py t }
+pub fn point_in_triangle(p: Point, t: Flat) -> Place
+    ensures { result ≡ place p t }
 {
-    let d = (px - t.bx) * (t.ay - t.by);
-    let d_less = (t.ax - t.bx) * (py - t.by);
-    let e = (px - t.cx) * (t.by - t.cy);
-    let e_less = (t.bx - t.cx) * (py - t.cy);
-    let f = (px - t.ax) * (t.cy - t.ay);
-    let f_less = (t.cx - t.ax) * (py - t.ay);
+    let d = (p.x - t.b.x) * (t.a.y - t.b.y);
+    let d_less = (t.a.x - t.b.x) * (p.y - t.b.y);
+    let e = (p.x - t.c.x) * (t.b.y - t.c.y);
+    let e_less = (t.b.x - t.c.x) * (p.y - t.c.y);
+    let f = (p.x - t.a.x) * (t.c.y - t.a.y);
+    let f_less = (t.c.x - t.a.x) * (p.y - t.a.y);
     if d < d_less {
         if (e_less < e) | (f_less < f) {
             return Place::Outside;
@@ -93,7 +97,7 @@ impl From<Place> for u8 {
 pub fn counts(t: Flat) -> bool
     ensures { result ≡ is_counted t }
 {
-    let d = (t.bx - t.ax) * (t.cy - t.ay) - (t.cx - t.ax) * (t.by - t.ay);
+    let d = (t.b.x - t.a.x) * (t.c.y - t.a.y) - (t.c.x - t.a.x) * (t.b.y - t.a.y);
     !((d < 1e-12) & (-d < 1e-12))
 }
 

@@ -104,29 +104,29 @@ module _ (g : Grid) (t : Flat) (j lo : ℕ) where
   row_first s = adds_none s (row_sofar g t j lo lo) (λ k. rw (sofar_none lo (k % g.columns.n), and-false (eqb (k / g.columns.n) j)))
 
   number_at : (k i : ℕ) (px py : Float) → i < g.columns.n → px ≡ centre_of g.columns i → py ≡ centre_of g.rows j → k ≡ j * g.columns.n + i
-      → place_number (place px py t) ≡ centre_number g t (k % g.columns.n) (k / g.columns.n)
+      → place_number (place (record { x = px; y = py }) t) ≡ centre_number g t (k % g.columns.n) (k / g.columns.n)
   unfolding centre_number centre_lies
   number_at k i px py l ex ey e = rw (e, row_of g.columns.n i j l, column_of g.columns.n i j l, ex, ey)
 
   -- byte b is stored for column i
   pub row_next : {s u : List ℕ} (i b : ℕ) (px py : Float) → i < g.columns.n → j < g.rows.n → length s ≡ cells g → lo ≤ i
       → px ≡ centre_of g.columns i → py ≡ centre_of g.rows j
-      → b ≡ max (get_or u (j * g.columns.n + i) 0) (place_number (place px py t)) → Adds s u (row_sofar g t j lo i)
+      → b ≡ max (get_or u (j * g.columns.n + i) 0) (place_number (place (record { x = px; y = py }) t)) → Adds s u (row_sofar g t j lo i)
       → Adds s (set u (j * g.columns.n + i) b) (row_sofar g t j lo (i + 1))
   unfolding row_sofar
   row_next {u = u} i b px py l below long m ex ey e a =
       let there : j * g.columns.n + i < length u =
       omega (arith, in_grid g.columns.n g.rows.n i j l below, a.long, long) in
-      adds_same (row_sofar g t j lo (i + 1)) (adds_both a (rw e (adds_one u (j * g.columns.n + i) (place_number (place px py t)) there))) more
+      adds_same (row_sofar g t j lo (i + 1)) (adds_both a (rw e (adds_one u (j * g.columns.n + i) (place_number (place (record { x = px; y = py }) t)) there))) more
     where
-      more : (k : ℕ) → max (row_sofar g t j lo i k) (only_if (eqb k (j * g.columns.n + i)) (place_number (place px py t)))
+      more : (k : ℕ) → max (row_sofar g t j lo i k) (only_if (eqb k (j * g.columns.n + i)) (place_number (place (record { x = px; y = py }) t)))
           ≡ row_sofar g t j lo (i + 1) k
       more k =
           let n = g.columns.n in
           let here = centre_number g t (k % n) (k / n) in
           let in_row = eqb (k / n) j in
           rw (
-            only_same (eqb k (j * n + i)) (place_number (place px py t)) here
+            only_same (eqb k (j * n + i)) (place_number (place (record { x = px; y = py }) t)) here
                 (λ q. number_at k i px py l ex ey (eqb-true k (j * n + i) q)),
             cell_at n i j k l,
             only_or (in_row && sofar lo i (k % n)) (in_row && eqb (k % n) i) here,

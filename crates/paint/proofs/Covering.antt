@@ -28,8 +28,8 @@ number_if false p = refl
 module _ (g : Grid) (t : Flat) where
   -- it counts: the cells of its box, by their centres
   pub counts_in : {s u : List ℕ} (lo hi first last : ℕ) → counts t ≡ true
-      → lo ≡ first_cell g.columns t.ax t.bx t.cx → hi ≡ last_cell g.columns t.ax t.bx t.cx
-      → first ≡ first_cell g.rows t.ay t.by t.cy → last ≡ last_cell g.rows t.ay t.by t.cy
+      → lo ≡ first_cell g.columns t.a.x t.b.x t.c.x → hi ≡ last_cell g.columns t.a.x t.b.x t.c.x
+      → first ≡ first_cell g.rows t.a.y t.b.y t.c.y → last ≡ last_cell g.rows t.a.y t.b.y t.c.y
       → Adds s u (λ k. only_if (between first last (k / g.columns.n) && between lo hi (k % g.columns.n)) (centre_number g t (k % g.columns.n) (k / g.columns.n)))
       → Adds s u (λ k. place_number (cell_lies g t (k % g.columns.n) (k / g.columns.n)))
   unfolding cell_lies in_rows in_columns centre_number

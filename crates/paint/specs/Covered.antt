@@ -3,6 +3,7 @@
 use Rattle.std.specs.Prelude.{◌≡◌, ◌≢◌, ℕ, zero, suc, ◌<◌, Bool, true, false, not, ◌&&◌, ◌||◌, cond, List, leb, Float}
 use Rattle.ids.specs.Triangles.{Triangle, triangle, triangle_count}
 use Rattle.vertices.specs.Vertices.{coordinate, corners_in_range}
+use Rattle.grid.specs.declared.Point.{Point}
 use Rattle.grid.specs.declared.Flat.{Flat}
 use Rattle.grid.specs.declared.Grid.{Grid}
 use Rattle.grid.specs.declared.Place.{Place}
@@ -11,16 +12,11 @@ use Rattle.grid.specs.Grid.{first_cell, last_cell, centre_of}
 
 -- ---- one triangle, on the axes u and v
 
+abbrev pub point : List Float → ℕ → ℕ → ℕ → Point
+point vs u v id = record { x = coordinate vs u id; y = coordinate vs v id }
+
 abbrev pub flat : List Float → ℕ → ℕ → Triangle → Flat
-flat vs u v t =
-    record {
-      ax = coordinate vs u t.a;
-      ay = coordinate vs v t.a;
-      bx = coordinate vs u t.b;
-      by = coordinate vs v t.b;
-      cx = coordinate vs u t.c;
-      cy = coordinate vs v t.c;
-    }
+flat vs u v t = record { a = point vs u v t.a; b = point vs u v t.b; c = point vs u v t.c }
 
 -- is i from lo to hi?
 unfoldable pub between : ℕ → ℕ → ℕ → Bool
@@ -29,14 +25,14 @@ between lo hi i = leb lo i && leb i hi
 -- is column i, is row j in the triangle's box of cells, clamped into the grid?
 unfoldable pub in_columns : Grid → Flat → ℕ → Bool
 in_columns g t i =
-    between (first_cell g.columns t.ax t.bx t.cx) (last_cell g.columns t.ax t.bx t.cx) i
+    between (first_cell g.columns t.a.x t.b.x t.c.x) (last_cell g.columns t.a.x t.b.x t.c.x) i
 
 unfoldable pub in_rows : Grid → Flat → ℕ → Bool
-in_rows g t j = between (first_cell g.rows t.ay t.by t.cy) (last_cell g.rows t.ay t.by t.cy) j
+in_rows g t j = between (first_cell g.rows t.a.y t.b.y t.c.y) (last_cell g.rows t.a.y t.b.y t.c.y) j
 
 -- where the centre of the cell in column i and row j lies by the triangle
 unfoldable pub centre_lies : Grid → Flat → ℕ → ℕ → Place
-centre_lies g t i j = place (centre_of g.columns i) (centre_of g.rows j) t
+centre_lies g t i j = place (record { x = centre_of g.columns i; y = centre_of g.rows j }) t
 
 -- where the cell lies by a triangle in the plane: where its centre does, if the triangle counts and the cell is in its box; else outside
 unfoldable pub cell_lies : Grid → Flat → ℕ → ℕ → Place

@@ -1,16 +1,16 @@
 // Triangles on a raster of one byte a cell: which cells they cover, and which of these by edges alone. Internal: `raster` asks it.
 #![tactic(auto)]
 
-ghost use Rattle.std.specs.Prelude.{◌≡◌, ◌&&◌, ◌+◌, ◌*◌, ◌/◌, ◌%◌, ◌<◌, max, eqb, true, length};
+ghost use Rattle.std.specs.Prelude.{◌≡◌, ◌&&◌, ◌+◌, ◌*◌, ◌<◌, max, eqb, true, length};
 ghost use Rattle.ids.specs.Triangles.{triangle, triangle_count};
 ghost use Rattle.vertices.specs.Vertices.{axis_number, triangle_of, corners_in_range, coordinate as coordinate_of};
 ghost use Rattle.grid.specs.Point.{place, place_number};
-ghost use Rattle.grid.specs.Grid.{cells};
+ghost use Rattle.grid.specs.Grid.{cells, by_cell};
 ghost use Rattle.grid.specs.inner.Centred.{Centred};
-ghost use Rattle.paint.specs.Covered.{flat as flat_of, between, cell_lies, lies};
+ghost use Rattle.paint.specs.Covered.{point as point_of, flat as flat_of, between, cell_lies, lies};
 ghost use Rattle.paint.specs.inner.Painted.{only_if, centre_number, cell_number, Adds};
 
-use grid::{Flat, Grid, Span};
+use grid::{Flat, Grid, Point, Span};
 use vertices::{Axis, Corners};
 
 // A mesh, seen along the axis that is neither u nor v.
@@ -34,11 +34,11 @@ struct Sheet {
 
 // The cell becomes the number of where the point lies, if that is greater. 2, inside, is the greatest: such a cell is not tested again.
 #[tactic(auto, using(crate::proofs::Numbers::most_two))]
-fn mark(cell: &mut u8, px: f32, py: f32, t: Flat)
-    ensures { cell.new ≡ max cell.old (place_number (place px py t)) }
+fn mark(cell: &mut u8, p: Point, t: Flat)
+    ensures { cell.new ≡ max cell.old (place_number (place p t)) }
 {
     if *cell < 2 {
-        *cell = (*cell).max(u8::from(grid::point_in_triangle(px, py, t)));
+        *cell = (*cell).max(u8::from(grid::point_in_triangle(p, t)));
     }
 }
 
@@ -56,17 +56,12 @@ impl Sheet {
     fn paint_row(&self, part: &mut [u8], t: Flat, columns: Span, j: usize)
         requires { (columns.last < self.now.grid.columns.n) × (j < self.now.grid.rows.n) × (length part.old ≡ cells self.now.grid) }
         ensures { Adds part.old part.new
-            (λ k. only_if (eqb (k / self.now.grid.columns.n) j && between columns.first columns.last (k % self.now.grid.columns.n))
-            (centre_number self.now.grid t (k % self.now.grid.columns.n) (k / self.now.grid.columns.n))) }
+            (by_cell self.now.grid (λ i k. only_if (eqb k j && between columns.first columns.last i) (centre_number self.now.grid t i k))) }
     {
-        let py = self.grid.rows.centre(j);
+        let y = self.grid.rows.centre(j);
         for i in columns.first..columns.last + 1 {
-            mark(
-                &mut part[j * self.grid.columns.n + i],
-                self.centres[i],
-                py,
-                t,
-            );
+            let x = self.centres[i];
+            mark(&mut part[j * self.grid.columns.n + i], Point { x, y }, t);
         }
     }
 
@@ -75,9 +70,8 @@ impl Sheet {
         requires { (columns.last < self.now.grid.columns.n) × (rows.last < self.now.grid.rows.n)
             × (length part.old ≡ cells self.now.grid) }
         ensures { Adds part.old part.new
-            (λ k. only_if (between rows.first rows.last (k / self.now.grid.columns.n)
-            && between columns.first columns.last (k % self.now.grid.columns.n))
-            (centre_number self.now.grid t (k % self.now.grid.columns.n) (k / self.now.grid.columns.n))) }
+            (by_cell self.now.grid (λ i j. only_if (between rows.first rows.last j && between columns.first columns.last i)
+            (centre_number self.now.grid t i j))) }
     {
         for j in rows.first..rows.last + 1 {
             self.paint_row(part, t, columns, j);
@@ -88,11 +82,11 @@ impl Sheet {
     fn paint(&self, part: &mut [u8], t: Flat)
         requires { length part.old ≡ cells self.now.grid }
         ensures { Adds part.old part.new
-            (λ k. place_number (cell_lies self.now.grid t (k % self.now.grid.columns.n) (k / self.now.grid.columns.n))) }
+            (by_cell self.now.grid (λ i j. place_number (cell_lies self.now.grid t i j))) }
     {
         if grid::counts(t) {
-            let columns = self.grid.columns.span(t.ax, t.bx, t.cx);
-            let rows = self.grid.rows.span(t.ay, t.by, t.cy);
+            let columns = self.grid.columns.span(t.a.x, t.b.x, t.c.x);
+            let rows = self.grid.rows.span(t.a.y, t.b.y, t.c.y);
             self.paint_box(part, t, columns, rows);
         }
     }
@@ -101,8 +95,8 @@ impl Sheet {
     fn paint_triangle(&self, part: &mut [u8], mesh: &View, t: usize)
         requires { (t < triangle_count mesh.now.ids.now) × (length part.old ≡ cells self.now.grid) }
         ensures { Adds part.old part.new
-            (λ k. place_number (lies mesh.now.vertices.now (axis_number mesh.now.u) (axis_number mesh.now.v) self.now.grid
-            (triangle mesh.now.ids.now t) (k % self.now.grid.columns.n) (k / self.now.grid.columns.n))) }
+            (by_cell self.now.grid (λ i j. place_number (lies mesh.now.vertices.now (axis_number mesh.now.u) (axis_number mesh.now.v)
+            self.now.grid (triangle mesh.now.ids.now t) i j))) }
     {
         let corners = Corners::of(mesh.ids, t);
         if corners.in_range(mesh.vertices) {
@@ -114,8 +108,8 @@ impl Sheet {
     fn paint_triangles(&self, part: &mut [u8], mesh: &View)
         requires { length part.old ≡ cells self.now.grid }
         ensures { Adds part.old part.new
-            (λ k. cell_number mesh.now.vertices.now (axis_number mesh.now.u) (axis_number mesh.now.v) self.now.grid mesh.now.ids.now
-            (k % self.now.grid.columns.n) (k / self.now.grid.columns.n)) }
+            (by_cell self.now.grid (cell_number mesh.now.vertices.now (axis_number mesh.now.u) (axis_number mesh.now.v)
+            self.now.grid mesh.now.ids.now)) }
     {
         for t in 0..mesh.ids.len() / 3 {
             self.paint_triangle(part, mesh, t);
@@ -134,18 +128,26 @@ fn coordinate(vertices: &[f32], axis: Axis, id: u32) -> f32
 }
 
 impl View<'_> {
-    // Three vertices in the plane of u and v.
+    // A vertex in the plane of u and v.
+    fn point(&self, id: u32) -> Point
+        requires { 3 * id + 2 < length self.now.vertices.now }
+        ensures { result ≡ point_of self.now.vertices.now (axis_number self.now.u) (axis_number self.now.v) id }
+    {
+        Point {
+            x: coordinate(self.vertices, self.u, id),
+            y: coordinate(self.vertices, self.v, id),
+        }
+    }
+
+    // Three of them.
     fn flat(&self, t: Corners) -> Flat
         requires { corners_in_range self.now.vertices.now (triangle_of t) ≡ true }
         ensures { result ≡ flat_of self.now.vertices.now (axis_number self.now.u) (axis_number self.now.v) (triangle_of t) }
     {
         Flat {
-            ax: coordinate(self.vertices, self.u, t.a),
-            ay: coordinate(self.vertices, self.v, t.a),
-            bx: coordinate(self.vertices, self.u, t.b),
-            by: coordinate(self.vertices, self.v, t.b),
-            cx: coordinate(self.vertices, self.u, t.c),
-            cy: coordinate(self.vertices, self.v, t.c),
+            a: self.point(t.a),
+            b: self.point(t.b),
+            c: self.point(t.c),
         }
     }
 }
@@ -156,8 +158,7 @@ impl View<'_> {
 pub fn paint_all(mesh: &View, g: Grid, part: &mut [u8])
     requires { length part.old ≡ cells g }
     ensures { Adds part.old part.new
-        (λ k. cell_number mesh.now.vertices.now (axis_number mesh.now.u) (axis_number mesh.now.v) g mesh.now.ids.now
-        (k % g.columns.n) (k / g.columns.n)) }
+        (by_cell g (cell_number mesh.now.vertices.now (axis_number mesh.now.u) (axis_number mesh.now.v) g mesh.now.ids.now)) }
 {
     let sheet = Sheet::on(g);
     sheet.paint_triangles(part, mesh);

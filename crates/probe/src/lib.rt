@@ -13,9 +13,9 @@ ghost use Rattle.weld.specs.Weld.{epsilon_of, welded};
 ghost use Rattle.grid.specs.Point.{place, place_number};
 ghost use Rattle.vertices.specs.Areas.{raster_bytes};
 ghost use Rattle.raster.specs.Footprint.{footprint};
-ghost use Rattle.probe.specs.inner.Asked.{axis_at, flat_at, float_at, window_at, words_of_pair};
+ghost use Rattle.probe.specs.inner.Asked.{axis_at, flat_at, point_at, window_at, words_of_pair};
 
-use grid::Flat;
+use grid::{Flat, Point};
 use ids::MOST_ENTRIES;
 use raster::Axis;
 
@@ -62,17 +62,13 @@ pub extern "C" fn probe_welded_indices(
 // an edge, 2 inside.
 #[unsafe(no_mangle)]
 pub extern "C" fn probe_point_in_triangle(q: &[f32; 8]) -> u32
-    ensures { result ≡ place_number (place (float_at q.now 0) (float_at q.now 1) (flat_at q.now)) }
+    ensures { result ≡ place_number (place (point_at q.now 0) (flat_at q.now)) }
 {
-    let t = Flat {
-        ax: q[2],
-        ay: q[3],
-        bx: q[4],
-        by: q[5],
-        cx: q[6],
-        cy: q[7],
-    };
-    u8::from(grid::point_in_triangle(q[0], q[1], t)) as u32
+    let p = Point { x: q[0], y: q[1] };
+    let a = Point { x: q[2], y: q[3] };
+    let b = Point { x: q[4], y: q[5] };
+    let c = Point { x: q[6], y: q[7] };
+    u8::from(grid::point_in_triangle(p, Flat { a, b, c })) as u32
 }
 
 // 0 is x, 1 is y, and any other number z.

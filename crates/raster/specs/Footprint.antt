@@ -1,6 +1,6 @@
 -- Raster (01; 000, `footprint_raw`): how much ground a mesh covers, seen along the axis that is neither u nor v; how many cells that is,
 -- and how many of them are on the rim (02, A3). f32, not rebased, each step rounded once.
-use Rattle.std.specs.Prelude.{ℕ, zero, suc, ◌+◌, ◌/◌, ◌%◌, Bool, cond, ◌||◌, List, from_bits, Float}
+use Rattle.std.specs.Prelude.{ℕ, zero, suc, ◌+◌, Bool, cond, ◌||◌, List, from_bits, Float}
 use Rattle.std.specs.Float.{binary32}
 use Rattle.std.specs.Float.Ieee.{le}
 use Rattle.ieee.specs.Order.{greatest}
@@ -9,7 +9,7 @@ use Rattle.ids.specs.Uses.{bit}
 use Rattle.vertices.specs.declared.Axis.{Axis}
 use Rattle.vertices.specs.Vertices.{axis_number}
 use Rattle.grid.specs.declared.Grid.{Grid}
-use Rattle.grid.specs.Grid.{grid_of, cells}
+use Rattle.grid.specs.Grid.{grid_of, cells, by_cell}
 use Rattle.paint.specs.Covered.{covered, rim}
 use Rattle.raster.specs.declared.Footprint.{Footprint}
 use Rattle.raster.specs.declared.Pair.{Pair}
@@ -25,13 +25,13 @@ unfoldable pub count : (ℕ → Bool) → ℕ → ℕ
 count f zero = 0
 count f (suc n) = count f n + bit (f n)
 
--- how many cells are covered: cell k is in column k % nx and row k / nx
+-- how many cells are covered
 unfoldable pub covered_cells : List Float → ℕ → ℕ → Grid → List ℕ → ℕ
-covered_cells vs u v g ids = count (λ k. covered vs u v g ids (k % g.columns.n) (k / g.columns.n)) (cells g)
+covered_cells vs u v g ids = count (by_cell g (covered vs u v g ids)) (cells g)
 
 -- and how many are on the rim
 unfoldable pub rim_cells : List Float → ℕ → ℕ → Grid → List ℕ → ℕ
-rim_cells vs u v g ids = count (λ k. rim vs u v g ids (k % g.columns.n) (k / g.columns.n)) (cells g)
+rim_cells vs u v g ids = count (by_cell g (rim vs u v g ids)) (cells g)
 
 unfoldable pub cells_on : List Float → ℕ → ℕ → List ℕ → Grid → Pair
 cells_on vs u v ids g = record { covered = covered_cells vs u v g ids; rim = rim_cells vs u v g ids }

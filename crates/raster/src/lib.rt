@@ -26,7 +26,7 @@ pub struct Window {
 }
 
 // A footprint's cells: how many are covered, and how many of these are on the rim.
-#[derive(Clone, Copy)]
+#[derive(Clone, Copy, PartialEq, Eq)]
 pub struct Pair {
     pub covered: u32,
     pub rim: u32,

@@ -1,7 +1,8 @@
 -- What numbers in a row mean to the runs: an axis, a triangle in the plane, a window, a footprint's cells.
-use Rattle.std.specs.Prelude.{ℕ, zero, suc, List, [], ◌∷◌, get_or, Float}
+use Rattle.std.specs.Prelude.{ℕ, zero, suc, ◌+◌, List, [], ◌∷◌, get_or, Float}
 use Rattle.std.specs.Float.{nan}
 use Rattle.vertices.specs.declared.Axis.{Axis}
+use Rattle.grid.specs.declared.Point.{Point}
 use Rattle.grid.specs.declared.Flat.{Flat}
 use Rattle.raster.specs.declared.Pair.{Pair}
 use Rattle.raster.specs.declared.Window.{Window}
@@ -9,9 +10,12 @@ use Rattle.raster.specs.declared.Window.{Window}
 abbrev pub float_at : List Float → ℕ → Float
 float_at q i = get_or q i nan
 
+abbrev pub point_at : List Float → ℕ → Point
+point_at q i = record { x = float_at q i; y = float_at q (i + 1) }
+
 -- behind the point that is asked about
 abbrev pub flat_at : List Float → Flat
-flat_at q = record { ax = float_at q 2; ay = float_at q 3; bx = float_at q 4; by = float_at q 5; cx = float_at q 6; cy = float_at q 7 }
+flat_at q = record { a = point_at q 2; b = point_at q 4; c = point_at q 6 }
 
 -- 0 is x, 1 is y, and any other number z
 unfoldable pub axis_at : ℕ → Axis

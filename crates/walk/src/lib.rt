@@ -6,7 +6,7 @@ ghost use Rattle.sums.specs.inner.Prepared.{part_by};
 ghost use Rattle.walk.specs.inner.Steps.{state, Takeable, Takes};
 ghost use Rattle.walk.specs.inner.Walks.{Walkable, Walks};
 
-use sums::{Prepared, Thresholds, Totals};
+use sums::{Crossed, Prepared, Thresholds, Totals};
 use surfaces::Normal;
 
 // What the triangles done so far add up to, how many rows they have, and how many were used and were slivers.
@@ -34,12 +34,12 @@ pub struct Walked {
     pub counts: TriangleCounts,
 }
 
-// What is prepared of a triangle more: a facet adds its row and its part of the totals. It is counted as used or as a sliver; what is
-// neither is out of range, or no triangle.
+// A triangle more that is prepared: a facet adds its row and its part of the totals. It is counted as used or as a sliver; where there
+// is none it was out of range, or no triangle.
 fn take(
     pair: Thresholds,
     mut s: Sums,
-    p: Prepared,
+    p: Option<Prepared>,
     index: &mut [u32],
     rows: &mut [f32],
     m: usize,
@@ -48,15 +48,15 @@ fn take(
     ensures { Takes m pair (part_by p) (state index.old rows.old s)
         (state index.new rows.new result) }
 {
-    if !p.in_range {
+    let Some(p) = p else {
         return s;
-    }
+    };
     if p.length < 1e-12 {
         s.sliver += 1;
         return s;
     }
     let used = s.used + 1;
-    let f = sums::facet_by(p);
+    let f = p.facet();
     let normal = Normal {
         x: f.nx,
         y: f.ny,
@@ -95,8 +95,8 @@ pub fn walk(
         used: 0,
         sliver: 0,
     };
-    let mut held = sums::nothing();
-    let mut next = sums::nothing();
+    let mut held: Option<Prepared> = None;
+    let mut next: Option<Crossed> = None;
     for t in 0..m + 2 {
         let p = sums::with_root(next, held);
         let r = sums::cross_at(vertices, indices, origin, t);

@@ -64,7 +64,7 @@ fn print_record(q: MeshQto, m: MeshFile, count: u32, surfaces: &[f32], text: &mu
         text.old result text.new }
 {
     let profile = m.profile;
-    let flagged = qto::apply_product_flags(q, m.clip, profile);
+    let flagged = q.apply_product_flags(m.clip, profile);
     let said = listing::list(flagged, surfaces, count, text);
     match said {
         Listed::Length(end) => end,

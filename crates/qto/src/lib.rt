@@ -10,7 +10,6 @@ ghost use Rattle.qto.specs.inner.Steps.{Recordable, RecordedBy, Recorded};
 
 use ids::Refusal;
 use record::MeshQto;
-pub use record::{apply_product_flags, mark_clip_unapplied, mark_profile_invalid};
 use refusals::Check;
 use sums::{Areas, Bounds};
 use verdict::Sizes;
@@ -193,7 +192,7 @@ fn zero_takeoff() -> Takeoff
     ensures { result ≡ zero_takeoff }
 {
     Takeoff {
-        qto: record::zero_record(),
+        qto: MeshQto::zero(),
         pairs: volume::no_pairs(),
     }
 }

@@ -1,6 +1,8 @@
 // `classify_mesh_quality`: closed, open shell or degenerate. Internal: `qto` asks it; the record has its enum.
 #![tactic(auto)]
 
+mod number; // the number of a quality
+
 ghost use Rattle.std.specs.Prelude.{◌≡◌, ◌+◌, ◌*◌, ◌/◌, ◌≤◌, length, drop, replicate};
 ghost use Rattle.ids.specs.Lent.{most_entries};
 ghost use Rattle.vertices.specs.Areas.{work_words};

@@ -1,4 +1,5 @@
 -- Best volume (01), and the pairs (02, A3).
 pub mod Best
 pub mod Pairs
+pub mod Numbers
 pub mod inner

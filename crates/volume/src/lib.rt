@@ -2,6 +2,8 @@
 // footprints. Internal: `qto` asks it; the record has its enums.
 #![tactic(auto)]
 
+mod number; // the number of a method
+
 ghost use Rattle.std.specs.Prelude.{◌≡◌, length, replicate};
 ghost use Rattle.ieee.specs.Magnitude.{magnitude};
 ghost use Rattle.vertices.specs.Areas.{raster_bytes};

@@ -2,4 +2,3 @@
 pub mod Best
 pub mod Pairs
 pub mod Numbers
-pub mod inner

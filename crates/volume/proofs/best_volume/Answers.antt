@@ -1,25 +1,14 @@
 -- `volume::best_volume` meets its contract: the prism is asked for an open shell alone. Assumes nothing.
 use Rattle.volume.specs.Best.{best_of}
 use Rattle.volume.specs.Pairs.{pairs_of}
-use Rattle.ids.proofs.Lent.{cleared_all}
 use mathlib.Core.Path.{◌∙◌}
 use Rattle.volume.proofs.best_volume.Goals as goal
 
 pub returns-in-Closed : goal.returns-in-Closed
 unfolding best_of pairs_of
-returns-in-Closed c = (
-  rw (c.in-Closed.is, ← c.magnitude32-volume.ensures) c.closed_best.ensures,
-  rw c.in-Closed.is c.no_pairs.ensures,
-  c.clear.ensures ∙ cleared_all _ _ c.requires,
-)
-
-pub returns-in-Degenerate : goal.returns-in-Degenerate
-unfolding best_of pairs_of
-returns-in-Degenerate c = (
-  rw c.in-Degenerate.is c.degenerate_best.ensures,
-  rw c.in-Degenerate.is c.no_pairs-in-Degenerate.ensures,
-  c.clear-in-Degenerate.ensures ∙ cleared_all _ _ c.requires,
-)
+returns-in-Closed c =
+    let e = c.without_footprints.ensures in
+    (rw (c.in-Closed.is, ← c.magnitude32-volume.ensures) (e.0 ∙ c.closed_best.ensures), rw c.in-Closed.is e.1, e.2)
 
 pub returns-in-OpenShell : goal.returns-in-OpenShell
 unfolding best_of pairs_of

@@ -73,17 +73,15 @@ fn measure(
     );
     let n = w.rows;
     let t = w.totals;
-    let triangles = w.counts;
-    let areas = t.areas;
     let e = arrange(&mut surfaces[0..4 * n], n, square);
     Measures {
         volume: floats::narrow(t.volume6 / 6.0 * cube),
         surface: floats::narrow(t.surface * std::num::f32_to_f64_with_nan(square)),
-        areas: areas.scaled(square),
+        areas: t.areas.scaled(square),
         largest: e.largest,
         smallest: e.smallest,
         count: n,
-        triangles,
+        triangles: w.counts,
     }
 }
 
@@ -119,10 +117,7 @@ fn record_by(
     };
     let q = verdict::classify_mesh_quality(vertices, indices, eps, s, work);
     let carried = volume::best_volume(q, s, vertices, indices, b, cube, raster);
-    let pairs = carried.pairs;
     let best = carried.best;
-    let method = best.method;
-    let prism = best.prism;
     let qto = MeshQto {
         volume_m3: m.volume,
         aabb_volume_m3: aabb,
@@ -136,15 +131,18 @@ fn record_by(
         surface_count: m.count as u32,
         mesh_quality: q,
         volume_reliable: best.reliable,
-        volume_method: method,
+        volume_method: best.method,
         volume_best_m3: best.volume,
-        volume_prism_bound_m3: prism,
+        volume_prism_bound_m3: best.prism,
         profile_invalid: None,
         triangles_used: m.triangles.used,
         triangles_out_of_range: m.triangles.out_of_range,
         triangles_sliver: m.triangles.sliver,
     };
-    Takeoff { qto, pairs }
+    Takeoff {
+        qto,
+        pairs: carried.pairs,
+    }
 }
 
 // The full record and its pairs: parts of the lent areas from their front. The rows' index stands where the edge part will stand.

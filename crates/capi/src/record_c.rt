@@ -41,9 +41,9 @@ fn record_words(t: Takeoff) -> [u32; 26]
     let profile = q.profile_invalid;
     let prism = q.volume_prism_bound_m3;
     [
-        record::quality_number(quality),
+        u32::from(quality),
         q.volume_reliable as u32,
-        record::method_number(method),
+        u32::from(method),
         record::profile_number(profile),
         floats::bits(q.volume_m3),
         floats::bits(q.aabb_volume_m3),
@@ -95,7 +95,7 @@ pub extern "C" fn mf_compute(
     match answer {
         Ok(t) => {
             let pairs = t.pairs;
-            let qto = qto::apply_product_flags(t.qto, clip == 1, record::profile_of(defect));
+            let qto = t.qto.apply_product_flags(clip == 1, record::profile_of(defect));
             *record = record_words(Takeoff { qto, pairs });
             0
         }

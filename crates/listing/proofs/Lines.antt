@@ -14,7 +14,9 @@ use Rattle.volume.specs.declared.Method.{Method}
 use Rattle.record.specs.declared.MeshQto.{MeshQto}
 use Rattle.record.specs.declared.ProfileDefect.{ProfileDefect}
 use Rattle.record.specs.Names.{quality_name, method_name, defect_name, profile_name}
-use Rattle.record.specs.Numbers.{quality_number, method_number, defect_number, profile_number}
+use Rattle.verdict.specs.Numbers.{quality_number}
+use Rattle.volume.specs.Numbers.{method_number}
+use Rattle.record.specs.Numbers.{defect_number, profile_number}
 use Rattle.spelling.specs.Text.{codes, glyph, hex, bits, decimal_in, decimal, line}
 use Rattle.spelling.specs.inner.Steps.{PutsText, line_of, filled_at, filled}
 use Rattle.listing.specs.Listing.{number_lines, prism_text}

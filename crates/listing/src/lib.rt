@@ -30,7 +30,7 @@ fn trust_lines(out: &mut [u8], at: usize, q: MeshQto) -> usize
         out,
         at,
         b"quality closed\nquality open_shell\nquality degenerate\n",
-        record::quality_number(quality),
+        u32::from(quality),
     );
     let b = spelling::put_line(
         out,
@@ -42,7 +42,7 @@ fn trust_lines(out: &mut [u8], at: usize, q: MeshQto) -> usize
         out,
         b,
         b"method mesh\nmethod mesh_open\nmethod prism_fallback\nmethod mesh_unclipped\nmethod mesh_profile_invalid\n",
-        record::method_number(method),
+        u32::from(method),
     );
     spelling::put_line(
         out,

@@ -58,8 +58,17 @@ fn print_record(q: MeshQto, m: MeshFile, count: u32, surfaces: &[f32], text: &mu
         text.old result text.new }
 {
     let profile = m.profile;
+<<<<<<< HEAD
     let flagged = qto::apply_product_flags(q, m.clip, profile);
     listing::list(flagged, surfaces, count, text).unwrap()
+=======
+    let flagged = q.apply_product_flags(m.clip, profile);
+    let said = listing::list(flagged, surfaces, count, text);
+    match said {
+        Listed::Length(end) => end,
+        Listed::Refused(_) => 0,
+    }
+>>>>>>> 5265b5d26de4781976a4ab60fd0ce8636d71382c
 }
 
 // The mesh of a file: its listing, or the refusal of the documents' table.

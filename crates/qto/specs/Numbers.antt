@@ -7,7 +7,9 @@ use Rattle.ids.specs.Refusal.{refusal_number}
 use Rattle.ids.specs.Lent.{cleared}
 use Rattle.ids.specs.Uses.{bit}
 use Rattle.record.specs.Flags.{flagged}
-use Rattle.record.specs.Numbers.{quality_number, method_number, profile_number, profile_at, prism_number, prism_bits, flags_fit}
+use Rattle.verdict.specs.Numbers.{quality_number}
+use Rattle.volume.specs.Numbers.{method_number}
+use Rattle.record.specs.Numbers.{profile_number, profile_at, prism_number, prism_bits, flags_fit}
 use Rattle.refusals.specs.declared.Check.{Check}
 use Rattle.refusals.specs.Refusals.{check_of}
 use Rattle.sums.specs.Editions.{thresholds_of}

@@ -10,7 +10,6 @@ ghost use Rattle.qto.specs.inner.Steps.{Recordable, RecordedBy, Recorded};
 
 use ids::Refusal;
 use record::MeshQto;
-pub use record::{apply_product_flags, mark_clip_unapplied, mark_profile_invalid};
 use refusals::Check;
 use sums::{Areas, Bounds};
 use verdict::Sizes;
@@ -74,17 +73,21 @@ fn measure(
     );
     let n = w.rows;
     let t = w.totals;
+<<<<<<< HEAD
     let triangles = w.counts;
     let areas = t.areas;
     let e = arrange(&mut surfaces[0..4 * n], square);
+=======
+    let e = arrange(&mut surfaces[0..4 * n], n, square);
+>>>>>>> 5265b5d26de4781976a4ab60fd0ce8636d71382c
     Measures {
         volume: floats::narrow(t.volume6 / 6.0 * cube),
         surface: floats::narrow(t.surface * std::num::f32_to_f64_with_nan(square)),
-        areas: areas.scaled(square),
+        areas: t.areas.scaled(square),
         largest: e.largest,
         smallest: e.smallest,
         count: n,
-        triangles,
+        triangles: w.counts,
     }
 }
 
@@ -120,10 +123,7 @@ fn record_by(
     };
     let q = verdict::classify_mesh_quality(vertices, indices, eps, s, work);
     let carried = volume::best_volume(q, s, vertices, indices, b, cube, raster);
-    let pairs = carried.pairs;
     let best = carried.best;
-    let method = best.method;
-    let prism = best.prism;
     let qto = MeshQto {
         volume_m3: m.volume,
         aabb_volume_m3: aabb,
@@ -137,15 +137,18 @@ fn record_by(
         surface_count: m.count as u32,
         mesh_quality: q,
         volume_reliable: best.reliable,
-        volume_method: method,
+        volume_method: best.method,
         volume_best_m3: best.volume,
-        volume_prism_bound_m3: prism,
+        volume_prism_bound_m3: best.prism,
         profile_invalid: None,
         triangles_used: m.triangles.used,
         triangles_out_of_range: m.triangles.out_of_range,
         triangles_sliver: m.triangles.sliver,
     };
-    Takeoff { qto, pairs }
+    Takeoff {
+        qto,
+        pairs: carried.pairs,
+    }
 }
 
 // The full record and its pairs: parts of the lent areas from their front. The rows' index stands where the edge part will stand.
@@ -193,7 +196,7 @@ fn zero_takeoff() -> Takeoff
     ensures { result ≡ zero_takeoff }
 {
     Takeoff {
-        qto: record::zero_record(),
+        qto: MeshQto::zero(),
         pairs: volume::no_pairs(),
     }
 }

@@ -2,21 +2,7 @@
 use Rattle.std.specs.Prelude.{ℕ, zero, suc, Bool, ◌&&◌, leb, Option, Float, Some, None}
 use Rattle.std.specs.Float.{binary32}
 use Rattle.std.specs.Float.Ieee.{to_bits}
-use Rattle.verdict.specs.declared.Quality.{Quality}
-use Rattle.volume.specs.declared.Method.{Method}
 use Rattle.record.specs.declared.ProfileDefect.{ProfileDefect}
-
-unfoldable pub quality_number : Quality → ℕ
-quality_number Quality.Closed = 0
-quality_number Quality.OpenShell = 1
-quality_number Quality.Degenerate = 2
-
-unfoldable pub method_number : Method → ℕ
-method_number Method.Mesh = 0
-method_number Method.MeshOpen = 1
-method_number Method.PrismFallback = 2
-method_number Method.MeshUnclipped = 3
-method_number Method.MeshProfileInvalid = 4
 
 -- the defects as 000 lists them
 unfoldable pub defect_number : ProfileDefect → ℕ

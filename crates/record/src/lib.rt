@@ -1,10 +1,10 @@
-// The record, `MeshQto`, and its flags: each takes a record and hands one back. The names are 000's. And numbers for the cases of its
-// enums, and flags of numbers.
+// The record, `MeshQto`, and its flags: each takes a record and hands one back. The names are 000's. And the number of a profile, and flags
+// of numbers.
 #![tactic(auto)]
 
 ghost use Rattle.std.specs.Prelude.{◌≡◌};
 ghost use Rattle.record.specs.Record.{zero_record};
-ghost use Rattle.record.specs.Numbers.{quality_number, method_number, defect_number, profile_number, flags_fit, profile_at};
+ghost use Rattle.record.specs.Numbers.{defect_number, profile_number, flags_fit, profile_at};
 ghost use Rattle.record.specs.Flags.{relabelled as relabelled_to, marked as marked_by, clip_unapplied, profile_invalid};
 ghost use Rattle.record.specs.Flags.{if_clip, if_invalid, flagged};
 
@@ -45,33 +45,6 @@ pub struct MeshQto {
     pub triangles_sliver: u32,
 }
 
-// The record of fewer than 3 ids or 9 floats.
-pub fn zero_record() -> MeshQto
-    ensures { result ≡ zero_record }
-{
-    MeshQto {
-        volume_m3: 0.0,
-        aabb_volume_m3: 0.0,
-        surface_area_m2: 0.0,
-        area_top_m2: 0.0,
-        area_bottom_m2: 0.0,
-        area_side_m2: 0.0,
-        area_inclined_m2: 0.0,
-        largest_surface_m2: 0.0,
-        smallest_surface_m2: 0.0,
-        surface_count: 0,
-        mesh_quality: Quality::Degenerate,
-        volume_reliable: false,
-        volume_method: Method::PrismFallback,
-        volume_best_m3: 0.0,
-        volume_prism_bound_m3: Some(0.0),
-        profile_invalid: None,
-        triangles_used: 0,
-        triangles_out_of_range: 0,
-        triangles_sliver: 0,
-    }
-}
-
 // A method that says the volume is the mesh's becomes another.
 #[tactic(auto, unfolding(crate::specs::Flags::relabelled))]
 fn relabelled(to: Method, from: Method) -> Method
@@ -85,111 +58,114 @@ fn relabelled(to: Method, from: Method) -> Method
     }
 }
 
-// The record, not reliable, with a method and a profile.
-#[tactic(auto, unfolding(crate::specs::Flags::marked))]
-fn marked(method: Method, profile: Option<ProfileDefect>, q: MeshQto) -> MeshQto
-    ensures { result ≡ marked_by method profile q }
-{
-    MeshQto {
-        volume_reliable: false,
-        volume_method: method,
-        profile_invalid: profile,
-        ..q
+impl MeshQto {
+    // The record of fewer than 3 ids or 9 floats.
+    pub fn zero() -> MeshQto
+        ensures { result ≡ zero_record }
+    {
+        MeshQto {
+            volume_m3: 0.0,
+            aabb_volume_m3: 0.0,
+            surface_area_m2: 0.0,
+            area_top_m2: 0.0,
+            area_bottom_m2: 0.0,
+            area_side_m2: 0.0,
+            area_inclined_m2: 0.0,
+            largest_surface_m2: 0.0,
+            smallest_surface_m2: 0.0,
+            surface_count: 0,
+            mesh_quality: Quality::Degenerate,
+            volume_reliable: false,
+            volume_method: Method::PrismFallback,
+            volume_best_m3: 0.0,
+            volume_prism_bound_m3: Some(0.0),
+            profile_invalid: None,
+            triangles_used: 0,
+            triangles_out_of_range: 0,
+            triangles_sliver: 0,
+        }
+    }
+
+    // The record, not reliable, with a method and a profile.
+    #[tactic(auto, unfolding(crate::specs::Flags::marked))]
+    fn marked(self, method: Method, profile: Option<ProfileDefect>) -> MeshQto
+        ensures { result ≡ marked_by method profile self }
+    {
+        MeshQto {
+            volume_reliable: false,
+            volume_method: method,
+            profile_invalid: profile,
+            ..self
+        }
+    }
+
+    // An unapplied clip: the mesh is the unclipped body, so its volume is too large.
+    pub fn mark_clip_unapplied(self) -> MeshQto
+        ensures { result ≡ clip_unapplied self }
+    {
+        let method = relabelled(Method::MeshUnclipped, self.volume_method);
+        self.marked(method, self.profile_invalid)
+    }
+
+    // An invalid profile: the mesh fills a region that nobody meant.
+    pub fn mark_profile_invalid(self, defect: ProfileDefect) -> MeshQto
+        ensures { result ≡ profile_invalid self defect }
+    {
+        let method = relabelled(Method::MeshProfileInvalid, self.volume_method);
+        self.marked(method, Some(defect))
+    }
+
+    // The record with or without an unapplied clip.
+    #[tactic(auto, unfolding(crate::specs::Flags::if_clip))]
+    fn if_clip(self, clip: bool) -> MeshQto
+        ensures { result ≡ if_clip clip self }
+    {
+        if clip { self.mark_clip_unapplied() } else { self }
+    }
+
+    // The record with or without a defect.
+    #[tactic(auto, unfolding(crate::specs::Flags::if_invalid))]
+    fn if_invalid(self, profile: Option<ProfileDefect>) -> MeshQto
+        ensures { result ≡ if_invalid profile self }
+    {
+        match profile {
+            None => self,
+            Some(defect) => self.mark_profile_invalid(defect),
+        }
+    }
+
+    // Both flags, the clip first.
+    pub fn apply_product_flags(self, clip: bool, profile: Option<ProfileDefect>) -> MeshQto
+        ensures { result ≡ flagged clip profile self }
+    {
+        self.if_clip(clip).if_invalid(profile)
     }
 }
 
-// An unapplied clip: the mesh is the unclipped body, so its volume is too large.
-pub fn mark_clip_unapplied(q: MeshQto) -> MeshQto
-    ensures { result ≡ clip_unapplied q }
-{
-    let method = q.volume_method;
-    let profile = q.profile_invalid;
-    marked(relabelled(Method::MeshUnclipped, method), profile, q)
-}
+// ---- a profile as a number
 
-// An invalid profile: the mesh fills a region that nobody meant.
-pub fn mark_profile_invalid(q: MeshQto, defect: ProfileDefect) -> MeshQto
-    ensures { result ≡ profile_invalid q defect }
-{
-    let method = q.volume_method;
-    let label = relabelled(Method::MeshProfileInvalid, method);
-    marked(label, Some(defect), q)
-}
+impl From<ProfileDefect> for u32 {
+    ghost from_gives = { λ defect n. n ≡ defect_number defect };
 
-// The record with or without an unapplied clip.
-#[tactic(auto, unfolding(crate::specs::Flags::if_clip))]
-fn if_clip(q: MeshQto, clip: bool) -> MeshQto
-    ensures { result ≡ if_clip clip q }
-{
-    if clip {
-        return mark_clip_unapplied(q);
-    }
-    q
-}
-
-// The record with or without a defect.
-#[tactic(auto, unfolding(crate::specs::Flags::if_invalid))]
-fn if_invalid(q: MeshQto, profile: Option<ProfileDefect>) -> MeshQto
-    ensures { result ≡ if_invalid profile q }
-{
-    match profile {
-        None => q,
-        Some(defect) => mark_profile_invalid(q, defect),
+    #[tactic(auto, unfolding(crate::specs::Numbers::defect_number))]
+    fn from(defect: ProfileDefect) -> u32 {
+        match defect {
+            ProfileDefect::SelfIntersecting => 1,
+            ProfileDefect::Degenerate => 2,
+            ProfileDefect::HoleOutside => 3,
+            ProfileDefect::Overlapping => 4,
+        }
     }
 }
 
-// Both flags, the clip first.
-pub fn apply_product_flags(q: MeshQto, clip: bool, profile: Option<ProfileDefect>) -> MeshQto
-    ensures { result ≡ flagged clip profile q }
-{
-    if_invalid(if_clip(q, clip), profile)
-}
-
-// ---- enums as numbers
-
-#[tactic(auto, unfolding(crate::specs::Numbers::quality_number))]
-pub fn quality_number(quality: Quality) -> u32
-    ensures { result ≡ quality_number quality }
-{
-    match quality {
-        Quality::Closed => 0,
-        Quality::OpenShell => 1,
-        Quality::Degenerate => 2,
-    }
-}
-
-#[tactic(auto, unfolding(crate::specs::Numbers::method_number))]
-pub fn method_number(method: Method) -> u32
-    ensures { result ≡ method_number method }
-{
-    match method {
-        Method::Mesh => 0,
-        Method::MeshOpen => 1,
-        Method::PrismFallback => 2,
-        Method::MeshUnclipped => 3,
-        Method::MeshProfileInvalid => 4,
-    }
-}
-
-#[tactic(auto, unfolding(crate::specs::Numbers::defect_number))]
-fn defect_number(defect: ProfileDefect) -> u32
-    ensures { result ≡ defect_number defect }
-{
-    match defect {
-        ProfileDefect::SelfIntersecting => 1,
-        ProfileDefect::Degenerate => 2,
-        ProfileDefect::HoleOutside => 3,
-        ProfileDefect::Overlapping => 4,
-    }
-}
-
+// 0 for a valid one.
 #[tactic(auto, unfolding(crate::specs::Numbers::profile_number))]
 pub fn profile_number(profile: Option<ProfileDefect>) -> u32
     ensures { result ≡ profile_number profile }
 {
     match profile {
         None => 0,
-        Some(defect) => defect_number(defect),
+        Some(defect) => u32::from(defect),
     }
 }
 

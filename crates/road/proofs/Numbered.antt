@@ -16,7 +16,8 @@ use Rattle.sums.specs.Editions.{thresholds_of}
 use Rattle.vertices.specs.Areas.{work_words}
 use Rattle.verdict.specs.declared.Quality.{Quality}
 use Rattle.record.specs.Flags.{marked}
-use Rattle.record.specs.Numbers.{quality_number, profile_at, flags_fit}
+use Rattle.verdict.specs.Numbers.{quality_number}
+use Rattle.record.specs.Numbers.{profile_at, flags_fit}
 use Rattle.record.proofs.Kept.{flags_leave}
 use Rattle.refusals.specs.declared.Check.{Check}
 use Rattle.refusals.specs.Refusals.{check_of, Passes}

@@ -2,12 +2,13 @@
 // footprints. Internal: `qto` asks it; the record has its enums.
 #![tactic(auto)]
 
+mod number; // the number of a method
+
 ghost use Rattle.std.specs.Prelude.{◌≡◌, length, replicate};
 ghost use Rattle.ieee.specs.Magnitude.{magnitude};
 ghost use Rattle.vertices.specs.Areas.{raster_bytes};
 ghost use Rattle.volume.specs.Best.{prism_on, or_less, or_none, prism as prism_of, closed_best, degenerate_best, open_best, best_of};
 ghost use Rattle.volume.specs.Pairs.{pair_on, prism_pairs, no_pairs, pairs_of};
-ghost use Rattle.volume.specs.inner.Across.{cells_across};
 ghost use Rattle.volume.specs.Best.{upper as upper_of, collapsed as collapsed_of, trusted as trusted_of};
 
 use raster::{Axis, Pair, Window};
@@ -70,10 +71,9 @@ fn prism_on(vertices: &[f32], indices: &[u32], s: Window, along: f32, raster: &m
 {
     if (along > 0.0) & ((s.xmax > s.xmin) & (s.ymax > s.ymin)) {
         let found = raster::footprint_raw(vertices, indices, s, raster);
-        let cells = found.cells;
         return Across {
             prism: found.area * along,
-            cells,
+            cells: found.cells,
         };
     }
     raster::clear(raster, 65536);
@@ -84,6 +84,7 @@ fn prism_on(vertices: &[f32], indices: &[u32], s: Window, along: f32, raster: &m
 }
 
 // The lesser of m and p, if p is positive.
+#[tactic(auto, unfolding(crate::specs::Best::or_less))]
 fn or_less(m: f32, p: f32) -> f32
     ensures { result ≡ or_less m p }
 {
@@ -98,15 +99,6 @@ fn or_none(p: f32, cube: f32) -> f32
     } else {
         0.0
     }
-}
-
-fn pairs_on(on_z: Across, on_y: Across, on_x: Across) -> Pairs
-    ensures { result ≡ cells_across on_z on_y on_x }
-{
-    let z = on_z.cells;
-    let y = on_y.cells;
-    let x = on_x.cells;
-    Pairs { z, y, x }
 }
 
 // The prism of a mesh, and the cells of its footprints.
@@ -138,18 +130,20 @@ fn prism(
     let wide = sums::extent(b.xmin, b.xmax);
     let on_x = prism_on(vertices, indices, across_x, wide, raster);
     let none = f32::from_bits(0x7f80_0000);
-    let x = on_x.prism;
-    let y = on_y.prism;
-    let z = on_z.prism;
-    let least = or_less(or_less(or_less(none, x), y), z);
+    let least = or_less(or_less(or_less(none, on_x.prism), on_y.prism), on_z.prism);
     PrismAndPairs {
         prism: or_none(least, cube),
-        pairs: pairs_on(on_z, on_y, on_x),
+        pairs: Pairs {
+            z: on_z.cells,
+            y: on_y.cells,
+            x: on_x.cells,
+        },
     }
 }
 
 // ---- the volume of an open shell
 
+#[tactic(auto, unfolding(crate::specs::Best::upper))]
 fn upper(prism: f32, aabb: f32) -> f32
     ensures { result ≡ upper_of prism aabb }
 {
@@ -165,12 +159,14 @@ fn upper(prism: f32, aabb: f32) -> f32
     0.0
 }
 
+#[tactic(auto, unfolding(crate::specs::Best::collapsed))]
 fn collapsed(prism: f32, most: f32, volume: f32, surface: f32) -> bool
     ensures { result ≡ collapsed_of prism most volume surface }
 {
     (prism >= 1e-3) & (floats::cube_above(surface, prism) & (volume < most * 1e-3))
 }
 
+#[tactic(auto, unfolding(crate::specs::Best::trusted))]
 fn trusted(prism: f32, most: f32, volume: f32, surface: f32) -> bool
     ensures { result ≡ trusted_of prism most volume surface }
 {
@@ -178,6 +174,7 @@ fn trusted(prism: f32, most: f32, volume: f32, surface: f32) -> bool
         & ((volume > 0.0) & (!collapsed(prism, most, volume, surface) & (volume <= most * 1.05)))
 }
 
+#[tactic(auto, unfolding(crate::specs::Best::open_best))]
 fn open_best(volume: f32, surface: f32, aabb: f32, prism: f32) -> Best
     ensures { result ≡ open_best volume surface aabb prism }
 {
@@ -229,8 +226,22 @@ pub struct Carried {
     pub pairs: Pairs,
 }
 
+// A best volume that no footprint is made for. The raster is zero afterwards.
+fn without_footprints(best: Best, raster: &mut [u8]) -> Carried
+    requires { length raster.old ≡ raster_bytes }
+    ensures { (result.best ≡ best) × (result.pairs ≡ no_pairs)
+        × (raster.new ≡ replicate raster_bytes 0) }
+{
+    raster::clear(raster, 65536);
+    Carried {
+        best,
+        pairs: no_pairs(),
+    }
+}
+
 // The best volume, by the magnitude of the mesh's own, and the pairs. Footprints are made for an open shell alone, and once for both. The
 // raster is zero afterwards.
+#[tactic(auto, unfolding(crate::specs::Best::best_of, crate::specs::Pairs::pairs_of))]
 pub fn best_volume(
     quality: Quality,
     s: Sizes,
@@ -248,26 +259,13 @@ pub fn best_volume(
 {
     let volume = floats::magnitude(s.volume);
     match quality {
-        Quality::Closed => {
-            raster::clear(raster, 65536);
-            Carried {
-                best: closed_best(volume),
-                pairs: no_pairs(),
-            }
-        }
-        Quality::Degenerate => {
-            raster::clear(raster, 65536);
-            Carried {
-                best: degenerate_best(),
-                pairs: no_pairs(),
-            }
-        }
+        Quality::Closed => without_footprints(closed_best(volume), raster),
+        Quality::Degenerate => without_footprints(degenerate_best(), raster),
         Quality::OpenShell => {
             let p = prism(vertices, indices, b, cube, raster);
-            let pairs = p.pairs;
             Carried {
                 best: open_best(volume, s.surface, s.aabb, p.prism),
-                pairs,
+                pairs: p.pairs,
             }
         }
     }

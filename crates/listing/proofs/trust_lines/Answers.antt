@@ -8,8 +8,8 @@ use Rattle.listing.proofs.trust_lines.Goals as goal
 pub returns : goal.returns
 unfolding trust_lines
 returns c =
-    let a = spells_puts (at_number _ c.quality_number.ensures (quality_line _)) c.put_line-a.ensures.0 in
+    let a = spells_puts (at_number _ c.from.ensures (quality_line _)) c.put_line-a.ensures.0 in
     let b = spells_puts (reliable_line _) c.put_line-b.ensures.0 in
-    let d = spells_puts (at_number _ c.method_number.ensures (method_line _)) c.put_line-d.ensures.0 in
+    let d = spells_puts (at_number _ c.from-2.ensures (method_line _)) c.put_line-d.ensures.0 in
     let e = spells_puts (at_number _ c.profile_number.ensures (profile_line _)) c.put_line.ensures.0 in
     (puts_both a.0 (puts_both b.0 (puts_both d.0 e.0 (search rules)) (search rules)) (search rules), search rules)

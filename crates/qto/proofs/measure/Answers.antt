@@ -2,45 +2,40 @@
 use Rattle.sums.specs.Editions.{thresholds_of}
 use Rattle.qto.proofs.Measured.{Found, few, arrangeable, measured, rows_after}
 use borrow.Rule.Slice.PartMut.{Post-is}
-use Rattle.std.proofs.Common.{◌-◌, ◌*◌, List, arith}
-use lib.Ieee.{Float}
+use Rattle.std.proofs.Common.{◌-◌, ◌*◌, arith}
 use Rattle.qto.proofs.measure.Goals as goal
-use Rattle.qto.proofs.measure.Lts as lts
-use Rattle.qto.proofs.measure.Tie.{the-claims}
-use Rattle.qto.proofs.measure.Reads.{Pre, Post}
-
--- what the walk was given and left
-module _ (c : lts.After-walk the-claims Pre Post) where
-  abbrev u : Float
-  u = c.args.unit_scale
-
-  abbrev area : List Float
-  area = c.walk-w.new.rows
-
-  found : Found c.args.vertices.now c.args.indices.now c.args.b c.origin.result
-      (thresholds_of c.args.edition) c.thresholds_of.result
-      c.args.surfaces.now c.walk-w.result area
-  found =
-      record {
-        is_box = c.requires.is_box;
-        is_origin = c.origin.ensures;
-        is_pair = c.thresholds_of.ensures;
-        walked = c.walk-w.ensures;
-      }
 
 pub arrange-e-requires : goal.arrange-e-requires
 arrange-e-requires c =
-    arrangeable (u c.before.before.before.before.before.before.before.before.before) (found c.before.before.before.before.before.before.before.before.before) (4 * c.walk-w.result.rows - 0) (omega arith) c.args.edition c.requires.mesh
+    let a = c.args in
+    let found : Found a.vertices.now a.indices.now a.b c.origin.result (thresholds_of a.edition) c.thresholds_of.result a.surfaces.now
+    c.walk-w.result c.walk-w.new.rows =
+    record {
+      is_box = c.requires.is_box;
+      is_origin = c.origin.ensures;
+      is_pair = c.thresholds_of.ensures;
+      walked = c.walk-w.ensures;
+    } in
+    arrangeable a.unit_scale found (4 * c.walk-w.result.rows - 0) (omega arith) a.edition c.requires.mesh
 
 pub returns : goal.returns
 returns c =
+    let a = c.args in
+    let found : Found a.vertices.now a.indices.now a.b c.origin.result (thresholds_of a.edition) c.thresholds_of.result a.surfaces.now
+    c.walk-w.result c.walk-w.new.rows =
+    record {
+      is_box = c.requires.is_box;
+      is_origin = c.origin.ensures;
+      is_pair = c.thresholds_of.ensures;
+      walked = c.walk-w.ensures;
+    } in
     let front = 4 * c.walk-w.result.rows in
     let e = c.arrange-e in
     record {
       is =
-          measured (u c.before.before.before.before.before.before.before.before.before.before.before.before.before.before.before.before.before.before) (found c.before.before.before.before.before.before.before.before.before.before.before.before.before.before.before.before.before.before) (front - 0) (omega arith) e.result _ e.ensures _ _ _ _ _ c.requires.mesh.fine
-          c.narrow.ensures c.f32_to_f64_with_nan-cube.ensures c.narrow-2.ensures
-          c.f32_to_f64_with_nan.ensures c.scaled.ensures;
-      few = few (u c.before.before.before.before.before.before.before.before.before.before.before.before.before.before.before.before.before.before) (found c.before.before.before.before.before.before.before.before.before.before.before.before.before.before.before.before.before.before) c.requires.mesh.ids_most;
-      later = rows_after (u c.before.before.before.before.before.before.before.before.before.before.before.before.before.before.before.before.before.before) (found c.before.before.before.before.before.before.before.before.before.before.before.before.before.before.before.before.before.before) (front - 0) (omega arith) e.result _ e.ensures _ (Post-is 0 front (area c.before.before.before.before.before.before.before.before.before.before.before.before.before.before.before.before.before.before) (omega arith));
+          measured a.unit_scale found (front - 0) (omega arith) e.result _ e.ensures _ _ _ _ _ c.requires.mesh.fine c.narrow.ensures
+          c.f32_to_f64_with_nan-cube.ensures c.narrow-2.ensures c.f32_to_f64_with_nan.ensures c.scaled.ensures;
+      few = few a.unit_scale found c.requires.mesh.ids_most;
+      later =
+          rows_after a.unit_scale found (front - 0) (omega arith) e.result _ e.ensures _ (Post-is 0 front c.walk-w.new.rows (omega arith));
     }

@@ -9,9 +9,9 @@ unfolding words_of
 returns c =
     let t = c.args.t in
     λ i.
-    c.quality_number.ensures i
+    c.from.ensures i
     ∷ byte_bit t.qto.volume_reliable i
-    ∷ c.method_number.ensures i
+    ∷ c.from-2.ensures i
     ∷ c.profile_number.ensures i
     ∷ c.bits.ensures i
     ∷ c.bits-2.ensures i

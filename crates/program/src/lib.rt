@@ -17,7 +17,6 @@ ghost use Rattle.program.specs.StlText.{stl_unit, stl_text_of};
 
 use listing::Listed;
 use meshfile::{MeshFile, Reading};
-use pieces::PieceCount;
 use qto::Answer;
 use record::{MeshQto, Profile};
 use stl::Stl;
@@ -39,11 +38,7 @@ fn pieces_of(ids: &[u32], work: &mut [u32]) -> u32
     requires { (length ids.now ≤ 1536) × (512 ≤ length work.old) }
     ensures { result ≡ pieces_in share_edge ids.now }
 {
-    let count = pieces::pieces(ids, work);
-    match count {
-        PieceCount::Answer(n) => n,
-        PieceCount::Refused(_) => 0,
-    }
+    pieces::pieces(ids, work).unwrap()
 }
 
 // `refused N`.

@@ -12,28 +12,8 @@ ghost use Rattle.chain.specs.Answers.{EdgeChainGiven, FaceNetGiven, VerdictGiven
 ghost use Rattle.chain.specs.Answers.{ClosedManifoldGiven, WindingCoherentGiven};
 ghost use Rattle.chain.specs.inner.Questions.{question_of};
 
+use ids::Refusal;
 pub use tally::{Incidence, Net};
-
-// What the edge chain answers: boundary-free and over-incident, by name.
-#[derive(Clone, Copy)]
-pub enum EdgeChain {
-    Answer(Incidence),
-    Refused(u8),
-}
-
-// What the face net answers: the largest magnitude of a face's sum, and whether all sums are 0.
-#[derive(Clone, Copy)]
-pub enum FaceNet {
-    Answer(Net),
-    Refused(u8),
-}
-
-// What the routines answer that say yes or no.
-#[derive(Clone, Copy)]
-pub enum Verdict {
-    Answer(bool),
-    Refused(u8),
-}
 
 // ---- over an area of just the words needed, which is zero afterwards
 
@@ -108,53 +88,47 @@ fn question_in(ids: &[u32], part: &mut [u32], winding: bool) -> bool
 }
 
 // Refuses, or answers the question about the winding or the other.
-fn question(ids: &[u32], work: &mut [u32], winding: bool) -> Verdict
+#[tactic(auto, using(table::proofs::Words::answered))]
+fn question(ids: &[u32], work: &mut [u32], winding: bool) -> Result<bool, Refusal>
     ensures { VerdictGiven (question_of winding) ids.now work.old result work.new }
 {
     let m = 4 * ids.len();
-    let refusal = table::refusal(ids.len(), m, work.len());
-    if 0 < refusal {
-        return Verdict::Refused(refusal);
-    }
-    Verdict::Answer(question_in(ids, &mut work[..m], winding))
+    table::admit(ids.len(), m, work.len())?;
+    Ok(question_in(ids, &mut work[..m], winding))
 }
 
 // ---- the public routines
 
 // The edge chain of a list of ids: is it boundary-free, is it over-incident?
-pub fn edge_chain(ids: &[u32], work: &mut [u32]) -> EdgeChain
+#[tactic(auto, using(table::proofs::Words::answered))]
+pub fn edge_chain(ids: &[u32], work: &mut [u32]) -> Result<Incidence, Refusal>
     ensures { EdgeChainGiven ids.now work.old result work.new }
 {
     let m = 4 * ids.len();
-    let refusal = table::refusal(ids.len(), m, work.len());
-    if 0 < refusal {
-        return EdgeChain::Refused(refusal);
-    }
-    EdgeChain::Answer(chain_in(ids, &mut work[..m]))
+    table::admit(ids.len(), m, work.len())?;
+    Ok(chain_in(ids, &mut work[..m]))
 }
 
 // Is each edge used twice, once each way?
-pub fn is_closed_manifold(ids: &[u32], work: &mut [u32]) -> Verdict
+pub fn is_closed_manifold(ids: &[u32], work: &mut [u32]) -> Result<bool, Refusal>
     ensures { ClosedManifoldGiven ids.now work.old result work.new }
 {
     question(ids, work, false)
 }
 
 // Is at most one edge in fifty used neither once nor twice, once each way?
-pub fn winding_coherent(ids: &[u32], work: &mut [u32]) -> Verdict
+pub fn winding_coherent(ids: &[u32], work: &mut [u32]) -> Result<bool, Refusal>
     ensures { WindingCoherentGiven ids.now work.old result work.new }
 {
     question(ids, work, true)
 }
 
 // The face net of a list of ids: the largest magnitude of a face's sum, and whether all sums are 0.
-pub fn face_net(ids: &[u32], work: &mut [u32]) -> FaceNet
+#[tactic(auto, using(table::proofs::Words::answered))]
+pub fn face_net(ids: &[u32], work: &mut [u32]) -> Result<Net, Refusal>
     ensures { FaceNetGiven ids.now work.old result work.new }
 {
     let m = 4 * (ids.len() / 3);
-    let refusal = table::refusal(ids.len(), m, work.len());
-    if 0 < refusal {
-        return FaceNet::Refused(refusal);
-    }
-    FaceNet::Answer(net_in(ids, &mut work[..m]))
+    table::admit(ids.len(), m, work.len())?;
+    Ok(net_in(ids, &mut work[..m]))
 }

@@ -1,19 +1,21 @@
 -- The routines on ids do not see the turn: their answers are made of what edges, faces and pieces say, and that is the same. Assumes
 -- nothing.
-use mathlib.Core.Path.{◌≡◌}
+use mathlib.Core.Path.{◌≡◌, ap}
 use mathlib.Core.List.{List}
 use Prim.Native.Nat.{ℕ, ◌*◌}
 use lib.ListN.{length}
 use Rattle.ids.specs.Triangles.{triangle_count}
+use Rattle.ids.specs.declared.refusal.Refusal.{Refusal}
 use Rattle.ids.specs.Lent.{Gives}
 use Rattle.ids.specs.Reversed.{reversed}
 use Rattle.ids.proofs.Reversed.{reversed_is}
 use Rattle.ids.proofs.ReversedAlike.{reversed_alike}
 use Rattle.chain.specs.Answers.{incidence_of, net_of}
+use Rattle.chain.specs.Numbers.{incidence_number, net_number}
 use Rattle.glove.specs.Ids.{Unseen, IdsUnseen}
 
 -- as many ids, so the same refusal and the same words; and the same answer
-unseen : {A : Type 0} (needed : List ℕ → ℕ) (refused : ℕ → A) (answer : List ℕ → A)
+unseen : {A : Type 0} (needed : List ℕ → ℕ) (refused : Refusal → A) (answer : List ℕ → A)
     → ((ids : List ℕ) → needed (reversed ids) ≡ needed ids) → ((ids : List ℕ) → answer (reversed ids) ≡ answer ids)
     → Unseen (λ ids area r after. Gives (needed ids) refused (answer ids) ids area r after)
 unseen needed refused answer n e ids area r r' after after' g g' =
@@ -45,8 +47,8 @@ ids_unseen =
       is_closed_manifold = unseen _ _ _ four_an_id (λ ids. rw (reversed_alike ids).closed_manifold_lem);
       winding_coherent = unseen _ _ _ four_an_id (λ ids. rw (reversed_alike ids).winding_coherent_lem);
       piece_count = unseen _ _ _ one_a_triangle (λ ids. rw (reversed_alike ids).piece_count);
-      mf_edge_chain = unseen _ _ _ four_an_id (λ ids. rw (incidence_same ids));
-      mf_face_net = unseen _ _ _ four_a_triangle (λ ids. rw (net_same ids));
+      mf_edge_chain = unseen _ _ _ four_an_id (λ ids. ap incidence_number (incidence_same ids));
+      mf_face_net = unseen _ _ _ four_a_triangle (λ ids. ap net_number (net_same ids));
       mf_is_closed_manifold = unseen _ _ _ four_an_id (λ ids. rw (reversed_alike ids).closed_manifold_lem);
       mf_winding_coherent = unseen _ _ _ four_an_id (λ ids. rw (reversed_alike ids).winding_coherent_lem);
       mf_pieces = unseen _ _ _ one_a_triangle (λ ids. rw (reversed_alike ids).piece_count);

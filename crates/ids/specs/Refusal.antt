@@ -1,5 +1,6 @@
 -- The numbers of the refusals, as documents 01 and 02 have them.
-use Rattle.std.specs.Prelude.{ℕ}
+use Rattle.std.specs.Prelude.{ℕ, ◌+◌, Ok, Err}
+use Rattle.std.specs.declared.result.Result.{Result}
 use Rattle.ids.specs.declared.refusal.Refusal.{Refusal}
 use Rattle.ids.specs.declared.refusal.Refusal.TheVariants as refusal
 
@@ -11,3 +12,12 @@ refusal_number refusal.Float = 4
 refusal_number refusal.File = 5
 refusal_number refusal.FileTooLarge = 6
 refusal_number refusal.Edition = 7
+
+-- as the C interface has them: 2^31 more
+abbrev pub refused_number : Refusal → ℕ
+refused_number r = 2147483648 + refusal_number r
+
+-- an answer that is a number, or the refusal's, as the C interface has it
+unfoldable pub answer_number : Result ℕ Refusal → ℕ
+answer_number (Ok n) = n
+answer_number (Err r) = refused_number r

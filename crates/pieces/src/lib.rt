@@ -16,12 +16,7 @@ ghost use Rattle.sides.specs.inner.Passes.{Settles};
 ghost use Rattle.pieces.specs.inner.Joined.{Tied, Whole, is_root};
 ghost use Rattle.pieces.specs.Answer.{PiecesGiven};
 
-// The number of pieces, or the number of the refusal.
-#[derive(Clone, Copy)]
-pub enum PieceCount {
-    Answer(u32),
-    Refused(u8),
-}
+use ids::Refusal;
 
 // ---- a triangle that found no room in free slots: there are fewer than three
 
@@ -131,14 +126,12 @@ fn pieces_in(ids: &[u32], work: &mut [u32]) -> u32
     r
 }
 
-// The number of pieces. Refused: 1, more than 98,304 ids; 3, fewer words than triangles.
-pub fn pieces(ids: &[u32], work: &mut [u32]) -> PieceCount
+// The number of pieces. Refused: more than 98,304 ids, and fewer words than triangles.
+#[tactic(auto, using(table::proofs::Words::answered))]
+pub fn pieces(ids: &[u32], work: &mut [u32]) -> Result<u32, Refusal>
     ensures { PiecesGiven ids.now work.old result work.new }
 {
     let n = ids.len() / 3;
-    let refusal = table::refusal(ids.len(), n, work.len());
-    if 0 < refusal {
-        return PieceCount::Refused(refusal);
-    }
-    PieceCount::Answer(pieces_in(ids, &mut work[..n]))
+    table::admit(ids.len(), n, work.len())?;
+    Ok(pieces_in(ids, &mut work[..n]))
 }

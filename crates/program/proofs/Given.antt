@@ -9,6 +9,9 @@ use native.Mathlib.Omega.{arith}
 use borrow.Author.Tests.{le-ltb}
 use lib.ListN.{length, take}
 use lib.Ieee.{Float}
+use Rattle.std.specs.Prelude.{Ok}
+use Rattle.std.specs.declared.result.Result.{Result}
+use Rattle.ids.specs.declared.refusal.Refusal.{Refusal}
 use Rattle.ids.specs.Triangles.{triangle_count}
 use Rattle.ids.specs.Lent.{refusal, unless_refused, most_entries}
 use Rattle.ids.specs.Pieces.{share_edge, pieces}
@@ -16,7 +19,6 @@ use Rattle.rows.specs.Rows.{rows_of}
 use Rattle.record.specs.declared.ProfileDefect.{ProfileDefect}
 use Rattle.record.specs.declared.MeshQto.{MeshQto}
 use Rattle.record.specs.Flags.{marked, if_clip, if_invalid, flagged}
-use Rattle.pieces.specs.declared.PieceCount.{PieceCount}
 use Rattle.pieces.specs.Answer.{PiecesGiven}
 use Rattle.listing.specs.Listing.{listing_of, refused_line}
 use Rattle.listing.specs.Lists.{head_bytes, text_bytes, text_areas_short, listed_as, area_with, listing_for, Lists, ListsRefusal}
@@ -24,14 +26,10 @@ use Rattle.program.specs.Program.{Prints}
 
 -- ---- pieces
 
-unfoldable pub count_in : PieceCount → ℕ
-count_in (PieceCount.Answer n) = n
-count_in (PieceCount.Refused n) = 0
-
-pub pieces_counted : (ids area : List ℕ) (r : PieceCount) (after : List ℕ) → length ids ≤ 1536 → 512 ≤ length area
+pub pieces_counted : (ids area : List ℕ) (r : Result ℕ Refusal) (after : List ℕ) → length ids ≤ 1536 → 512 ≤ length area
     → PiecesGiven ids area r after
-    → count_in r ≡ pieces share_edge ids
-unfolding count_in unless_refused refusal
+    → r ≡ Ok (pieces share_edge ids)
+unfolding unless_refused refusal
 pieces_counted ids area r after hi ha given =
     rw (given.answers, le-ltb most_entries (length ids) (omega arith), le-ltb (length area) (triangle_count ids) (omega arith))
 

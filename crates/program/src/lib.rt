@@ -13,10 +13,18 @@ ghost use Rattle.program.specs.Promises.{PrintsFront};
 ghost use Rattle.program.specs.StlText.{stl_text_of};
 ghost use Rattle.program.specs.inner.Read.{OfTriangles, read_text};
 
+<<<<<<< HEAD
 use ids::Refusal;
 use meshfile::MeshFile;
 use pieces::PieceCount;
 use record::MeshQto;
+=======
+use listing::Listed;
+use meshfile::{MeshFile, Reading};
+use qto::Answer;
+use record::{MeshQto, Profile};
+use stl::Stl;
+>>>>>>> ae4942fe821de2f13d8c653e1f0b9c2f165aea48
 
 // How many bytes of its input a program keeps. The longest file has one byte less, so these decide about all input (`PrintsFront`).
 pub const KEPT: usize = 12319;
@@ -35,11 +43,7 @@ fn pieces_of(ids: &[u32], work: &mut [u32]) -> u32
     requires { (length ids.now ≤ 1536) × (512 ≤ length work.old) }
     ensures { result ≡ pieces_in share_edge ids.now }
 {
-    let count = pieces::pieces(ids, work);
-    match count {
-        PieceCount::Answer(n) => n,
-        PieceCount::Refused(_) => 0,
-    }
+    pieces::pieces(ids, work).unwrap()
 }
 
 // `refused N`.

@@ -9,9 +9,14 @@
 ghost use Rattle.std.specs.Prelude.{◌≤◌, length};
 
 use ids::Refusal;
+<<<<<<< HEAD
 use qto::Takeoff;
 use chain::{EdgeChain, FaceNet, Verdict};
 use meshfile::MeshBits;
+=======
+use meshfile::{MeshBits, Reading, ReadingBits, Writing};
+use qto::Answer;
+>>>>>>> ae4942fe821de2f13d8c653e1f0b9c2f165aea48
 use raster::Pair;
 use std::fs::File;
 use std::io::Read;
@@ -34,32 +39,35 @@ fn print_bit(rt: &impl Print, label: &[u8], yes: bool) {
     print_count(rt, label, yes as u64);
 }
 
+// A refusal, by its number.
+fn print_refused(rt: &impl Print, label: &[u8], why: Refusal) {
+    print_count(rt, label, u32::from(why) as u64);
+}
+
 fn print_chain(rt: &impl Print, ids: &[u32], work: &mut [u32]) {
-    let answer = chain::edge_chain(ids, work);
-    match answer {
-        EdgeChain::Answer(said) => {
+    match chain::edge_chain(ids, work) {
+        Ok(said) => {
             print_bit(rt, b"chain ", said.boundary_free);
             print_bit(rt, b" ", said.over_incident);
         }
-        EdgeChain::Refused(n) => print_count(rt, b"chain refused ", n as u64),
+        Err(why) => print_refused(rt, b"chain refused ", why),
     }
 }
 
 fn print_net(rt: &impl Print, ids: &[u32], work: &mut [u32]) {
-    let answer = chain::face_net(ids, work);
-    match answer {
-        FaceNet::Answer(said) => {
+    match chain::face_net(ids, work) {
+        Ok(said) => {
             print_count(rt, b" net ", said.max_abs as u64);
             print_bit(rt, b" ", said.all_cancel);
         }
-        FaceNet::Refused(n) => print_count(rt, b" net refused ", n as u64),
+        Err(why) => print_refused(rt, b" net refused ", why),
     }
 }
 
-fn print_verdict(rt: &impl Print, label: &[u8], verdict: Verdict) {
+fn print_verdict(rt: &impl Print, label: &[u8], verdict: Result<bool, Refusal>) {
     match verdict {
-        Verdict::Answer(yes) => print_bit(rt, label, yes),
-        Verdict::Refused(n) => print_count(rt, b" refused ", n as u64),
+        Ok(yes) => print_bit(rt, label, yes),
+        Err(why) => print_refused(rt, b" refused ", why),
     }
 }
 

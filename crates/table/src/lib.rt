@@ -1,13 +1,13 @@
 // Triangles, lent areas and tables in them: what the routines on ids, the weld's cells and the surface rows share. Internal.
 #![tactic(auto)]
 
-ghost use Rattle.std.specs.Prelude.{◌≡◌, ◌≤◌, ◌<◌, min, max, length};
+ghost use Rattle.std.specs.Prelude.{◌≡◌, ◌≤◌, ◌<◌, min, max, length, OnOk};
 ghost use Rattle.ids.specs.Triangles.{distinct as is_distinct, triangle};
-ghost use Rattle.ids.specs.Lent.{cleared, refusal as refusal_of};
+ghost use Rattle.ids.specs.Lent.{cleared, refusal, unless_refused, most_entries};
 ghost use Rattle.table.specs.inner.Rows.{home_row, next_row};
 ghost use Rattle.table.specs.inner.Words.{TriangleOf};
 
-use ids::MOST_ENTRIES;
+use ids::{MOST_ENTRIES, Refusal};
 
 mod corners; // a triangle's three ids
 mod uses; // how often a key is used, as its row's word has it
@@ -43,14 +43,19 @@ pub fn distinct_at(ids: &[u32], t: usize) -> bool
     distinct(ids[at], ids[at + 1], ids[at + 2])
 }
 
-// What a routine that needs so many words refuses: the refusal's number, or 0.
-pub fn refusal(ids: usize, needed: usize, lent: usize) -> u8
-    ensures { result ≡ refusal_of ids needed lent }
+// Refuses what every routine on ids refuses: more ids than there may be, and fewer words lent than it needs.
+#[tactic(auto, unfolding(ids::specs::Lent::refusal, ids::specs::Lent::unless_refused))]
+pub fn admit(ids: usize, needed: usize, lent: usize) -> Result<(), Refusal>
+    ensures refuses { result ≡ unless_refused (refusal ids needed lent) Err (Ok tt) }
+    ensures admits { OnOk result ((ids ≤ most_entries) × (needed ≤ lent)) }
 {
     if MOST_ENTRIES < ids {
-        return 1;
+        return Err(Refusal::TooMany);
     }
-    if lent < needed { 3 } else { 0 }
+    if lent < needed {
+        return Err(Refusal::ShortArea);
+    }
+    Ok(())
 }
 
 // Zeroes the first n words.

@@ -1,28 +1,6 @@
--- `chain::question` meets its contract: it gives the one refusal, or the answer over the words lent. Assumes nothing.
-use Prim.Native.Nat.{◌*◌}
-use lib.ListN.{length}
-use Rattle.ids.proofs.Lent.{gives_refusal}
-use Rattle.table.proofs.Words.{Admits, admits, answered}
-use Rattle.chain.specs.declared.Verdict.TheVariants.{Answer}
+-- `chain::question` refuses what `table::admit` refuses. Assumes nothing.
+use Rattle.table.proofs.Words.{refuses}
 use Rattle.chain.proofs.question.Goals as goal
-use Rattle.chain.proofs.question.Lts as lts
-use Rattle.chain.proofs.question.Tie.{the-claims}
-use Rattle.chain.proofs.question.Reads.{Pre, Post}
 
-fine : (c : lts.Else1 the-claims Pre Post) → Admits (4 * length c.args.ids.now) c.args.ids.now c.args.work.now
-fine c = admits _ _ _ c.refusal-refusal.ensures c.if-refusal-gt0.false
-
-pub returns : goal.returns
-returns c = answered Answer (fine c.before.before.before.before.before) c.question_in.ensures
-
-pub returns-then-refusal-gt0 : goal.returns-then-refusal-gt0
-returns-then-refusal-gt0 c = gives_refusal _ _ _ _ _ _ c.refusal-refusal.ensures c.if-refusal-gt0.true
-
-pub slice_bounds-question_in-end : goal.slice_bounds-question_in-end
-slice_bounds-question_in-end c = (fine c.before).fits
-
-pub slice_bounds-question_in-end-2 : goal.slice_bounds-question_in-end-2
-slice_bounds-question_in-end-2 c = (fine c.before.before).whole
-
-pub question_in-requires : goal.question_in-requires
-question_in-requires c = (fine c.before.before).lends
+pub returns-in_err-admit : goal.returns-in_err-admit
+returns-in_err-admit c = refuses _ c.in_err-admit.ensures.refuses c.from_residual.ensures

@@ -1,9 +1,10 @@
 -- A face net whose largest magnitude leaves room for its number. The C form counts on it: that each answer is so is proved.
-use Rattle.std.specs.Prelude.{◌≤◌}
+use Rattle.std.specs.Prelude.{◌≤◌, Ok, Err}
+use Rattle.std.specs.declared.result.Result.{Result}
+use Rattle.ids.specs.declared.refusal.Refusal.{Refusal}
 use Rattle.ids.specs.Lent.{most_entries}
-use Rattle.chain.specs.declared.FaceNet.{FaceNet}
-use Rattle.chain.specs.declared.FaceNet.TheVariants.{Answer, Refused}
+use Rattle.tally.specs.declared.Net.{Net}
 
-unfoldable pub NetSmall : FaceNet → Type 0
-NetSmall (Answer said) = said.max_abs ≤ most_entries
-NetSmall (Refused n) = Unit {0}
+unfoldable pub NetSmall : Result Net Refusal → Type 0
+NetSmall (Ok said) = said.max_abs ≤ most_entries
+NetSmall (Err r) = Unit {0}

@@ -13,18 +13,9 @@ ghost use Rattle.program.specs.Promises.{PrintsFront};
 ghost use Rattle.program.specs.StlText.{stl_text_of};
 ghost use Rattle.program.specs.inner.Read.{OfTriangles, read_text};
 
-<<<<<<< HEAD
 use ids::Refusal;
 use meshfile::MeshFile;
-use pieces::PieceCount;
 use record::MeshQto;
-=======
-use listing::Listed;
-use meshfile::{MeshFile, Reading};
-use qto::Answer;
-use record::{MeshQto, Profile};
-use stl::Stl;
->>>>>>> ae4942fe821de2f13d8c653e1f0b9c2f165aea48
 
 // How many bytes of its input a program keeps. The longest file has one byte less, so these decide about all input (`PrintsFront`).
 pub const KEPT: usize = 12319;
@@ -62,17 +53,8 @@ fn print_record(q: MeshQto, m: MeshFile, count: u32, surfaces: &[f32], text: &mu
         text.old result text.new }
 {
     let profile = m.profile;
-<<<<<<< HEAD
-    let flagged = qto::apply_product_flags(q, m.clip, profile);
-    listing::list(flagged, surfaces, count, text).unwrap()
-=======
     let flagged = q.apply_product_flags(m.clip, profile);
-    let said = listing::list(flagged, surfaces, count, text);
-    match said {
-        Listed::Length(end) => end,
-        Listed::Refused(_) => 0,
-    }
->>>>>>> 5265b5d26de4781976a4ab60fd0ce8636d71382c
+    listing::list(flagged, surfaces, count, text).unwrap()
 }
 
 // The mesh of a file: its listing, or the refusal of the documents' table.

@@ -73,13 +73,7 @@ fn measure(
     );
     let n = w.rows;
     let t = w.totals;
-<<<<<<< HEAD
-    let triangles = w.counts;
-    let areas = t.areas;
     let e = arrange(&mut surfaces[0..4 * n], square);
-=======
-    let e = arrange(&mut surfaces[0..4 * n], n, square);
->>>>>>> 5265b5d26de4781976a4ab60fd0ce8636d71382c
     Measures {
         volume: floats::narrow(t.volume6 / 6.0 * cube),
         surface: floats::narrow(t.surface * std::num::f32_to_f64_with_nan(square)),

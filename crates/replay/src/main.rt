@@ -9,14 +9,8 @@
 ghost use Rattle.std.specs.Prelude.{◌≤◌, length};
 
 use ids::Refusal;
-<<<<<<< HEAD
-use qto::Takeoff;
-use chain::{EdgeChain, FaceNet, Verdict};
 use meshfile::MeshBits;
-=======
-use meshfile::{MeshBits, Reading, ReadingBits, Writing};
-use qto::Answer;
->>>>>>> ae4942fe821de2f13d8c653e1f0b9c2f165aea48
+use qto::Takeoff;
 use raster::Pair;
 use std::fs::File;
 use std::io::Read;

@@ -1,13 +1,9 @@
 // `classify_mesh_quality`: closed, open shell or degenerate. Internal: `qto` asks it; the record has its enum.
 #![tactic(auto)]
 
-<<<<<<< HEAD
-ghost use Rattle.std.specs.Prelude.{◌≡◌, ◌+◌, ◌*◌, ◌≤◌, length, replicate};
-=======
 mod number; // the number of a quality
 
-ghost use Rattle.std.specs.Prelude.{◌≡◌, ◌+◌, ◌*◌, ◌/◌, ◌≤◌, length, drop, replicate};
->>>>>>> 5265b5d26de4781976a4ab60fd0ce8636d71382c
+ghost use Rattle.std.specs.Prelude.{◌≡◌, ◌+◌, ◌*◌, ◌≤◌, length, replicate};
 ghost use Rattle.ids.specs.Lent.{most_entries};
 ghost use Rattle.ids.specs.Triangles.{triangle_count};
 ghost use Rattle.vertices.specs.Areas.{work_words};

@@ -1,10 +1,9 @@
 -- An area whose first words were cleared: they are 0, also in a part that starts the area. Assumes nothing.
-use mathlib.Core.Path.{◌≡◌, sym, ap, ◌∙◌}
-use mathlib.Core.List.{List, ◌++◌}
-use Prim.Native.Nat.{ℕ, ◌+◌, ◌-◌, ◌≤◌, ◌<◌}
-use native.Mathlib.Omega.{arith}
-use lib.ListN.{length, get_or, take, drop, replicate, length-replicate, get_or-replicate, get_or-append}
-use lib.Seq.{get_or-take, drop-drop, drop-append-add}
+use mathlib.Core.Path.{◌≡◌, ap, ◌∙◌}
+use mathlib.Core.List.{List}
+use Prim.Native.Nat.{ℕ, ◌<◌}
+use lib.ListN.{get_or, take, drop, replicate, length-replicate, get_or-replicate, get_or-append}
+use lib.Seq.{get_or-take}
 use Rattle.ids.specs.Lent.{cleared}
 
 module _ (k m : ℕ) (t u : List ℕ) (is : u ≡ cleared k t) where

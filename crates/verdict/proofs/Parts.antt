@@ -1,15 +1,14 @@
 -- Where the ids stand in the lent area: behind a part that starts in the middle, and behind what was written into such a part. Assumes
 -- nothing.
-use mathlib.Core.Path.{◌≡◌, refl, sym, ap, ◌∙◌}
+use mathlib.Core.Path.{◌≡◌, refl, ap, ◌∙◌}
 use mathlib.Core.Bool.{Bool}
 use mathlib.Core.List.{List, [], ◌++◌}
 use Prim.Native.Nat.{ℕ, ◌+◌, ◌-◌, ◌*◌, ◌/◌, ◌≤◌}
 use native.Mathlib.Omega.{arith}
-use borrow.Author.Rules.{part_to_end}
 use Rattle.std.specs.Prelude.{Option}
 use borrow.Rule.Slice.PartMut.{post_of, Post-is}
 use lib.ListN.{length, take, drop, length-drop, drop_of_length-le}
-use lib.Seq.{length-take-le, drop-drop, drop_at, drop-append-add}
+use lib.Seq.{length-take-le, drop_at, drop-append-add}
 use Rattle.ids.proofs.Triangles.{append_none}
 use Rattle.verdict.specs.inner.Steps.{chained}
 use Rattle.verdict.specs.declared.Quality.{Quality}

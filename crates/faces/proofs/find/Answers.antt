@@ -1,8 +1,7 @@
 -- `faces::find` meets its contract, by the law of a turn: each row passed is used by another face. As some row is free, it ends. Assumes
 -- nothing.
 use mathlib.Core.Path.{◌≡◌, sym, ◌∙◌}
-use mathlib.Core.Bool.{false}
-use Prim.Native.Nat.{ℕ, ◌*◌}
+use Prim.Native.Nat.{ℕ}
 use native.Mathlib.Omega.{arith}
 use Rattle.ids.specs.FaceNet.{Face, same_face}
 use Rattle.ids.proofs.Same.{face_eq, face_refl, same_ne}

@@ -1,7 +1,6 @@
 -- `faces::triangle` meets its contract: no use where an id repeats, else one, from what the search found and what was written, by the law
 -- `adding`. Assumes nothing.
-use mathlib.Core.Path.{sym, ap, ◌∙◌}
-use Rattle.ids.specs.Triangles.{Triangle, triangle, distinct}
+use mathlib.Core.Path.{sym, ◌∙◌}
 use Rattle.faces.specs.inner.Rows.{face_of}
 use Rattle.faces.proofs.Adding.{FaceSought, seekable, bump_fits, adding}
 use Rattle.faces.proofs.Turns.{adds_none, adds_one}

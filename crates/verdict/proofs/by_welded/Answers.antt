@@ -1,6 +1,6 @@
 -- `verdict::by_welded` meets its contract: the ids asked are the welded ones, which the weld wrote behind its table. Assumes nothing.
 use mathlib.Core.Path.{ap, ◌∙◌}
-use Prim.Native.Nat.{ℕ, ◌*◌}
+use Prim.Native.Nat.{◌*◌}
 use lib.ListN.{replicate, length-replicate}
 use Rattle.vertices.specs.Vertices.{vertex_count}
 use Rattle.verdict.specs.inner.Steps.{open_unless_free}

@@ -36,7 +36,7 @@ pub fn coded_size(sign: u64, n: u64) -> u64
 fn cell(x: f32, inv: f64) -> u64
     ensures { result ≡ coded_of (cell_of inv x) }
 {
-    if x != x {
+    if x.is_nan() {
         return 0;
     }
     let y = x as f64 * inv;

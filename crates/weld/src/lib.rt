@@ -76,7 +76,7 @@ pub fn welded_indices(vertices: &[f32], indices: &[u32], eps: f32, part: &mut [u
         ≡ replicate (8 * vertex_count vertices.now) 0 ++ welded vertices.now indices.now eps }
 {
     let m = 8 * (vertices.len() / 3);
-    if (eps != eps) | ((eps <= 0.0) | (vertices.len() < 3)) {
+    if eps.is_nan() | ((eps <= 0.0) | (vertices.len() < 3)) {
         keep(indices, part, m);
         return;
     }

@@ -1,73 +1,56 @@
 -- `cells::cell` meets its contract: below 2 ^ 52 by the pattern's size and sign, from there on by the integer. Assumes nothing.
 use mathlib.Core.Path.{◌≡◌, sym, ap, ◌∙◌}
-use mathlib.Core.Bool.{true, not}
-use Prim.Native.Nat.{ℕ, ◌-◌, ◌*◌, ◌/◌, ◌^◌, ◌<◌, min}
+use mathlib.Core.Bool.{true}
+use Prim.Native.Nat.{ℕ, ◌+◌, ◌-◌, ◌*◌, ◌/◌, ◌^◌, ◌<◌, min}
 use native.Mathlib.Omega.{arith}
 use mir.Syntax.{w64}
-use lib.Dec.{T}
-use lib.Ieee.{Float, binary64, is_nan, mul, ne, of_bits, to_signed}
+use lib.Ieee.{Float, binary64, low, is_nan, mul, of_bits, to_bits, to_signed}
 use lib.Ieee.Bits.{of_bits-to_bits, to_bits-lt}
 use lib.Ieee.Fits.{mul-fits}
-use Rattle.ieee.specs.Integral.{half_away, integral}
+use Rattle.ieee.specs.Integral.{half, half_away, integral, to_whole}
 use Rattle.ieee.proofs.Order.Ranges.{signed_kept}
-use Rattle.ieee.proofs.Patterns.Nan.{is_nan_lem, ne_self, same_no_nan}
+use Rattle.ieee.proofs.Patterns.Integral.{field, size_of}
+use Rattle.ieee.proofs.Patterns.Nan.{is_nan_lem}
 use Rattle.ieee.proofs.Patterns.Rounding.{already}
 use Rattle.cells.specs.inner.Table.{coded}
 use Rattle.cells.specs.Cells.{cell_of}
 use Rattle.cells.proofs.Signs.{by_pattern}
-use borrow.Author.Rules.{rules}
 use Rattle.cells.proofs.cell.Goals as goal
-use Rattle.cells.proofs.cell.Lts as lts
-use Rattle.cells.proofs.cell.Tie.{the-claims}
-use Rattle.cells.proofs.cell.Reads.{Pre, Post}
 
-nan-cell : (inv x : Float) → ne x x ≡ true → 0 ≡ coded (cell_of inv x)
+nan-cell : (inv x : Float) → is_nan x ≡ true → 0 ≡ coded (cell_of inv x)
 unfolding coded cell_of mul integral to_signed
-nan-cell inv x h = let e = is_nan_lem x (sym (ne_self x) ∙ h) in rw e
+nan-cell inv x h = let e = is_nan_lem x h in rw e
 
 -- the coordinate times 1/ε, and its pattern
-module _ (c : lts.After-bits the-claims Pre Post) where
-  abbrev x : Float
-  x = c.args.x
-
-  abbrev inv : Float
-  inv = c.args.inv
-
+module _ (x inv : Float) (b : ℕ) (pattern : b ≡ to_bits binary64 (mul binary64 x inv)) where
   abbrev y : Float
   y = mul binary64 x inv
 
-  abbrev b : ℕ
-  b = c.bits-b.result
-
   is : of_bits binary64 b ≡ y
-  is = ap (of_bits binary64) c.bits-b.ensures ∙ of_bits-to_bits binary64 y (mul-fits binary64 x inv)
+  is = ap (of_bits binary64) pattern ∙ of_bits-to_bits binary64 y (mul-fits binary64 x inv)
 
   below : b < 2 ^ 64
-  below = rw c.bits-b.ensures (to_bits-lt binary64 y (mul-fits binary64 x inv))
+  below = rw pattern (to_bits-lt binary64 y (mul-fits binary64 x inv))
 
--- below 2 ^ 52
-small : (c : lts.After-half_size the-claims Pre Post) → let n = c.half_size.result in
-    (2 * n - min (b c.before.before / 2 ^ 63) n ≡ coded (to_signed 63 (half_away binary64 (y c.before.before)))) × (n < 2 ^ 63)
-small c =
-    by_pattern binary64 63 (omega arith) (y c.before.before) (b c.before.before) c.half_size.result (is c.before.before) (below c.before.before) c.if-e-lt1075.true c.half_size.ensures
+  -- below 2 ^ 52
+  small : (n : ℕ) → field binary64 b < low binary64 + 1 → n ≡ to_whole half (size_of binary64 b) (2 ^ low binary64)
+      → (2 * n - min (b / 2 ^ 63) n ≡ coded (to_signed 63 (half_away binary64 y))) × (n < 2 ^ 63)
+  small n few whole = by_pattern binary64 63 (omega arith) y b n is below few whole
 
-pub returns-then-x : goal.returns-then-x
-returns-then-x c = nan-cell c.args.inv c.args.x c.if-x.true
-
-pub float_to_float-y : goal.float_to_float-y
-float_to_float-y c =
-    let number : T (not (is_nan c.args.x)) = same_no_nan c.args.x c.if-x.false in
-    search (rules, number)
+pub returns-then-is_nan : goal.returns-then-is_nan
+returns-then-is_nan c = nan-cell c.args.inv c.args.x (sym c.is_nan.ensures.value ∙ c.if-is_nan.true)
 
 pub coded_size-requires : goal.coded_size-requires
-coded_size-requires c = (small c.before).1
+coded_size-requires c = (small c.args.x c.args.inv _ c.bits-b.ensures _ c.if-e-lt1075.true c.half_size.ensures).1
 
 pub returns-then-e-lt1075 : goal.returns-then-e-lt1075
 unfolding cell_of
-returns-then-e-lt1075 c = c.coded_size.ensures ∙ (small c.before).0
+returns-then-e-lt1075 c =
+    c.coded_size.ensures ∙ (small c.args.x c.args.inv _ c.bits-b.ensures _ c.if-e-lt1075.true c.half_size.ensures).0
 
 pub returns-else-e-lt1075 : goal.returns-else-e-lt1075
 unfolding cell_of
 returns-else-e-lt1075 c =
+    let a = c.args in
     rw (c.coded.ensures, c.to_integer.ensures) (ap coded (signed_kept w64 _
-    ∙ already (y c.before.before.before) (b c.before.before.before) (is c.before.before.before) (mul-fits binary64 (x c.before.before.before) (inv c.before.before.before)) c.if-e-lt1075.false))
+    ∙ already (mul binary64 a.x a.inv) c.bits-b.result (is a.x a.inv _ c.bits-b.ensures) (mul-fits binary64 a.x a.inv) c.if-e-lt1075.false))

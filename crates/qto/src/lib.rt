@@ -18,10 +18,10 @@ use walk::TriangleCounts;
 
 // A mesh as the caller gave it.
 #[derive(Clone, Copy)]
-pub struct Mesh<'a> {
-    pub vertices: &'a [f32],
-    pub indices: &'a [u32],
-    pub unit_scale: f32,
+struct Mesh<'a> {
+    vertices: &'a [f32],
+    indices: &'a [u32],
+    unit_scale: f32,
 }
 
 // ---- what is measured

@@ -85,7 +85,7 @@ class Stores(unittest.TestCase):
 
     def test_only_a_full_record_lends_the_surface_area_on(self) -> None:
         _, body = functions()["qto", "compute"]
-        arm = "Check::Full=>{Answer::Record(full(vertices,indices,unit_scale,edition,work,raster,surfaces,))}"
+        arm = "Check::Full=>{letmesh=Mesh{vertices,indices,unit_scale,};Ok(full(&mesh,edition,work,raster,surfaces))}"
         self.assertIn(arm, re.sub(r"\s", "", body))
 
     def test_the_centres_are_no_callers(self) -> None:

@@ -95,7 +95,9 @@ pub extern "C" fn mf_compute(
     match answer {
         Ok(t) => {
             let pairs = t.pairs;
-            let qto = t.qto.apply_product_flags(clip == 1, record::profile_of(defect));
+            let qto = t
+                .qto
+                .apply_product_flags(clip == 1, record::profile_of(defect));
             *record = record_words(Takeoff { qto, pairs });
             0
         }

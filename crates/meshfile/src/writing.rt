@@ -42,7 +42,14 @@ fn put_flags(clip: bool, profile: Option<ProfileDefect>, area: &mut [u8])
 
 // ---- the records in their order
 
-fn put_file(unit: u32, vertices: &[u32], ids: &[u32], clip: bool, profile: Option<ProfileDefect>, area: &mut [u8])
+fn put_file(
+    unit: u32,
+    vertices: &[u32],
+    ids: &[u32],
+    clip: bool,
+    profile: Option<ProfileDefect>,
+    area: &mut [u8],
+)
     requires { (length area.old ≡ 30 + 4 * length vertices.now + 4 * length ids.now)
         × (length vertices.now ≤ most_in_file) × (length ids.now ≤ most_in_file) }
     ensures { area.new ≡ file_bytes (contents_of unit vertices.now ids.now clip profile) }

@@ -16,6 +16,14 @@ use verdict::Sizes;
 use volume::Pairs;
 use walk::TriangleCounts;
 
+// A mesh as the caller gave it.
+#[derive(Clone, Copy)]
+struct Mesh<'a> {
+    vertices: &'a [f32],
+    indices: &'a [u32],
+    unit_scale: f32,
+}
+
 // ---- what is measured
 
 #[derive(Clone, Copy)]
@@ -49,23 +57,22 @@ pub struct Measures {
 
 // The sums over the mesh, and its surface rows.
 fn measure(
-    vertices: &[f32],
-    indices: &[u32],
+    mesh: &Mesh,
     b: Bounds,
-    unit_scale: f32,
     edition: u32,
     index: &mut [u32],
     surfaces: &mut [f32],
 ) -> Measures
-    requires { Measurable vertices.now indices.now b unit_scale edition index.old surfaces.old }
-    ensures { Measured vertices.now indices.now unit_scale edition surfaces.old
+    requires { Measurable mesh.now.vertices.now mesh.now.indices.now b mesh.now.unit_scale edition
+        index.old surfaces.old }
+    ensures { Measured mesh.now.vertices.now mesh.now.indices.now mesh.now.unit_scale edition surfaces.old
         result surfaces.new }
 {
-    let square = unit_scale * unit_scale;
-    let cube = std::num::f32_to_f64_with_nan(square * unit_scale);
+    let square = mesh.unit_scale * mesh.unit_scale;
+    let cube = std::num::f32_to_f64_with_nan(square * mesh.unit_scale);
     let w = walk::walk(
-        vertices,
-        indices,
+        mesh.vertices,
+        mesh.indices,
         sums::origin(b),
         sums::thresholds_of(edition),
         index,
@@ -95,28 +102,21 @@ pub struct Takeoff {
 }
 
 // The record of a mesh and its pairs, by its measures. Work words and raster are zero afterwards.
-fn record_by(
-    vertices: &[f32],
-    indices: &[u32],
-    b: Bounds,
-    unit_scale: f32,
-    m: Measures,
-    work: &mut [u32],
-    raster: &mut [u8],
-) -> Takeoff
-    requires { Recordable vertices.now indices.now b m work.old raster.old }
-    ensures { RecordedBy vertices.now indices.now unit_scale m result work.new raster.new }
+fn record_by(mesh: &Mesh, b: Bounds, m: Measures, work: &mut [u32], raster: &mut [u8]) -> Takeoff
+    requires { Recordable mesh.now.vertices.now mesh.now.indices.now b m work.old raster.old }
+    ensures { RecordedBy mesh.now.vertices.now mesh.now.indices.now mesh.now.unit_scale m
+        result work.new raster.new }
 {
-    let cube = unit_scale * unit_scale * unit_scale;
+    let cube = mesh.unit_scale * mesh.unit_scale * mesh.unit_scale;
     let aabb = sums::box_volume(b, cube);
-    let eps = weld::epsilon(1e-4, unit_scale);
+    let eps = weld::epsilon(1e-4, mesh.unit_scale);
     let s = Sizes {
         volume: m.volume,
         surface: m.surface,
         aabb,
     };
-    let q = verdict::classify_mesh_quality(vertices, indices, eps, s, work);
-    let carried = volume::best_volume(q, s, vertices, indices, b, cube, raster);
+    let q = verdict::classify_mesh_quality(mesh.vertices, mesh.indices, eps, s, work);
+    let carried = volume::best_volume(q, s, mesh.vertices, mesh.indices, b, cube, raster);
     let best = carried.best;
     let qto = MeshQto {
         volume_m3: m.volume,
@@ -147,42 +147,24 @@ fn record_by(
 
 // The full record and its pairs: parts of the lent areas from their front. The rows' index stands where the edge part will stand.
 fn full(
-    vertices: &[f32],
-    indices: &[u32],
-    unit_scale: f32,
+    mesh: &Mesh,
     edition: u32,
     work: &mut [u32],
     raster: &mut [u8],
     surfaces: &mut [f32],
 ) -> Takeoff
-    requires { Admitted vertices.now indices.now unit_scale edition
+    requires { Admitted mesh.now.vertices.now mesh.now.indices.now mesh.now.unit_scale edition
         (length work.old) (length raster.old) (length surfaces.old) }
-    ensures { Recorded vertices.now indices.now unit_scale edition
+    ensures { Recorded mesh.now.vertices.now mesh.now.indices.now mesh.now.unit_scale edition
         work.old raster.old surfaces.old
         result work.new raster.new surfaces.new }
 {
-    let b = sums::box_of(vertices);
-    let n = 5 * (indices.len() / 3);
-    let m = measure(
-        vertices,
-        indices,
-        b,
-        unit_scale,
-        edition,
-        &mut work[0..n],
-        surfaces,
-    );
-    let words = refusals::work_words(vertices.len(), indices.len());
+    let b = sums::box_of(mesh.vertices);
+    let n = 5 * (mesh.indices.len() / 3);
+    let m = measure(mesh, b, edition, &mut work[0..n], surfaces);
+    let words = refusals::work_words(mesh.vertices.len(), mesh.indices.len());
     let bytes = refusals::raster_bytes();
-    record_by(
-        vertices,
-        indices,
-        b,
-        unit_scale,
-        m,
-        &mut work[0..words],
-        &mut raster[0..bytes],
-    )
+    record_by(mesh, b, m, &mut work[0..words], &mut raster[0..bytes])
 }
 
 // The zero record, and no pairs.
@@ -221,9 +203,12 @@ pub fn compute(
     )? {
         Check::Zero => Ok(zero_takeoff()),
         Check::Full => {
-            Ok(full(
-                vertices, indices, unit_scale, edition, work, raster, surfaces,
-            ))
+            let mesh = Mesh {
+                vertices,
+                indices,
+                unit_scale,
+            };
+            Ok(full(&mesh, edition, work, raster, surfaces))
         }
     }
 }

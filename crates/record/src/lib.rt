@@ -120,7 +120,11 @@ impl MeshQto {
     fn if_clip(self, clip: bool) -> MeshQto
         ensures { result ≡ if_clip clip self }
     {
-        if clip { self.mark_clip_unapplied() } else { self }
+        if clip {
+            self.mark_clip_unapplied()
+        } else {
+            self
+        }
     }
 
     // The record with or without a defect.
@@ -159,6 +163,7 @@ impl From<ProfileDefect> for u32 {
 }
 
 // 0 for a valid one.
+// Stays: a function, since neither Option nor u32 is a type of this crate, so that no From can be written for them here.
 #[tactic(auto, unfolding(crate::specs::Numbers::profile_number))]
 pub fn profile_number(profile: Option<ProfileDefect>) -> u32
     ensures { result ≡ profile_number profile }
@@ -178,6 +183,7 @@ pub fn flags_fit(clip: u32, defect: u32) -> bool
     (clip <= 1) & (defect <= 4)
 }
 
+// Stays: a function, for the same reason.
 // The profile of a number: 0 is a valid one, and all from 4 are the last defect.
 pub fn profile_of(defect: u32) -> Option<ProfileDefect>
     ensures { result ≡ profile_at defect }

@@ -116,7 +116,12 @@ fn print_short(
 
 // ---- in areas that suffice, under an edition
 
-fn answer_under(edition: u32, vertices: &[f32], ids: &[u32], unit: f32) -> Result<Takeoff, Refusal> {
+fn answer_under(
+    edition: u32,
+    vertices: &[f32],
+    ids: &[u32],
+    unit: f32,
+) -> Result<Takeoff, Refusal> {
     let mut work = [0u32; 13824];
     let mut raster = [0u8; 65536];
     let mut surfaces = [0f32; 2048];

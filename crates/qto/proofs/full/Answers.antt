@@ -11,7 +11,7 @@ use borrow.Rule.Slice.PartMut.{post_of}
 use Rattle.qto.proofs.full.Goals as goal
 
 pub slice_bounds-measure-end : goal.slice_bounds-measure-end
-slice_bounds-measure-end c = omega (arith, index_in (length c.args.vertices.now) (length c.args.indices.now), c.requires.work)
+slice_bounds-measure-end c = omega (arith, index_in (length c.args.mesh.now.vertices.now) (length c.args.mesh.now.indices.now), c.requires.work)
 
 pub measure-m-requires : goal.measure-m-requires
 measure-m-requires c =
@@ -20,8 +20,8 @@ measure-m-requires c =
       mesh = c.requires.mesh;
       is_box = c.box_of-b.ensures;
       index_words =
-          front_exact (5 * triangle_count a.indices.now) _ a.work.now refl
-          (omega (arith, index_in (length a.vertices.now) (length a.indices.now), c.requires.work));
+          front_exact (5 * triangle_count a.mesh.now.indices.now) _ a.work.now refl
+          (omega (arith, index_in (length a.mesh.now.vertices.now) (length a.mesh.now.indices.now), c.requires.work));
       room = c.requires.surfaces;
     }
 
@@ -32,7 +32,7 @@ slice_bounds-record_by-end c =
     omega (
       arith,
       c.work_words-words.ensures,
-      still_long (5 * (length a.indices.now / 3)) _ a.work.now m.new.index m.auto.index c.requires.work,
+      still_long (5 * (length a.mesh.now.indices.now / 3)) _ a.work.now m.new.index m.auto.index c.requires.work,
     )
 
 pub slice_bounds-record_by-end-2 : goal.slice_bounds-record_by-end-2
@@ -48,8 +48,8 @@ record_by-requires c =
       is_box = c.box_of-b.ensures;
       few = m.ensures.few;
       words =
-          front_exact (work_words (length a.vertices.now) (length a.indices.now)) _ _ c.work_words-words.ensures
-          (still_long (5 * (length a.indices.now / 3)) _ a.work.now m.new.index m.auto.index c.requires.work);
+          front_exact (work_words (length a.mesh.now.vertices.now) (length a.mesh.now.indices.now)) _ _ c.work_words-words.ensures
+          (still_long (5 * (length a.mesh.now.indices.now / 3)) _ a.work.now m.new.index m.auto.index c.requires.work);
       bytes = front_exact raster_bytes _ a.raster.now c.raster_bytes-bytes.ensures c.requires.raster;
     }
 
@@ -58,12 +58,12 @@ returns c =
     let a = c.args in
     let q = c.record_by in
     let m = c.measure-m in
-    let words = work_words (length a.vertices.now) (length a.indices.now) in
-    let index = 5 * (length a.indices.now / 3) in
-    let within = index_in (length a.vertices.now) (length a.indices.now) in
+    let words = work_words (length a.mesh.now.vertices.now) (length a.mesh.now.indices.now) in
+    let index = 5 * (length a.mesh.now.indices.now / 3) in
+    let within = index_in (length a.mesh.now.vertices.now) (length a.mesh.now.indices.now) in
     record {
       is =
-          of_mesh a.vertices.now a.indices.now a.unit_scale (thresholds_of a.edition) m.result q.result m.ensures.is
+          of_mesh a.mesh.now.vertices.now a.mesh.now.indices.now a.mesh.now.unit_scale (thresholds_of a.edition) m.result q.result m.ensures.is
           q.ensures.is q.ensures.pairs_are;
       work =
           front_cleared words _ (m.new.index ++ post_of 0 (index - 0) a.work.now) q.new.work c.work_words-words.ensures q.ensures.work

@@ -22,10 +22,10 @@ returns c =
     let carried = c.best_volume-carried.ensures in
     record {
       is =
-          assembled a.vertices.now a.indices.now a.unit_scale a.b a.m _ _ _ _ c.requires.is_box boxed ε-is quality-is
+          assembled a.mesh.now.vertices.now a.mesh.now.indices.now a.mesh.now.unit_scale a.b a.m _ _ _ _ c.requires.is_box boxed ε-is quality-is
           carried.0;
       pairs_are =
-          paired a.vertices.now a.indices.now a.unit_scale a.b a.m _ _ _ _ c.requires.is_box boxed ε-is quality-is
+          paired a.mesh.now.vertices.now a.mesh.now.indices.now a.mesh.now.unit_scale a.b a.m _ _ _ _ c.requires.is_box boxed ε-is quality-is
           carried.1;
       work = c.classify_mesh_quality-q.ensures.1;
       raster = carried.2;

@@ -1,5 +1,4 @@
 -- `cube::cube_above_bits` meets its contract. Assumes nothing.
-use Prim.Native.Nat.{◌/◌, ◌%◌, ◌^◌}
 use native.Mathlib.Omega.{arith}
 use Rattle.ieee.proofs.Patterns.Cube.{both_finite, infinite_cube, no_cube, no_square}
 use Rattle.cube.proofs.cube_above_bits.Goals as goal

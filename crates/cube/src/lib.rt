@@ -41,39 +41,51 @@ fn below_cube(a: u64, b: u64, e: u64) -> bool
     q < square
 }
 
-// Whether 8 * s^3 > p^2 for s = a * 2^x / 2^149 and p = b * 2^y / 2^149: so whether b^2 * 2^right < a^3 * 2^left.
-// The lesser of the two powers is taken off both sides.
-fn sizes_above(a: u64, x: u64, b: u64, y: u64) -> bool
-    requires { (a < 2 ^ 24) × (x < 254) × (b < 2 ^ 24) × (y < 254) }
-    ensures { result ≡ ltb (b * 2 ^ y * (b * 2 ^ y) * 2 ^ 149) (8 * (a * 2 ^ x * (a * 2 ^ x) * (a * 2 ^ x))) }
+// The size of a finite `f32`: digits * 2^place / 2^149.
+#[derive(Clone, Copy)]
+struct Size {
+    digits: u64,
+    place: u64,
+    ghost few: { digits < 2 ^ 24 },
+    ghost near: { place < 254 },
+}
+
+// Whether 8 * s^3 > p^2: so whether b^2 * 2^right < a^3 * 2^left, of the digits a and b. The lesser of the two powers is
+// taken off both sides.
+fn sizes_above(s: Size, p: Size) -> bool
+    ensures { result ≡ ltb (p.digits * 2 ^ p.place * (p.digits * 2 ^ p.place) * 2 ^ 149)
+        (8 * (s.digits * 2 ^ s.place * (s.digits * 2 ^ s.place) * (s.digits * 2 ^ s.place))) }
 {
-    let left = 3 * x + 3;
-    let right = 2 * y + 149;
+    let square = p.digits * p.digits;
+    let left = 3 * s.place + 3;
+    let right = 2 * p.place + 149;
     if left <= right {
-        below_cube(a, b * b, right - left)
+        below_cube(s.digits, square, right - left)
     } else {
-        below_cube(a, shifted_down(b * b, left - right), 0)
+        below_cube(s.digits, shifted_down(square, left - right), 0)
     }
 }
 
-// A finite float's digits and their place, by the fields of its pattern: its size is digits * 2^place / 2^149.
-#[tactic(auto, using(ieee::proofs::Patterns::Fields::sig_above, ieee::proofs::Patterns::Fields::sig_zero))]
-fn digits(b: u64) -> u64
-    ensures { (result ≡ sig binary32 (b % 2 ^ 31 / 2 ^ 23) (b % 2 ^ 23)) × (result < 2 ^ 24) }
+// The size that a pattern says, but for the sign.
+#[tactic(auto, using(ieee::proofs::Patterns::Fields::sig_above, ieee::proofs::Patterns::Fields::sig_zero, ieee::proofs::Patterns::Fields::exp_is))]
+fn size_of(b: u64) -> Size
+    requires { b % 2 ^ 31 < 0x7f80_0000 }
+    ensures digits { result.digits ≡ sig binary32 (b % 2 ^ 31 / 2 ^ 23) (b % 2 ^ 23) }
+    ensures place { result.place ≡ exp (b % 2 ^ 31 / 2 ^ 23) }
 {
+    let e = exponent::<f32>(b);
     let t = trailing::<f32>(b);
-    if exponent::<f32>(b) == 0 {
-        t
+    if e == 0 {
+        Size {
+            digits: t,
+            place: 0,
+        }
     } else {
-        f32::FIELD + t
+        Size {
+            digits: f32::FIELD + t,
+            place: e - 1,
+        }
     }
-}
-
-#[tactic(auto, using(ieee::proofs::Patterns::Fields::exp_is))]
-fn place(b: u64) -> u64
-    ensures { result ≡ exp (b % 2 ^ 31 / 2 ^ 23) }
-{
-    exponent::<f32>(b).saturating_sub(1)
 }
 
 // Nothing is above the square of an infinity or a NaN. A pattern past infinity's is a NaN's or has the sign: no such cube is
@@ -90,7 +102,7 @@ pub fn cube_above_bits(a: u32, b: u32) -> bool
     } else if m == f32::LAST {
         true
     } else {
-        sizes_above(digits(m), place(m), digits(n), place(n))
+        sizes_above(size_of(m), size_of(n))
     }
 }
 

@@ -66,6 +66,7 @@ impl Signed for i32 {
     }
 }
 
+#[tactic(auto, using(ieee::proofs::Order::Ranges::signed_kept))]
 impl Signed for i64 {
     ghost size = { 63 };
 
@@ -103,6 +104,7 @@ pub fn to_u64(x: f32) -> u64
 }
 
 // The whole part of a float from 1 up and below 2^23: its digits, shifted.
+#[tactic(auto, using(ieee::proofs::Order::Comparison::le_right, ieee::proofs::Patterns::Back::read_back, ieee::proofs::Patterns::WholePart::field_range, ieee::proofs::Patterns::WholePart::whole_part))]
 pub fn whole_part32(x: f32) -> u32
     requires low { T (le (fin false 1 (pos 0)) x) }
     requires high { T (lt x (fin false 1 (pos 23))) }

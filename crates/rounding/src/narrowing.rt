@@ -10,6 +10,7 @@ use patterns::{Binary, float_of};
 // The size of a normal `f32`, or of what a carry makes infinity. An `f32` has 29 digits less and counts its exponent from
 // 896 lower. Half of what goes is added, less one where the last digit that stays is even; a carry out of the digits runs
 // into the exponent by itself.
+#[tactic(auto, using(ieee::proofs::Patterns::Narrowed::shortened_normal))]
 fn narrow_normal(m: u64) -> u64
     requires { (0x3810_0000_0000_0000 ≤ m) × (m < 0x47f0_0000_0000_0000) }
     ensures { (result ≡ narrow_size m) × (result ≤ 0x7f80_0000) }
@@ -18,7 +19,7 @@ fn narrow_normal(m: u64) -> u64
 }
 
 // The size of a finite `f64`, by its pattern, as the pattern of the nearest `f32`.
-#[tactic(auto, using(crate::proofs::Tiny::tiny_is_none))]
+#[tactic(auto, using(crate::proofs::Tiny::tiny_is_none, ieee::proofs::Patterns::Narrowed::narrow_small, ieee::proofs::Patterns::Narrowed::narrow_large))]
 fn narrow_size(m: u64) -> u64
     requires { m < 0x7ff0_0000_0000_0000 }
     ensures { result ≡ narrow_size m }
@@ -37,6 +38,7 @@ fn narrow_size(m: u64) -> u64
     }
 }
 
+#[tactic(auto, using(ieee::proofs::Patterns::Narrowed::narrow_finite, ieee::proofs::Patterns::Narrowed::narrow_inf, ieee::proofs::Patterns::Narrowed::narrow_nan, ieee::proofs::Patterns::Signs::bits_lt))]
 pub fn narrow_bits(b: u64) -> u32
     ensures { result ≡ to_bits binary32 (rounded binary32 (from_bits binary64 b)) }
 {

@@ -17,6 +17,7 @@ enum Way {
 }
 
 // d / 2^j as a whole number.
+#[tactic(auto, using(ieee::proofs::Numbers::Basic::one_shl))]
 fn shifted(d: u64, j: u64, way: Way) -> u64
     requires { (d < 2 ^ 53) × (0 < j) × (j < 64) }
     ensures { result ≡ to_whole (way_of way) d (2 ^ j) }
@@ -36,6 +37,7 @@ fn way_at<F: Binary>(b: u64, above: Way, below: Way) -> Way
 }
 
 // The size of a float as a whole number, from its pattern b, below those that are all whole.
+#[tactic(auto, using(ieee::proofs::Patterns::Whole::few_shift, ieee::proofs::Patterns::Whole::tiny_size))]
 fn whole_size<F: Binary>(b: u64, above: Way, below: Way) -> u64
     requires { b % top F.format / hid F.format < low F.format + 1 }
     ensures { result ≡ to_whole (if nat_le (top F.format) b then way_of below else way_of above)

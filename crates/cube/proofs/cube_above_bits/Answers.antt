@@ -1,21 +1,7 @@
 -- `cube::cube_above_bits` meets its contract. Assumes nothing.
-use Prim.Native.Nat.{◌/◌, ◌%◌, ◌^◌}
 use native.Mathlib.Omega.{arith}
 use Rattle.ieee.proofs.Patterns.Cube.{both_finite, infinite_cube, no_cube, no_square}
-use Rattle.ieee.proofs.Patterns.Fields.{exp_is}
 use Rattle.cube.proofs.cube_above_bits.Goals as goal
-use Rattle.cube.proofs.cube_above_bits.Goals.{After-place-else-m-eq-LAST, Start}
-
--- where all four numbers are there
-abbrev from : After-place-else-m-eq-LAST → Start
-from c = c.before.before.before.before.before.before.before
-
-pub sizes_above-requires : goal.sizes_above-requires
-sizes_above-requires c =
-    let start = from c in
-    let x = exp_is (start.args.a % 2 ^ 31 / 2 ^ 23) in
-    let y = exp_is (start.args.b % 2 ^ 31 / 2 ^ 23) in
-    (omega arith, omega arith, omega arith, omega arith)
 
 pub returns-then-n-ge-LAST : goal.returns-then-n-ge-LAST
 returns-then-n-ge-LAST c = no_square c.args.a c.args.b c.if-n-ge-LAST.true
@@ -27,6 +13,4 @@ pub returns-then-m-eq-LAST : goal.returns-then-m-eq-LAST
 returns-then-m-eq-LAST c = infinite_cube c.args.a c.args.b c.if-m-eq-LAST.true (omega arith)
 
 pub returns-else-m-eq-LAST : goal.returns-else-m-eq-LAST
-returns-else-m-eq-LAST c =
-    let start = from c.before in
-    cc (both_finite start.args.a start.args.b (omega arith) (omega arith))
+returns-else-m-eq-LAST c = cc (both_finite c.args.a c.args.b (omega arith) (omega arith))

@@ -1,7 +1,7 @@
 -- `rounding::narrowing::narrow` meets its contract: the short ways by what they make of the pattern, the other by the pattern form.
 -- Assumes nothing.
 use Rattle.std.proofs.Common.{◌≡◌, ℕ, ◌+◌, ◌*◌, ◌/◌, ◌%◌, ◌^◌, ◌<◌, ◌≤◌, true, ◌&&◌, T, ltb, leb, sym, ap, ◌∙◌, subst, add-zero, arith, ltb→lt, leb→le}
-use lib.Ieee.{Float, nan, binary32, binary64, div, ne, of_bits, to_bits}
+use lib.Ieee.{Float, nan, binary32, binary64, ne, of_bits, to_bits}
 use lib.Ieee.Bits.{of_bits-to_bits, to_bits-lt}
 use lib.Ieee.Fits.{and_l, and_r}
 use denote.Floats.{passes}

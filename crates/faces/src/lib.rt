@@ -55,7 +55,8 @@ fn upwards(t: Corners) -> bool
 }
 
 // The first row, from `start` on and round, that holds the face or is free.
-// Stays: a loop, since the search ends by what it finds and goes round: a range would need an answer for a full table, which there is not.
+// Stays: a loop beside that of `steps`: a range would need an answer for a full table, which there is not, and one search for both would
+// take a closure with clauses on when a row ends it, which each caller would have to show of its rows, for five lines that they share.
 #[tactic(auto, using(table::proofs::Counts::none_used))]
 fn find(ids: &[u32], work: &[u32], n: usize, face: Face, start: usize) -> usize
     requires { FaceSearch ids.now n start work.now }

@@ -51,6 +51,8 @@ fn by_ids(ids: &[u32], parts: &mut [u32], near: bool) -> Option<Quality>
 }
 
 // What the welded ids say: open where they are not boundary-free.
+// Stays: vertices, ids and distance apart, here and below: an `ensures` sees a struct of borrowed slices at two moments, so that each clause
+// would say `mesh.entry.vertices.now` (tried).
 fn by_welded(vertices: &[f32], indices: &[u32], eps: f32, near: bool, work: &mut [u32]) -> Quality
     requires { PartsFit vertices.now indices.now work.old }
     ensures { result ≡ open_unless_free (chained (welded vertices.now indices.now eps) near) }

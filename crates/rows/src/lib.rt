@@ -26,7 +26,7 @@ fn then_by(less: bool, more: bool, rest: bool) -> bool
 }
 
 // Does r's row come before s's? Two areas are seldom equal.
-// Stays: by `<`, since `precedes` of the specs goes on to the next number where one is a NaN, and neither a tuple's order nor OrderedFloat does.
+// Stays: by `<`, since `precedes` of the specs goes past a NaN to the next number, and neither a tuple's order nor OrderedFloat does.
 fn precedes(r: PlanarSurface, s: PlanarSurface) -> bool
     ensures { result ≡ precedes_of r s }
 {
@@ -39,6 +39,7 @@ fn precedes(r: PlanarSurface, s: PlanarSurface) -> bool
 }
 
 // ---- one row
+// Stays: in a flat slice, since C lends floats, and `as_chunks_mut` says nothing of what the slice holds in the end.
 
 fn get(rows: &[f32], j: usize) -> PlanarSurface
     requires { Inside j rows.now }
@@ -146,6 +147,7 @@ fn quick(rows: &mut [f32], turns: usize) -> bool
 // ---- passes by insertion: rows a gap apart are put in order. The last pass, with a gap of 1, is what proves the order
 
 // Row i goes back by gaps, past the rows that it precedes; those in front of it are in order.
+// Stays: a `while`, since it goes down by gaps to a place that the rows decide.
 fn settle(rows: &mut [f32], i: usize, gap: usize)
     requires { Inside i rows.old × (0 < gap) × Rising gap i (rows_of rows.old) }
     ensures { AfterPass gap (i + 1) rows.old rows.new }

@@ -16,7 +16,8 @@ pub struct Bounds {
     pub zmax: f32,
 }
 
-// The lesser and the greater of a bound, which is no NaN, and a coordinate: with one test less than for any two floats.
+// The lesser and the greater of a bound, which is no NaN, and a coordinate.
+// Stays: by one test, since each coordinate of the mesh comes here, and the functions of `floats` ask for a NaN besides.
 fn lower(x: f32, y: f32) -> f32
     requires { is_nan x ≡ false }
     ensures { result ≡ least x y }

@@ -14,6 +14,7 @@ ghost use Rattle.sums.specs.inner.Prepared.{facet_by, part_in, HasRoot, with_roo
 use vertices::Corners;
 
 // ---- three numbers
+// Stays: arrays and functions, since the definitions `minus`, `cross` and `dot` are of lists, and a `Sub` would be for two differences.
 
 // u - v
 fn minus(u: [f64; 3], v: [f64; 3]) -> [f64; 3]
@@ -160,21 +161,19 @@ pub fn with_root(r: Option<Crossed>, last: Option<Prepared>) -> Option<Prepared>
     })
 }
 
-impl Prepared {
-    // The facet of one that is no sliver.
-    pub fn facet(self) -> Facet
-        ensures { result ≡ facet_by self }
-    {
-        let area = 0.5 * self.length;
-        let inv = 1.0 / self.length;
-        let [x, y, z] = self.crossed.n;
-        Facet {
-            area,
-            area32: floats::narrow(area),
-            volume: self.crossed.volume,
-            nx: floats::narrow(x * inv),
-            ny: floats::narrow(y * inv),
-            nz: floats::narrow(z * inv),
-        }
+// The facet of one that is no sliver.
+pub fn facet_by(r: Prepared) -> Facet
+    ensures { result ≡ facet_by r }
+{
+    let area = 0.5 * r.length;
+    let inv = 1.0 / r.length;
+    let [x, y, z] = r.crossed.n;
+    Facet {
+        area,
+        area32: floats::narrow(area),
+        volume: r.crossed.volume,
+        nx: floats::narrow(x * inv),
+        ny: floats::narrow(y * inv),
+        nz: floats::narrow(z * inv),
     }
 }

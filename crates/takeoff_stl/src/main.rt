@@ -2,7 +2,7 @@
 // What it prints is `program::run_stl_front`'s.
 #![tactic(auto)]
 
-// Stays: a `main` for each program, since a bound `Fn` that names an array of N gets no proof, and a trait takes more lines than these five.
+// Stays: a `main` for each, since a bound `Fn` that names an array of N gets no proof, and a trait takes more lines than these five.
 fn main(rt: HostRuntime) {
     let mut bytes = [0u8; program::STL_KEPT];
     let n = stdio::counted(stdio::read_input(&rt, &mut bytes, 0));

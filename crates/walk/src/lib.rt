@@ -34,6 +34,7 @@ pub struct Walked {
     pub counts: TriangleCounts,
 }
 
+// Stays: six parameters, since `surfaces` takes each of these by itself, and a type that holds both slices would live for this call alone.
 // A triangle more that is prepared: a facet adds its row and its part of the totals. It is counted as used or as a sliver; where there
 // is none it was out of range, or no triangle.
 fn take(
@@ -56,7 +57,7 @@ fn take(
         return s;
     }
     let used = s.used + 1;
-    let f = p.facet();
+    let f = sums::facet_by(p);
     let normal = Normal {
         x: f.nx,
         y: f.ny,

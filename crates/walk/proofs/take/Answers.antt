@@ -22,4 +22,4 @@ put_normal-n-requires c = c.requires.row
 pub returns : goal.returns
 returns c =
     takes_used _ _ c.args.p _ _ _ _ _ _ c.in-Some.is c.if-p.false
-    c.facet-f.ensures c.put_normal-n.ensures c.add.ensures
+    c.facet_by-f.ensures c.put_normal-n.ensures c.add.ensures

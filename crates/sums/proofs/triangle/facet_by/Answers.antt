@@ -1,6 +1,6 @@
--- `sums::triangle::Prepared::facet` meets its contract: each field is what its callee answers. Assumes nothing.
+-- `sums::triangle::facet_by` meets its contract: each field is what its callee answers. Assumes nothing.
 use Rattle.sums.specs.inner.Prepared.{facet_by}
-use Rattle.sums.proofs.triangle.Prepared.facet.Goals as goal
+use Rattle.sums.proofs.triangle.facet_by.Goals as goal
 
 pub returns : goal.returns
 unfolding facet_by

@@ -36,7 +36,11 @@ fn quality_line(quality: Quality) -> &'static [u8]
 fn reliable_line(reliable: bool) -> &'static [u8]
     ensures { (result.now ≡ line "reliable " (decimal (bit reliable))) × (length result.now ≤ 11) }
 {
-    if reliable { b"reliable 1\n" } else { b"reliable 0\n" }
+    if reliable {
+        b"reliable 1\n"
+    } else {
+        b"reliable 0\n"
+    }
 }
 
 fn method_line(method: Method) -> &'static [u8]

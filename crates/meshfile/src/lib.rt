@@ -182,7 +182,11 @@ fn read_ids<U: FromWord>(bytes: &[u8], v: usize, ids: &mut [u32]) -> Result<Mesh
 }
 
 // The file that the bytes hold: its floats, each as what its word stands for, and its ids go to the front of the two areas.
-fn read_as<U: FromWord>(bytes: &[u8], vertices: &mut [U], ids: &mut [u32]) -> Result<MeshFile<U>, Refusal>
+fn read_as<U: FromWord>(
+    bytes: &[u8],
+    vertices: &mut [U],
+    ids: &mut [u32],
+) -> Result<MeshFile<U>, Refusal>
     ensures { ReadsAs (map U.of_word) (answer_as U.of_word) bytes.now vertices.old ids.old result
         vertices.new ids.new }
 {
@@ -193,7 +197,11 @@ fn read_as<U: FromWord>(bytes: &[u8], vertices: &mut [U], ids: &mut [u32]) -> Re
 
 // The file that the bytes hold: the patterns of its floats, and its ids, go to the front of the two areas. A refusal writes nothing: of the
 // file for the fault that is met first, and then of an area that is too short.
-pub fn read_bits(bytes: &[u8], vertices: &mut [u32], ids: &mut [u32]) -> Result<MeshFile<u32>, Refusal>
+pub fn read_bits(
+    bytes: &[u8],
+    vertices: &mut [u32],
+    ids: &mut [u32],
+) -> Result<MeshFile<u32>, Refusal>
     ensures { ReadsBits bytes.now vertices.old ids.old result
         vertices.new ids.new }
 {

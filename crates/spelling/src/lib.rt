@@ -32,7 +32,11 @@ fn glyph(d: u32) -> u8
     requires { d < 16 }
     ensures { result ≡ glyph_of d }
 {
-    if d < 10 { b'0' + d as u8 } else { b'a' + (d - 10) as u8 }
+    if d < 10 {
+        b'0' + d as u8
+    } else {
+        b'a' + (d - 10) as u8
+    }
 }
 
 // The eight digits of a float's bits, from the last to the first.

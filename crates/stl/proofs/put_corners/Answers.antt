@@ -17,7 +17,7 @@ unfolding floats_of
 loop-t-preserved c =
     let l = c.loop-t in
     stand_next _ l.t c.corners_at-at.result l.area _ (omega arith) (omega (arith, c.put_words.auto))
-        c.put_words.ensures l.invariant c.corners_at-at.ensures
+    c.put_words.ensures l.invariant c.corners_at-at.ensures
 
 pub returns : goal.returns
 returns c =

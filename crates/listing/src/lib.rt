@@ -4,52 +4,88 @@
 
 ghost use Rattle.std.specs.Prelude.{◌≡◌, ℕ, ◌+◌, ◌*◌, ◌≤◌, ◌<◌, length};
 ghost use Rattle.rows.specs.Rows.{rows_of};
-ghost use Rattle.spelling.specs.Text.{line};
+ghost use Rattle.ids.specs.Uses.{bit};
+ghost use Rattle.record.specs.Names.{quality_name, method_name, defect_name, profile_name};
+ghost use Rattle.spelling.specs.Text.{codes, decimal, line};
 ghost use Rattle.spelling.specs.inner.Steps.{PutsText};
 ghost use Rattle.listing.specs.Listing.{trust_lines, number_lines, prism_text, triangle_lines, count_lines, row_lines, head_lines};
 ghost use Rattle.listing.specs.Lists.{head_bytes, Lists, ListsRefusal};
 ghost use Rattle.listing.specs.inner.Steps.{Short};
 
 use ids::Refusal;
-use record::MeshQto;
+use record::{MeshQto, ProfileDefect};
+use verdict::Quality;
+use volume::Method;
 
 // How many bytes of a text area are for the lines above the rows.
 const HEAD: usize = 352;
 
 // ---- lines; each answers the place behind them
 
-// The cases of the record. The lines of an enum stand by the numbers of `record`.
+// The line of a quality, and below of the other cases of the record.
+fn quality_line(quality: Quality) -> &'static [u8]
+    ensures { (result.now ≡ line "quality " (codes (quality_name quality))) × (length result.now ≤ 19) }
+{
+    match quality {
+        Quality::Closed => b"quality closed\n",
+        Quality::OpenShell => b"quality open_shell\n",
+        Quality::Degenerate => b"quality degenerate\n",
+    }
+}
+
+fn reliable_line(reliable: bool) -> &'static [u8]
+    ensures { (result.now ≡ line "reliable " (decimal (bit reliable))) × (length result.now ≤ 11) }
+{
+    if reliable {
+        b"reliable 1\n"
+    } else {
+        b"reliable 0\n"
+    }
+}
+
+fn method_line(method: Method) -> &'static [u8]
+    ensures { (result.now ≡ line "method " (codes (method_name method))) × (length result.now ≤ 28) }
+{
+    match method {
+        Method::Mesh => b"method mesh\n",
+        Method::MeshOpen => b"method mesh_open\n",
+        Method::PrismFallback => b"method prism_fallback\n",
+        Method::MeshUnclipped => b"method mesh_unclipped\n",
+        Method::MeshProfileInvalid => b"method mesh_profile_invalid\n",
+    }
+}
+
+fn defect_line(defect: ProfileDefect) -> &'static [u8]
+    ensures { (result.now ≡ line "profile " (codes (defect_name defect))) × (length result.now ≤ 26) }
+{
+    match defect {
+        ProfileDefect::SelfIntersecting => b"profile self_intersecting\n",
+        ProfileDefect::Degenerate => b"profile degenerate\n",
+        ProfileDefect::HoleOutside => b"profile hole_outside\n",
+        ProfileDefect::Overlapping => b"profile overlapping\n",
+    }
+}
+
+fn profile_line(profile: Option<ProfileDefect>) -> &'static [u8]
+    ensures { (result.now ≡ line "profile " (codes (profile_name profile))) × (length result.now ≤ 26) }
+{
+    match profile {
+        None => b"profile none\n",
+        Some(defect) => defect_line(defect),
+    }
+}
+
 fn trust_lines(out: &mut [u8], at: usize, q: MeshQto) -> usize
-    requires { at + 276 ≤ length out.old }
+    requires { at + 84 ≤ length out.old }
     ensures { PutsText at (trust_lines q) out.old result out.new × (result ≤ at + 84) }
 {
     let quality = q.mesh_quality;
     let method = q.volume_method;
     let profile = q.profile_invalid;
-    let a = spelling::put_line(
-        out,
-        at,
-        b"quality closed\nquality open_shell\nquality degenerate\n",
-        u32::from(quality),
-    );
-    let b = spelling::put_line(
-        out,
-        a,
-        b"reliable 0\nreliable 1\n",
-        q.volume_reliable as u32,
-    );
-    let d = spelling::put_line(
-        out,
-        b,
-        b"method mesh\nmethod mesh_open\nmethod prism_fallback\nmethod mesh_unclipped\nmethod mesh_profile_invalid\n",
-        u32::from(method),
-    );
-    spelling::put_line(
-        out,
-        d,
-        b"profile none\nprofile self_intersecting\nprofile degenerate\nprofile hole_outside\nprofile overlapping\n",
-        record::profile_number(profile),
-    )
+    let a = spelling::put(out, at, quality_line(quality));
+    let b = spelling::put(out, a, reliable_line(q.volume_reliable));
+    let d = spelling::put(out, b, method_line(method));
+    spelling::put(out, d, profile_line(profile))
 }
 
 fn number_lines(out: &mut [u8], at: usize, q: MeshQto) -> usize
@@ -121,10 +157,8 @@ fn row_lines(out: &mut [u8], at: usize, surfaces: &[f32], n: usize) -> usize
     ensures { PutsText at (row_lines (rows_of surfaces.now)) out.old result out.new }
 {
     let mut end = at;
-    let mut i = 0;
-    while i < n {
+    for i in 0..n {
         end = spelling::fill(out, end, b"# # # #\n", &surfaces[4 * i..4 * i + 4]);
-        i += 1;
     }
     end
 }

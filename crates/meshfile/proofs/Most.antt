@@ -9,11 +9,10 @@ use borrow.Author.Tests.{le-ltb}
 use lib.Ieee.{Float}
 use lib.ListN.{length, take, drop, length-take}
 use Rattle.words.specs.Words.{words_in}
-use Rattle.meshfile.specs.declared.MeshBits.{MeshBits}
 use Rattle.meshfile.specs.declared.MeshFile.{MeshFile}
 use Rattle.meshfile.specs.declared.Parts.{Parts}
 use Rattle.meshfile.specs.Format.{most_in_file, Contents, File, file_of}
-use Rattle.meshfile.specs.Reading.{mesh_areas_short, mesh_bits, reading_of, as_floats, Reads, ReadsBits}
+use Rattle.meshfile.specs.Reading.{mesh_areas_short, mesh_bits, reading_of, answer_as, as_floats, Reads, ReadsBits}
 use Rattle.meshfile.specs.inner.Steps.{layout_of, contents_at, file_at}
 use Rattle.words.proofs.Parts.{length_words}
 use Rattle.meshfile.proofs.Layouts.{Stands, file_is, stands}
@@ -40,7 +39,7 @@ module _ (bytes : List ℕ) (m : Contents) (h : file_of bytes ≡ Ok m) where
   unfolding mesh_areas_short
   never_short = rw (le-ltb 1536 (length m.vertices) holds_most.0, le-ltb 1536 (length m.ids) holds_most.1)
 
-abbrev Small : Result MeshBits Refusal → Type 0
+abbrev Small : Result (MeshFile ℕ) Refusal → Type 0
 Small (Err n) = Unit {0}
 Small (Ok m) = (m.floats ≤ most_in_file) × (m.ids ≤ most_in_file)
 
@@ -56,23 +55,24 @@ small (Ok m) v w h = small_by (mesh_areas_short m v w) m h
 small_reading : (bytes : List ℕ) (v w : ℕ) → Small (reading_of (file_of bytes) v w)
 small_reading bytes v w = small (file_of bytes) v w (rw (file_is bytes) (few bytes (layout_of bytes) (stands bytes)))
 
-pub reads_most_bits : (bytes ps ids : List ℕ) (r : Result MeshBits Refusal) (ps' ids' : List ℕ) → ReadsBits bytes ps ids r ps' ids'
-    → (m : MeshBits) → r ≡ Ok m → (m.floats ≤ most_in_file) × (m.ids ≤ most_in_file)
+pub reads_most_bits : (bytes ps ids : List ℕ) (r : Result (MeshFile ℕ) Refusal) (ps' ids' : List ℕ) → ReadsBits bytes ps ids r ps' ids'
+    → (m : MeshFile ℕ) → r ≡ Ok m → (m.floats ≤ most_in_file) × (m.ids ≤ most_in_file)
 reads_most_bits bytes ps ids r ps' ids' made m e =
     subst Small (sym made.answers ∙ e) (small_reading bytes (length ps) (length ids))
 
 -- and of floats
-small_floats : (b : Result MeshBits Refusal) (m : MeshFile) → Small b → as_floats b ≡ Ok m → (m.floats ≤ most_in_file) × (m.ids ≤ most_in_file)
-unfolding as_floats
+small_floats : (b : Result (MeshFile ℕ) Refusal) (m : MeshFile Float) → Small b → as_floats b ≡ Ok m
+    → (m.floats ≤ most_in_file) × (m.ids ≤ most_in_file)
+unfolding answer_as
 small_floats (Err n) m h e = let y : ◌≡◌ {A = ℕ} 0 1 = cc in absurd (omega arith)
 small_floats (Ok b) m h e =
     let f : b.floats ≡ m.floats = cc in
     let i : b.ids ≡ m.ids = cc in
     rw (f, i) at h
 
-pub reads_most : (bytes : List ℕ) (vs : List Float) (ids : List ℕ) (r : Result MeshFile Refusal) (vs' : List Float) (ids' : List ℕ)
+pub reads_most : (bytes : List ℕ) (vs : List Float) (ids : List ℕ) (r : Result (MeshFile Float) Refusal) (vs' : List Float) (ids' : List ℕ)
     → Reads bytes vs ids r vs' ids'
-    → (m : MeshFile) → r ≡ Ok m → (m.floats ≤ most_in_file) × (m.ids ≤ most_in_file)
+    → (m : MeshFile Float) → r ≡ Ok m → (m.floats ≤ most_in_file) × (m.ids ≤ most_in_file)
 reads_most bytes vs ids r vs' ids' made m e =
     small_floats (reading_of (file_of bytes) (length vs) (length ids)) m (small_reading bytes (length vs) (length ids))
     (sym made.answers ∙ e)

@@ -13,7 +13,7 @@ use lib.ListN.{length, take}
 use Rattle.record.specs.declared.ProfileDefect.{ProfileDefect}
 use Rattle.record.specs.Numbers.{profile_at, profile_number, flags_fit}
 use Rattle.words.specs.Words.{Below}
-use Rattle.meshfile.specs.declared.MeshBits.{MeshBits}
+use Rattle.meshfile.specs.declared.MeshFile.{MeshFile}
 use Rattle.meshfile.specs.Format.{Contents, file_of}
 use Rattle.meshfile.specs.Reading.{reading_of, ReadsBits}
 use Rattle.meshfile.specs.Writing.{contents_of, writing_of, bytes_after, Writes}
@@ -73,13 +73,13 @@ clip_byte : (clip : Bool) → bool_byte clip ≡ cond clip 1 0
 clip_byte true = refl
 clip_byte false = refl
 
-module _ (bytes ps ids : List ℕ) (r : Result MeshBits Refusal) (ps' ids' : List ℕ) (x : ReadsBits bytes ps ids r ps' ids') (five : List ℕ) where
+module _ (bytes ps ids : List ℕ) (r : Result (MeshFile ℕ) Refusal) (ps' ids' : List ℕ) (x : ReadsBits bytes ps ids r ps' ids') (five : List ℕ) where
   pub as_read : (k : ℕ) (five' : List ℕ) → k ≡ reading_number r → five' ≡ counts_after r five
       → ReadsNumbered bytes ps ids five k ps' ids' five'
   as_read k five' hk hc =
       record {
         number = hk ∙ ap reading_number x.answers;
-        counts = hc ∙ ap (λ (b : Result MeshBits Refusal). counts_after b five) x.answers;
+        counts = hc ∙ ap (λ (b : Result (MeshFile ℕ) Refusal). counts_after b five) x.answers;
         vertices = x.vertices;
         ids_after_lem = x.ids_after_lem;
       }
@@ -88,7 +88,7 @@ module _ (bytes ps ids : List ℕ) (r : Result MeshBits Refusal) (ps' ids' : Lis
   unfolding reading_number counts_after
   refused_read n e = as_read (0x8000_0000 + refusal_number n) five (rw e) (rw e)
 
-  pub counted : (m : MeshBits) → r ≡ Ok m → (d : ℕ) → d ≡ profile_number m.profile
+  pub counted : (m : MeshFile ℕ) → r ≡ Ok m → (d : ℕ) → d ≡ profile_number m.profile
       → ReadsNumbered bytes ps ids five 0 ps' ids' (m.floats ∷ m.ids ∷ m.unit ∷ bool_byte m.clip ∷ d ∷ [])
   unfolding reading_number counts_after
   counted m e d hd = as_read 0 (m.floats ∷ m.ids ∷ m.unit ∷ bool_byte m.clip ∷ d ∷ []) (rw e) (rw (e, hd, clip_byte m.clip))
@@ -121,15 +121,15 @@ reads_back_numbered m hu hv hi area n area' small w ps ids five lv li k ps' ids'
     )
 
 -- five counts are those of a file that was read
-counts_of : (r : Result MeshBits Refusal) (five : List ℕ) (f i u c d : ℕ) → 0 ≡ reading_number r → f ∷ i ∷ u ∷ c ∷ d ∷ [] ≡ counts_after r five
-    → (m : MeshBits) × (r ≡ Ok m) × (f ≡ m.floats) × (i ≡ m.ids) × (u ≡ m.unit) × (c ≡ cond m.clip 1 0)
+counts_of : (r : Result (MeshFile ℕ) Refusal) (five : List ℕ) (f i u c d : ℕ) → 0 ≡ reading_number r → f ∷ i ∷ u ∷ c ∷ d ∷ [] ≡ counts_after r five
+    → (m : MeshFile ℕ) × (r ≡ Ok m) × (f ≡ m.floats) × (i ≡ m.ids) × (u ≡ m.unit) × (c ≡ cond m.clip 1 0)
     × (d ≡ profile_number m.profile)
 unfolding reading_number counts_after
 counts_of (Err n) five f i u c d e h = absurd (refused_large 0 (refusal_number n) (omega arith) e)
 counts_of (Ok m) five f i u c d e h = (m, refl, cc, cc, cc, cc, cc)
 
 module _ (bytes : List ℕ) (below : Below 256 bytes) (ps ids ps' ids' : List ℕ) where
-  by_counts : (m : MeshBits) → ReadsBits bytes ps ids (Ok m) ps' ids'
+  by_counts : (m : MeshFile ℕ) → ReadsBits bytes ps ids (Ok m) ps' ids'
       → (f i u c d : ℕ) → f ≡ m.floats → i ≡ m.ids → u ≡ m.unit → c ≡ cond m.clip 1 0 → d ≡ profile_number m.profile
       → (area : List ℕ) (k : ℕ) (area' : List ℕ)
       → WritesNumbered (record { unit = u; vertices = take f ps'; ids = take i ids'; clip = c; defect = d }) area k area'

@@ -2,7 +2,7 @@
 use Rattle.std.specs.Prelude.{Result, Ok, Err}
 use mathlib.Core.Path.{◌≡◌, refl, sym, ap, ◌∙◌, subst}
 use mathlib.Core.Bool.{Bool, true, false, not, cond}
-use mathlib.Core.List.{List, [], ◌∷◌, ◌++◌}
+use mathlib.Core.List.{List, [], ◌∷◌, ◌++◌, map, map-id}
 use mathlib.Core.Logic.{◌⊎◌, inl, inr}
 use Prim.Native.Nat.{ℕ, zero, suc, ◌+◌, ◌/◌}
 use native.Mathlib.Omega.{arith}
@@ -13,11 +13,10 @@ use Rattle.record.specs.Numbers.{flags_fit}
 use Rattle.words.specs.Words.{byte, u16_at, u32_at, floats_of}
 use Rattle.words.proofs.Parts.{length_floats}
 use Rattle.meshfile.specs.declared.FlagValues.{FlagValues}
-use Rattle.meshfile.specs.declared.MeshBits.{MeshBits}
 use Rattle.meshfile.specs.declared.MeshFile.{MeshFile}
 use Rattle.meshfile.specs.Format.{flag_values, most_in_file, length_fits, Contents, File, front_of, flags_in, ending_of, ended}
 use Rattle.meshfile.specs.Format.{ids_in, vertices_in, unit_in, file_of}
-use Rattle.meshfile.specs.Reading.{mesh_areas_short, mesh_bits, reading_of, as_floats, vertices_after, ids_after, ReadsAs, By356}
+use Rattle.meshfile.specs.Reading.{mesh_areas_short, mesh_bits, reading_of, answer_as, as_floats, vertices_after, ids_after, ReadsAs, ReadsBits, By356}
 use Rattle.meshfile.specs.Reading.{RefusedReading, RefusedReadingBits, ReadOne, ReadAsFloats}
 use Rattle.ids.specs.declared.refusal.Refusal.{Refusal}
 
@@ -101,11 +100,11 @@ file_56 bytes = unit_56 (front_of 1 bytes) bytes (front_56 1 bytes)
 
 -- ---- and an area that is too short is 3
 
-abbrev Bits356 : Result MeshBits Refusal → Type 0
+abbrev Bits356 : Result (MeshFile ℕ) Refusal → Type 0
 Bits356 (Err n) = By356 n
 Bits356 (Ok m) = Unit {0}
 
-short_3 : (b : Bool) (m : MeshBits) → Bits356 (cond b (Err Refusal.ShortArea) (Ok m))
+short_3 : (b : Bool) (m : MeshFile ℕ) → Bits356 (cond b (Err Refusal.ShortArea) (Ok m))
 short_3 true m = inl refl
 short_3 false m = tt
 
@@ -119,7 +118,7 @@ by_356 bytes f i n h = subst Bits356 (sym h) (reading_356 (file_of bytes) f i (f
 
 -- ---- a refusal writes nothing
 
-short_kept : {A B : Type 0} (b : Bool) (n : Refusal) (m : MeshBits) (x x' : A) (y y' : B)
+short_kept : {A B : Type 0} (b : Bool) (n : Refusal) (m : MeshFile ℕ) (x x' : A) (y y' : B)
     → Err n ≡ cond b (Err Refusal.ShortArea) (Ok m)
     → (cond b x x' ≡ x) × (cond b y y' ≡ y)
 short_kept true n m x x' y y' h = (refl, refl)
@@ -132,7 +131,7 @@ unfolding reading_of vertices_after ids_after
 kept taken (Err k) vs ids n h = (refl, refl)
 kept taken (Ok m) vs ids n h = short_kept (mesh_areas_short m (length vs) (length ids)) n (mesh_bits m) vs _ ids _ h
 
-module _ {A R : Type 0} (taken : List ℕ → List A) (answer : Result MeshBits Refusal → R) (bytes : List ℕ) (vs : List A) (ids : List ℕ) where
+module _ {A R : Type 0} (taken : List ℕ → List A) (answer : Result (MeshFile ℕ) Refusal → R) (bytes : List ℕ) (vs : List A) (ids : List ℕ) where
   refused_by : (r : R) (n : Refusal) (vs' : List A) (ids' : List ℕ) → ReadsAs taken answer bytes vs ids r vs' ids'
       → Err n ≡ reading_of (file_of bytes) (length vs) (length ids) → By356 n × (vs' ≡ vs) × (ids' ≡ ids)
   refused_by r n vs' ids' x h =
@@ -142,17 +141,35 @@ module _ {A R : Type 0} (taken : List ℕ → List A) (answer : Result MeshBits 
 pub refused_reading_bits : RefusedReadingBits
 refused_reading_bits bytes ps ids n ps' ids' x = refused_by _ _ bytes ps ids (Err n) n ps' ids' x x.answers
 
--- floats are refused where patterns are
-as_refused : (b : Result MeshBits Refusal) (n : Refusal) → Err n ≡ as_floats b → Err n ≡ b
-unfolding as_floats
-as_refused (Err k) n h =
+-- what words stand for is refused where they are
+pub as_refused : {A : Type 0} (of_word : ℕ → A) (b : Result (MeshFile ℕ) Refusal) (n : Refusal) → Err n ≡ answer_as of_word b → Err n ≡ b
+unfolding answer_as
+as_refused of_word (Err k) n h =
     let same : n ≡ k = cc in
     ap Err same
-as_refused (Ok m) n h = let z : ◌≡◌ {A = ℕ} 0 1 = cc in absurd (omega arith)
+as_refused of_word (Ok m) n h = let z : ◌≡◌ {A = ℕ} 0 1 = cc in absurd (omega arith)
 
 pub refused_reading : RefusedReading
 refused_reading bytes vs ids n vs' ids' x =
-    refused_by floats_of as_floats bytes vs ids (Err n) n vs' ids' x (as_refused _ n x.answers)
+    refused_by floats_of as_floats bytes vs ids (Err n) n vs' ids' x (as_refused (of_bits binary32) _ n x.answers)
+
+-- ---- words taken as they are
+
+answer_same : (b : Result (MeshFile ℕ) Refusal) → answer_as (λ (w : ℕ). w) b ≡ b
+unfolding answer_as
+answer_same (Err n) = refl
+answer_same (Ok m) = refl
+
+after_same : (x : File) (i : ℕ) (ps : List ℕ)
+    → vertices_after (map (λ (w : ℕ). w)) x i ps ≡ vertices_after (λ (ws : List ℕ). ws) x i ps
+unfolding vertices_after
+after_same (Err n) i ps = refl
+after_same (Ok m) i ps = rw (map-id m.vertices)
+
+pub read_same : {bytes ps ids : List ℕ} {r : Result (MeshFile ℕ) Refusal} {ps' ids' : List ℕ}
+    → ReadsAs (map (λ (w : ℕ). w)) (answer_as (λ (w : ℕ). w)) bytes ps ids r ps' ids' → ReadsBits bytes ps ids r ps' ids'
+read_same x =
+    record { answers = x.answers ∙ answer_same _; vertices = x.vertices ∙ after_same _ _ _; ids_after_lem = x.ids_after_lem }
 
 -- ---- patterns taken as floats
 

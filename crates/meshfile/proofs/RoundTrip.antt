@@ -13,7 +13,7 @@ use lib.ListN.{length, take, drop}
 use lib.Seq.{take-append_seam}
 use Rattle.record.specs.Numbers.{profile_at, flags_fit}
 use Rattle.words.specs.Words.{Below}
-use Rattle.meshfile.specs.declared.MeshBits.{MeshBits}
+use Rattle.meshfile.specs.declared.MeshFile.{MeshFile}
 use Rattle.meshfile.specs.Format.{most_in_file, Contents, File, file_of}
 use Rattle.meshfile.specs.Written.{chunk_of, plain_file, file_bytes, Proper, IsFileOf}
 use Rattle.meshfile.specs.Reading.{mesh_areas_short, mesh_bits, reading_of, vertices_after, ids_after}
@@ -118,7 +118,7 @@ unfolding vertices_after ids_after
 names_first f k ps ids at roomy = rw (at, roomy) (take-append_seam k.vertices _, take-append_seam k.ids _)
 
 module _ (bytes : List ℕ) (below : Below 256 bytes) (ps' ids' : List ℕ) (k : Contents) (held : file_of bytes ≡ Ok k) where
-  by_contents : (m : MeshBits) → m ≡ mesh_bits k → take (length k.vertices) ps' ≡ k.vertices → take (length k.ids) ids' ≡ k.ids
+  by_contents : (m : MeshFile ℕ) → m ≡ mesh_bits k → take (length k.vertices) ps' ≡ k.vertices → take (length k.ids) ids' ≡ k.ids
       → (area : List ℕ) (w : Result ℕ Refusal) (area' : List ℕ) → Rewrites m ps' ids' area w area'
       → FilePut (with_kind4 m.floats m.ids bytes) area w area'
   by_contents m same hv hi area w area' y = rw same (held_again bytes below k held area w area' (rw (same, hv, hi) at y))

@@ -3,7 +3,7 @@
 use Rattle.std.specs.Prelude.{◌≡◌, ℕ, ◌+◌, ◌^◌, ◌≤◌, ◌<◌, not, cond, List, [], ◌∷◌, ◌++◌, length, take, drop, Result, Ok, Err}
 use Rattle.record.specs.Numbers.{profile_number, flags_fit}
 use Rattle.words.specs.Words.{Below}
-use Rattle.meshfile.specs.declared.MeshBits.{MeshBits}
+use Rattle.meshfile.specs.declared.MeshFile.{MeshFile}
 use Rattle.meshfile.specs.Format.{Contents, file_of}
 use Rattle.meshfile.specs.Written.{file_bytes}
 use Rattle.meshfile.specs.Reading.{reading_of, vertices_after, ids_after}
@@ -34,12 +34,12 @@ WriteNumberedOne = (m : Contents) (area : List ℕ) (k k' : ℕ) (area₁ area�
 
 -- ---- mf_read_mesh
 
-unfoldable pub reading_number : Result MeshBits Refusal → ℕ
+unfoldable pub reading_number : Result (MeshFile ℕ) Refusal → ℕ
 reading_number (Ok m) = 0
 reading_number (Err refusal) = 2147483648 + refusal_number refusal
 
 -- the numbers of floats and ids, the unit's pattern, the flags; a refusal leaves what was there
-unfoldable pub counts_after : Result MeshBits Refusal → List ℕ → List ℕ
+unfoldable pub counts_after : Result (MeshFile ℕ) Refusal → List ℕ → List ℕ
 counts_after (Ok m) five =
     m.floats ∷ m.ids ∷ m.unit ∷ cond m.clip 1 0 ∷ profile_number m.profile ∷ []
 counts_after (Err refusal) five = five

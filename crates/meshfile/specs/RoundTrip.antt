@@ -2,7 +2,7 @@
 use Rattle.std.specs.Prelude.{◌≡◌, ℕ, ◌+◌, ◌*◌, ◌^◌, ◌≤◌, ◌<◌, Bool, cond, List, [], ◌∷◌, ◌++◌, ltb, length, take, drop, Option, Result, Ok}
 use Rattle.words.specs.Words.{Below}
 use Rattle.record.specs.declared.ProfileDefect.{ProfileDefect}
-use Rattle.meshfile.specs.declared.MeshBits.{MeshBits}
+use Rattle.meshfile.specs.declared.MeshFile.{MeshFile}
 use Rattle.meshfile.specs.Format.{Contents, File, file_of}
 use Rattle.meshfile.specs.Written.{chunk_of}
 use Rattle.meshfile.specs.Reading.{ReadsBits}
@@ -14,7 +14,7 @@ abbrev pub ReadsBack : Type 0
 ReadsBack = (u : ℕ) (vs is : List ℕ) (clip : Bool) (profile : Option ProfileDefect) → u < 2 ^ 32 → Below (2 ^ 32) vs → Below (2 ^ 32) is
     → (area : List ℕ) (n : ℕ) (area' : List ℕ) → Writes (contents_of u vs is clip profile) area (Ok n) area'
     → (ps ids : List ℕ) → length vs ≤ length ps → length is ≤ length ids
-    → (r : Result MeshBits Refusal) (ps' ids' : List ℕ) → ReadsBits (take n area') ps ids r ps' ids'
+    → (r : Result (MeshFile ℕ) Refusal) (ps' ids' : List ℕ) → ReadsBits (take n area') ps ids r ps' ids'
     → (r ≡ Ok (record { unit = u; floats = length vs; ids = length is; clip = clip; profile = profile }))
     × (ps' ≡ vs ++ drop (length vs) ps) × (ids' ≡ is ++ drop (length is) ids)
 
@@ -24,7 +24,7 @@ unfoldable pub with_kind4 : ℕ → ℕ → List ℕ → List ℕ
 with_kind4 f i bytes = cond (ltb (22 + 4 * f + 4 * i) (length bytes)) bytes (bytes ++ chunk_of 4 (0 ∷ 0 ∷ []))
 
 -- the contract of writing what was read into ps and ids
-abbrev pub Rewrites : MeshBits → List ℕ → List ℕ → List ℕ → Result ℕ Refusal → List ℕ → Type 0
+abbrev pub Rewrites : MeshFile ℕ → List ℕ → List ℕ → List ℕ → Result ℕ Refusal → List ℕ → Type 0
 Rewrites m ps ids = Writes (contents_of m.unit (take m.floats ps) (take m.ids ids) m.clip m.profile)
 
 -- these bytes are put into an area
@@ -35,7 +35,7 @@ pub record FilePut (file area : List ℕ) (w : Result ℕ Refusal) (area' : List
 -- Writing what was read gives the same bytes, with their kind 4 record. (`writes_back`)
 abbrev pub WritesBack : Type 0
 WritesBack = (bytes : List ℕ) → Below 256 bytes
-    → (ps ids : List ℕ) (m : MeshBits) (ps' ids' : List ℕ) → ReadsBits bytes ps ids (Ok m) ps' ids'
+    → (ps ids : List ℕ) (m : MeshFile ℕ) (ps' ids' : List ℕ) → ReadsBits bytes ps ids (Ok m) ps' ids'
     → (area : List ℕ) (w : Result ℕ Refusal) (area' : List ℕ) → Rewrites m ps' ids' area w area'
     → FilePut (with_kind4 m.floats m.ids bytes) area w area'
 

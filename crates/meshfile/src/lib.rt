@@ -1,32 +1,26 @@
 // The program's input, a mesh file: its bytes read into lent vertices and ids, and written. The format is document 01's.
 #![tactic(auto)]
 
+mod kind; // the records' kinds
 mod writing; // the way back
 
-ghost use Rattle.std.specs.Prelude.{◌≡◌, ◌+◌, ◌*◌, ◌≤◌, ◌<◌, ◌++◌, length, take, drop};
-ghost use Rattle.words.specs.Words.{words_in, floats_of};
+ghost use Rattle.std.specs.Prelude.{◌≡◌, ◌+◌, ◌*◌, ◌≤◌, ◌<◌, ◌++◌, map, length, take, drop};
+ghost use Rattle.words.specs.Words.{words_in};
+ghost use Rattle.meshfile.specs.Kinds.{kind_number};
 ghost use Rattle.meshfile.specs.Format.{length_fits, front_of, flags_in, ending_of};
-ghost use Rattle.meshfile.specs.Reading.{mesh_bits, with_float, Reads, ReadsBits};
+ghost use Rattle.meshfile.specs.Reading.{mesh_as, answer_as, ReadsAs, Reads, ReadsBits};
 ghost use Rattle.meshfile.specs.inner.Steps.{ids_from, vertices_from, layout_of, in_room, contents_at, IdsRead};
 
 use ids::Refusal;
+use kind::Kind;
 use record::ProfileDefect;
+use words::FromWord;
 pub use writing::write;
 
-// What a file holds beside its floats and ids: their numbers, the unit's pattern and the flags.
+// What a file holds beside its floats and ids: their numbers, the unit, as a float or as its pattern, and the flags.
 #[derive(Clone, Copy)]
-pub struct MeshBits {
-    pub unit: u32,
-    pub floats: usize,
-    pub ids: usize,
-    pub clip: bool,
-    pub profile: Option<ProfileDefect>,
-}
-
-// The same with the unit as a float.
-#[derive(Clone, Copy)]
-pub struct MeshFile {
-    pub unit: f32,
+pub struct MeshFile<U> {
+    pub unit: U,
     pub floats: usize,
     pub ids: usize,
     pub clip: bool,
@@ -36,27 +30,25 @@ pub struct MeshFile {
 // ---- one record
 
 // Is it a length that the kind may have?
-fn length_fits(kind: u32, n: usize) -> bool
-    ensures { result ≡ length_fits kind n }
+fn length_fits(kind: Kind, n: usize) -> bool
+    ensures { result ≡ length_fits (kind_number kind) n }
 {
-    if kind == 1 {
-        return n == 4;
+    match kind {
+        Kind::Unit => n == 4,
+        Kind::Vertices | Kind::Ids => n % 4 == 0,
+        Kind::Flags => n == 2,
     }
-    if kind == 4 {
-        return n == 2;
-    }
-    n % 4 == 0
 }
 
 // How long the payload is that stands in front of the bytes, or the fault that is met first.
 #[tactic(auto, using(crate::proofs::Fronts::too_many_front))]
-fn front_of(bytes: &[u8], kind: u32) -> Result<usize, Refusal>
-    ensures { result ≡ front_of kind bytes.now }
+fn front_of(bytes: &[u8], kind: Kind) -> Result<usize, Refusal>
+    ensures { result ≡ front_of (kind_number kind) bytes.now }
 {
     if bytes.len() < 6 {
         return Err(Refusal::File);
     }
-    if words::u16_at(bytes, 4) != kind {
+    if words::u16_at(bytes, 4) != u8::from(kind) as u32 {
         return Err(Refusal::File);
     }
     let n = words::u32_at(bytes, 0) as usize;
@@ -109,10 +101,10 @@ fn flags_in(bytes: &[u8], n: usize) -> Result<FlagValues, Refusal>
 fn ending_of(bytes: &[u8]) -> Result<FlagValues, Refusal>
     ensures { result ≡ ending_of bytes.now }
 {
-    if bytes.len() == 0 {
+    if bytes.is_empty() {
         return Ok(FlagValues { clip: 0, defect: 0 });
     }
-    let n = front_of(bytes, 4)?;
+    let n = front_of(bytes, Kind::Flags)?;
     flags_in(bytes, n)
 }
 
@@ -120,7 +112,7 @@ fn ending_of(bytes: &[u8]) -> Result<FlagValues, Refusal>
 fn ids_from(bytes: &[u8], floats: usize) -> Result<Parts, Refusal>
     ensures { result ≡ ids_from floats (front_of 3 bytes.now) bytes.now }
 {
-    let n = front_of(bytes, 3)?;
+    let n = front_of(bytes, Kind::Ids)?;
     let flags = ending_of(&bytes[6 + n..])?;
     Ok(Parts {
         floats,
@@ -133,7 +125,7 @@ fn ids_from(bytes: &[u8], floats: usize) -> Result<Parts, Refusal>
 fn vertices_from(bytes: &[u8]) -> Result<Parts, Refusal>
     ensures { result ≡ vertices_from (front_of 2 bytes.now) bytes.now }
 {
-    let n = front_of(bytes, 2)?;
+    let n = front_of(bytes, Kind::Vertices)?;
     ids_from(&bytes[6 + n..], n / 4)
 }
 
@@ -141,7 +133,7 @@ fn vertices_from(bytes: &[u8]) -> Result<Parts, Refusal>
 fn layout_of(bytes: &[u8]) -> Result<Parts, Refusal>
     ensures { result ≡ layout_of bytes.now }
 {
-    let n = front_of(bytes, 1)?;
+    let n = front_of(bytes, Kind::Unit)?;
     vertices_from(&bytes[6 + n..])
 }
 
@@ -159,12 +151,12 @@ fn layout_within(bytes: &[u8], v: usize, w: usize) -> Result<Parts, Refusal>
 // ---- what stands there
 
 // Beside the floats and ids.
-fn bits_beside(bytes: &[u8], p: Parts) -> MeshBits
+fn beside<U: FromWord>(bytes: &[u8], p: Parts) -> MeshFile<U>
     requires { 22 + 4 * p.floats + 4 * p.ids ≤ length bytes.now }
-    ensures { result ≡ mesh_bits (contents_at bytes.now p) }
+    ensures { result ≡ mesh_as U.of_word (contents_at bytes.now p) }
 {
-    MeshBits {
-        unit: words::u32_at(bytes, 6),
+    MeshFile {
+        unit: U::from_word(words::u32_at(bytes, 6)),
         floats: p.floats,
         ids: p.ids,
         clip: p.flags.clip == 1,
@@ -172,62 +164,54 @@ fn bits_beside(bytes: &[u8], p: Parts) -> MeshBits
     }
 }
 
-fn with_float(m: MeshBits) -> MeshFile
-    ensures { result ≡ with_float m }
-{
-    let profile = m.profile;
-    MeshFile {
-        unit: floats::float_of(m.unit),
-        floats: m.floats,
-        ids: m.ids,
-        clip: m.clip,
-        profile,
-    }
-}
-
-// The n words from a place on go to the front of the area.
-fn fill_words(bytes: &[u8], at: usize, n: usize, area: &mut [u32])
+// The n words from a place on, each as what it stands for, go to the front of the area.
+fn fill<U: FromWord>(bytes: &[u8], at: usize, n: usize, area: &mut [U])
     requires { (at + 4 * n ≤ length bytes.now) × (n ≤ length area.old) }
-    ensures { area.new ≡ words_in (take (4 * n) (drop at bytes.now)) ++ drop n area.old }
+    ensures { area.new ≡ map U.of_word (words_in (take (4 * n) (drop at bytes.now))) ++ drop n area.old }
 {
     words::put_words(&bytes[at..at + 4 * n], &mut area[..n]);
 }
 
-// The same as floats.
-fn fill_floats(bytes: &[u8], at: usize, n: usize, area: &mut [f32])
-    requires { (at + 4 * n ≤ length bytes.now) × (n ≤ length area.old) }
-    ensures { area.new
-        ≡ floats_of (words_in (take (4 * n) (drop at bytes.now))) ++ drop n area.old }
-{
-    words::put_floats(&bytes[at..at + 4 * n], &mut area[..n]);
-}
-
 // The file that the bytes hold, but for its vertices, for which there is room for v: the ids go to the front of their area.
-fn read_ids(bytes: &[u8], v: usize, ids: &mut [u32]) -> Result<MeshBits, Refusal>
-    ensures { IdsRead bytes.now v ids.old result ids.new }
+fn read_ids<U: FromWord>(bytes: &[u8], v: usize, ids: &mut [u32]) -> Result<MeshFile<U>, Refusal>
+    ensures { IdsRead U.of_word bytes.now v ids.old result ids.new }
 {
     let p = layout_within(bytes, v, ids.len())?;
-    fill_words(bytes, 22 + 4 * p.floats, p.ids, ids);
-    Ok(bits_beside(bytes, p))
+    fill(bytes, 22 + 4 * p.floats, p.ids, ids);
+    Ok(beside(bytes, p))
+}
+
+// The file that the bytes hold: its floats, each as what its word stands for, and its ids go to the front of the two areas.
+fn read_as<U: FromWord>(
+    bytes: &[u8],
+    vertices: &mut [U],
+    ids: &mut [u32],
+) -> Result<MeshFile<U>, Refusal>
+    ensures { ReadsAs (map U.of_word) (answer_as U.of_word) bytes.now vertices.old ids.old result
+        vertices.new ids.new }
+{
+    let m = read_ids(bytes, vertices.len(), ids)?;
+    fill(bytes, 16, m.floats, vertices);
+    Ok(m)
 }
 
 // The file that the bytes hold: the patterns of its floats, and its ids, go to the front of the two areas. A refusal writes nothing: of the
 // file for the fault that is met first, and then of an area that is too short.
-pub fn read_bits(bytes: &[u8], vertices: &mut [u32], ids: &mut [u32]) -> Result<MeshBits, Refusal>
+pub fn read_bits(
+    bytes: &[u8],
+    vertices: &mut [u32],
+    ids: &mut [u32],
+) -> Result<MeshFile<u32>, Refusal>
     ensures { ReadsBits bytes.now vertices.old ids.old result
         vertices.new ids.new }
 {
-    let m = read_ids(bytes, vertices.len(), ids)?;
-    fill_words(bytes, 16, m.floats, vertices);
-    Ok(m)
+    read_as(bytes, vertices, ids)
 }
 
 // The same with each pattern as a float.
-pub fn read(bytes: &[u8], vertices: &mut [f32], ids: &mut [u32]) -> Result<MeshFile, Refusal>
+pub fn read(bytes: &[u8], vertices: &mut [f32], ids: &mut [u32]) -> Result<MeshFile<f32>, Refusal>
     ensures { Reads bytes.now vertices.old ids.old result
         vertices.new ids.new }
 {
-    let m = read_ids(bytes, vertices.len(), ids)?;
-    fill_floats(bytes, 16, m.floats, vertices);
-    Ok(with_float(m))
+    read_as(bytes, vertices, ids)
 }

@@ -2,29 +2,31 @@
 ghost use Rattle.std.specs.Prelude.{◌≡◌, ◌+◌, ◌*◌, ◌≤◌, cond, [], ◌∷◌, ◌++◌, length, drop};
 ghost use Rattle.record.specs.Numbers.{profile_number};
 ghost use Rattle.words.specs.Words.{bytes_of, all_bytes};
+ghost use Rattle.meshfile.specs.Kinds.{kind_number};
 ghost use Rattle.meshfile.specs.Format.{most_in_file};
 ghost use Rattle.meshfile.specs.Written.{chunk_of, file_bytes};
 ghost use Rattle.meshfile.specs.Writing.{contents_of, Writes};
 
+use crate::kind::Kind;
 use ids::Refusal;
 use record::ProfileDefect;
 
 // ---- one record, into an area of its length
 
 // What stands before a payload of n bytes.
-fn put_header(kind: u8, n: u32, area: &mut [u8])
+fn put_header(kind: Kind, n: u32, area: &mut [u8])
     requires { 6 ≤ length area.old }
-    ensures { area.new ≡ bytes_of n ++ (kind ∷ 0 ∷ drop 6 area.old) }
+    ensures { area.new ≡ bytes_of n ++ (kind_number kind ∷ 0 ∷ drop 6 area.old) }
 {
     words::put_u32(area, 0, n);
-    area[4] = kind;
+    area[4] = u8::from(kind);
     area[5] = 0;
 }
 
 // A record of words.
-fn put_record(kind: u8, payload: &[u32], area: &mut [u8])
+fn put_record(kind: Kind, payload: &[u32], area: &mut [u8])
     requires { (length area.old ≡ 6 + 4 * length payload.now) × (length payload.now ≤ most_in_file) }
-    ensures { area.new ≡ chunk_of kind (all_bytes payload.now) }
+    ensures { area.new ≡ chunk_of (kind_number kind) (all_bytes payload.now) }
 {
     put_header(kind, 4 * payload.len() as u32, area);
     words::put_bytes(payload, &mut area[6..]);
@@ -35,7 +37,7 @@ fn put_flags(clip: bool, profile: Option<ProfileDefect>, area: &mut [u8])
     requires { length area.old ≡ 8 }
     ensures { area.new ≡ chunk_of 4 (cond clip 1 0 ∷ profile_number profile ∷ []) }
 {
-    put_header(4, 2, area);
+    put_header(Kind::Flags, 2, area);
     area[6] = clip as u8;
     area[7] = record::profile_number(profile) as u8;
 }
@@ -56,9 +58,9 @@ fn put_file(
 {
     let floats_end = 16 + 4 * vertices.len();
     let ids_end = floats_end + 6 + 4 * ids.len();
-    put_record(1, &[unit], &mut area[..10]);
-    put_record(2, vertices, &mut area[10..floats_end]);
-    put_record(3, ids, &mut area[floats_end..ids_end]);
+    put_record(Kind::Unit, &[unit], &mut area[..10]);
+    put_record(Kind::Vertices, vertices, &mut area[10..floats_end]);
+    put_record(Kind::Ids, ids, &mut area[floats_end..ids_end]);
     put_flags(clip, profile, &mut area[ids_end..]);
 }
 

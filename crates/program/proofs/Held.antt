@@ -13,7 +13,7 @@ use Rattle.words.proofs.Parts.{length_floats}
 use Rattle.words.specs.Words.{floats_of}
 use Rattle.meshfile.specs.declared.MeshFile.{MeshFile}
 use Rattle.meshfile.specs.Format.{Contents, File, file_of}
-use Rattle.meshfile.specs.Reading.{mesh_areas_short, reading_of, as_floats, vertices_after, ids_after, Reads}
+use Rattle.meshfile.specs.Reading.{mesh_areas_short, reading_of, answer_as, as_floats, vertices_after, ids_after, Reads}
 use Rattle.meshfile.proofs.Most.{never_short, reads_most}
 use Rattle.program.specs.Program.{text_for, text_of}
 use Rattle.program.specs.inner.Read.{read_text}
@@ -27,7 +27,7 @@ module _ (vs : List Float) (ids : List ℕ) where
   text_by_lem : (f : File) → ((m : Contents) → f ≡ Ok m → mesh_areas_short m (length vs) (length ids) ≡ false)
       → read_text (vertices_after floats_of f (length ids) vs) (ids_after f (length vs) ids) (as_floats (reading_of f (length vs) (length ids)))
       ≡ text_for f
-  unfolding read_text vertices_after ids_after reading_of as_floats text_for
+  unfolding read_text vertices_after ids_after reading_of answer_as text_for
   text_by_lem (Err n) h = refl
   text_by_lem (Ok m) h =
       rw (
@@ -36,7 +36,7 @@ module _ (vs : List Float) (ids : List ℕ) where
         take_at m.ids (drop (length m.ids) ids) (length m.ids) refl,
       )
 
-  module _ (hv : length vs ≡ 1536) (hi : length ids ≡ 1536) (bytes : List ℕ) (r : Result MeshFile Refusal) (vs' : List Float) (ids' : List ℕ)
+  module _ (hv : length vs ≡ 1536) (hi : length ids ≡ 1536) (bytes : List ℕ) (r : Result (MeshFile Float) Refusal) (vs' : List Float) (ids' : List ℕ)
       (made : Reads bytes vs ids r vs' ids') where
     pub text_of_lem : read_text vs' ids' r ≡ text_of bytes
     unfolding text_of

@@ -60,17 +60,17 @@ module _ (bytes : List ℕ) (vs : List Float) (ids : List ℕ) (hv : length vs �
     mesh_text_lem u clip profile eu ec ep = rw (answer_is, e, corners_first, ids_first, eu, ec, ep)
 
   -- what was read, and the mesh that was made of it
-  abbrev pub Made : Result ℕ Refusal → Result MeshFile Refusal → Type 0
+  abbrev pub Made : Result ℕ Refusal → Result (MeshFile Float) Refusal → Type 0
   Made found mesh = MatchResult found (λ n. IsOkAnd mesh (OfTriangles n)) (λ e. mesh ≡ Err e)
 
-  text_by_lem : (found : Result ℕ Refusal) → r ≡ found → (mesh : Result MeshFile Refusal) → Made found mesh
+  text_by_lem : (found : Result ℕ Refusal) → r ≡ found → (mesh : Result (MeshFile Float) Refusal) → Made found mesh
       → read_text vs' ids' mesh ≡ stl_text_of bytes
   unfolding read_text stl_text_of stl_file text_for
   text_by_lem (Err e) q mesh h = rw (h, answer_is, q)
   text_by_lem (Ok n) q (Ok m) h = rw (h.floats, h.ids) (mesh_text_lem n q m.unit m.clip m.profile h.unit h.clip h.profile)
   text_by_lem (Ok n) q (Err e) h = absurd h
 
-  few_by : (found : Result ℕ Refusal) → r ≡ found → (mesh : Result MeshFile Refusal) → Made found mesh
+  few_by : (found : Result ℕ Refusal) → r ≡ found → (mesh : Result (MeshFile Float) Refusal) → Made found mesh
       → IfOk mesh (λ m. (m.floats ≤ 1536) × (m.ids ≤ 1536))
   few_by found q (Err e) h = tt
   few_by (Ok n) q (Ok m) h =
@@ -81,8 +81,8 @@ module _ (bytes : List ℕ) (vs : List Float) (ids : List ℕ) (hv : length vs �
   pub few_found : (n : ℕ) → r ≡ Ok n → n ≤ 170
   few_found n e = (is_stl n e).few
 
-  pub text_of_lem : (mesh : Result MeshFile Refusal) → Made r mesh → read_text vs' ids' mesh ≡ stl_text_of bytes
+  pub text_of_lem : (mesh : Result (MeshFile Float) Refusal) → Made r mesh → read_text vs' ids' mesh ≡ stl_text_of bytes
   text_of_lem mesh h = text_by_lem r refl mesh h
 
-  pub few_read : (mesh : Result MeshFile Refusal) → Made r mesh → IfOk mesh (λ m. (m.floats ≤ 1536) × (m.ids ≤ 1536))
+  pub few_read : (mesh : Result (MeshFile Float) Refusal) → Made r mesh → IfOk mesh (λ m. (m.floats ≤ 1536) × (m.ids ≤ 1536))
   few_read mesh h = few_by r refl mesh h

@@ -46,7 +46,13 @@ fn print_refusal<N: Into<u32>>(refusal: N, text: &mut [u8]) -> usize
 }
 
 // The listing of a record with the file's flags.
-fn print_record(q: MeshQto, m: MeshFile, count: u32, surfaces: &[f32], text: &mut [u8]) -> usize
+fn print_record(
+    q: MeshQto,
+    m: MeshFile<f32>,
+    count: u32,
+    surfaces: &[f32],
+    text: &mut [u8],
+) -> usize
     requires { (4 * q.surface_count ≤ length surfaces.now) × (head_bytes + 36 * q.surface_count ≤ length text.old) }
     ensures { Prints
         (listing_of (flagged m.clip m.profile q) (rows_of (take (4 * q.surface_count) surfaces.now)) count)
@@ -58,7 +64,7 @@ fn print_record(q: MeshQto, m: MeshFile, count: u32, surfaces: &[f32], text: &mu
 }
 
 // The mesh of a file: its listing, or the refusal of the documents' table.
-fn print_mesh(m: MeshFile, vertices: &[f32], ids: &[u32], text: &mut [u8]) -> usize
+fn print_mesh(m: MeshFile<f32>, vertices: &[f32], ids: &[u32], text: &mut [u8]) -> usize
     requires { (length vertices.now ≤ 1536) × (length ids.now ≤ 1536) × (length text.old ≡ 18784) }
     ensures { Prints (mesh_text vertices.now ids.now m.unit m.clip m.profile)
         text.old result text.new }
@@ -83,7 +89,12 @@ fn print_mesh(m: MeshFile, vertices: &[f32], ids: &[u32], text: &mut [u8]) -> us
 }
 
 // What was read: its mesh, with its floats and ids first in the two areas, or the refusal.
-fn print_read(found: Result<MeshFile, Refusal>, vertices: &[f32], ids: &[u32], text: &mut [u8]) -> usize
+fn print_read(
+    found: Result<MeshFile<f32>, Refusal>,
+    vertices: &[f32],
+    ids: &[u32],
+    text: &mut [u8],
+) -> usize
     requires few { IfOk found (λ m. (m.floats ≤ 1536) × (m.ids ≤ 1536)) }
     requires areas { (length vertices.now ≡ 1536) × (length ids.now ≡ 1536) × (length text.old ≡ 18784) }
     ensures { Prints (read_text vertices.now ids.now found) text.old result text.new }
@@ -122,7 +133,7 @@ pub fn run_front(bytes: &[u8; KEPT], n: usize, text: &mut [u8; TEXT]) -> usize
 // ---- an STL
 
 // What a mesh file says beside its floats and ids, for n triangles of an STL: the unit is 0.001, and there are no flags.
-fn stl_mesh(n: usize) -> MeshFile
+fn stl_mesh(n: usize) -> MeshFile<f32>
     requires { n ≤ 170 }
     ensures { OfTriangles n result }
 {

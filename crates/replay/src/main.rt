@@ -9,7 +9,7 @@
 ghost use Rattle.std.specs.Prelude.{◌≤◌, length};
 
 use ids::Refusal;
-use meshfile::MeshBits;
+use meshfile::MeshFile;
 use qto::Takeoff;
 use raster::Pair;
 use std::fs::File;
@@ -75,15 +75,6 @@ fn print_ids(rt: &impl Print, ids: &[u32]) {
 
 // ---- a work area that is one word short
 
-fn one_less(n: usize) -> usize
-    ensures { result ≤ n }
-{
-    if n == 0 {
-        return 0;
-    }
-    n - 1
-}
-
 // Refusal 3 unless one comes before it, as 7 does where the edition is unknown; or 0 for the zero record, which asks for no words.
 fn print_short(
     rt: &impl Print,
@@ -98,7 +89,8 @@ fn print_short(
     let mut work = [0u32; 13824];
     let mut raster = [0u8; 65536];
     let mut surfaces = [0f32; 2048];
-    let lent = one_less(5 * ids.len() + 4 * (ids.len() / 3) + 8 * (vertices.len() / 3));
+    let needed = 5 * ids.len() + 4 * (ids.len() / 3) + 8 * (vertices.len() / 3);
+    let lent = needed.saturating_sub(1);
     let answer = qto::compute(
         vertices,
         ids,
@@ -208,11 +200,9 @@ fn print_line_of(rt: &impl Print, bytes: &[u8]) {
 fn adler(bytes: &[u8]) -> u32 {
     let mut a = 1u32;
     let mut b = 0u32;
-    let mut i = 0;
-    while i < bytes.len() {
-        a = (a + words::byte(bytes, i)) % 65521;
+    for byte in bytes {
+        a = (a + *byte as u32) % 65521;
         b = (b + a) % 65521;
-        i += 1;
     }
     65536 * b + a
 }
@@ -228,14 +218,14 @@ fn print_file(rt: &impl Print, file: &[u8]) {
 }
 
 // Into an area that is one byte short: 3.
-fn print_cut(rt: &impl Print, m: MeshBits, vertices: &[u32], ids: &[u32], area: &mut [u8]) {
-    let n = one_less(area.len());
+fn print_cut(rt: &impl Print, m: MeshFile<u32>, vertices: &[u32], ids: &[u32], area: &mut [u8]) {
+    let n = area.len().saturating_sub(1);
     let profile = m.profile;
     let answer = meshfile::write(m.unit, vertices, ids, m.clip, profile, &mut area[..n]);
     print_refusal(rt, b" short ", answer);
 }
 
-fn print_written(rt: &impl Print, m: MeshBits, vertices: &[u32], ids: &[u32]) {
+fn print_written(rt: &impl Print, m: MeshFile<u32>, vertices: &[u32], ids: &[u32]) {
     let mut area = [0u8; 12318];
     let profile = m.profile;
     let answer = meshfile::write(m.unit, vertices, ids, m.clip, profile, &mut area);
@@ -272,12 +262,17 @@ fn print_many(rt: &impl Print) {
 
 // ---- one file after the other
 
-fn print_listing(rt: &impl Print, bytes: &[u8]) {
+// A mesh file: what `takeoff` prints, and the two lines.
+// Stays: two functions, since a closure for `run` would have to promise that its text lies within the area, which its contract says.
+fn print_mesh(rt: &impl Print, bytes: &[u8]) {
     let mut text = [0u8; program::TEXT];
     let end = program::run(bytes, &mut text);
     print_text(rt, &text[..end]);
+    print_line_of(rt, bytes);
+    print_back(rt, bytes);
 }
 
+// An STL: what `takeoff_stl` prints.
 fn print_stl(rt: &impl Print, bytes: &[u8]) {
     let mut text = [0u8; program::TEXT];
     let end = program::run_stl(bytes, &mut text);
@@ -309,20 +304,10 @@ fn read_full(file: &mut impl Read, area: &mut [u8]) -> usize
     done
 }
 
-// The next bytes, as many as the part has, are an STL or a mesh file.
-fn replay_file(rt: &impl Print, file: &mut impl Read, stl: bool, part: &mut [u8]) {
-    let got = read_full(file, part);
-    if stl {
-        print_stl(rt, &part[..got]);
-        return;
-    }
-    print_listing(rt, &part[..got]);
-    print_line_of(rt, &part[..got]);
-    print_back(rt, &part[..got]);
-}
-
-// Answers whether there was one. No file of the lists is longer than the buffer.
-fn replay_next(rt: &impl Print, file: &mut impl Read, stl: bool) -> bool {
+// Prints the next file, and answers whether there was one. No file of the lists is longer than the buffer.
+fn replay_next<F: Fn(&[u8])>(file: &mut impl Read, print: &F) -> bool
+    requires { F.IsAlwaysCallable print.now }
+{
     let mut head = [0u8; 4];
     if read_full(file, &mut head) < 4 {
         return false;
@@ -332,22 +317,27 @@ fn replay_next(rt: &impl Print, file: &mut impl Read, stl: bool) -> bool {
     if n > 65536 {
         return false;
     }
-    replay_file(rt, file, stl, &mut area[..n]);
+    let got = read_full(file, &mut area[..n]);
+    print(&area[..got]);
     true
 }
 
 // A proved loop has to end: it counts up to a number that no list uses up.
-fn replay_all(rt: &impl Print, file: &mut impl Read, stl: bool) {
+fn replay_all<F: Fn(&[u8])>(file: &mut impl Read, print: &F)
+    requires { F.IsAlwaysCallable print.now }
+{
     for _ in 0..u64::MAX {
-        if !replay_next(rt, file, stl) {
+        if !replay_next(file, print) {
             return;
         }
     }
 }
 
-fn replay(rt: &(impl Files + Print + Eprint), name: &str, stl: bool) {
+fn replay<F: Fn(&[u8])>(rt: &(impl Files + Eprint), name: &str, print: F)
+    requires { F.IsAlwaysCallable print }
+{
     match File::open(rt, name) {
-        Ok(mut file) => replay_all(rt, &mut file, stl),
+        Ok(mut file) => replay_all(&mut file, &print),
         Err(e) => {
             let _ = eprintln!(rt; "{name}: {e}");
         }
@@ -355,7 +345,7 @@ fn replay(rt: &(impl Files + Print + Eprint), name: &str, stl: bool) {
 }
 
 fn main(rt: HostRuntime) {
-    replay(&rt, "meshes", false);
+    replay(&rt, "meshes", |bytes| print_mesh(&rt, bytes));
     print_many(&rt);
-    replay(&rt, "mounts", true);
+    replay(&rt, "mounts", |bytes| print_stl(&rt, bytes));
 }

@@ -1,4 +1,4 @@
--- A text put behind another is the two put as one, and a copy of each byte puts the text. Assumes nothing.
+-- A text put behind another is the two put as one; nothing, and a byte, put. Assumes nothing.
 use mathlib.Core.Path.{◌≡◌, sym, ap, ◌∙◌}
 use mathlib.Core.List.{List, [], ◌∷◌, ◌++◌, append_assoc}
 use Prim.Native.Nat.{ℕ, ◌+◌, ◌≤◌, ◌<◌}
@@ -44,7 +44,7 @@ module _ {at r : ℕ} {a t t' : List ℕ} (p : PutsText at a t r t') where
   pub puts_length : at + length a ≤ length t → length t' ≡ length t
   puts_length h = ap length p.later ∙ written_length at a t h
 
--- ---- nothing, and byte by byte
+-- ---- nothing, and a byte
 
 pub puts_none : (at : ℕ) (area : List ℕ) → PutsText at [] area at area
 unfolding written
@@ -53,17 +53,3 @@ puts_none at area = record { place = omega arith; later = rw (add-zero at) (sym 
 pub puts_byte : (at byte : ℕ) (area : List ℕ) → at < length area → PutsText at (byte ∷ []) area (at + 1) (set area at byte)
 unfolding written
 puts_byte at byte area h = record { place = omega arith; later = rw (set_split area at byte h, add-one at) }
-
-pub paste_more : (at : ℕ) (text area area' : List ℕ) (i : ℕ) → i < length text → at + length text ≤ length area
-    → area' ≡ paste area at text i
-    → set area' (at + i) (get_or text i 0) ≡ paste area at text (i + 1)
-paste_more at text area area' i l h e = rw (e, add-one i) (paste-suc area at text i 0 (omega arith) l)
-
-pub puts_all : (at : ℕ) (text area area' : List ℕ) (i : ℕ) → i ≡ length text → area' ≡ paste area at text i
-    → PutsText at text area (at + i) area'
-unfolding written
-puts_all at text area area' i e h =
-    record {
-      place = ap (λ (n : ℕ). at + n) e;
-      later = h ∙ rw (e, take-length text, append_assoc);
-    }

@@ -1,10 +1,10 @@
-// How the listing is spelt, byte by byte, into a lent area: text, one line of several, a form with numbers, a line with a count.
+// How the listing is spelt, byte by byte, into a lent area: text, a form with numbers, a line with a count.
 // Internal: `listing` calls it.
 #![tactic(auto)]
 
 ghost use Rattle.std.specs.Prelude.{◌≡◌, ◌+◌, ◌^◌, ◌≤◌, ◌<◌, ◌++◌, ◌∷◌, [], length};
 ghost use Rattle.spelling.specs.Text.{codes, glyph as glyph_of, bits, decimal_in, decimal as decimal_of};
-ghost use Rattle.spelling.specs.inner.Steps.{PutsText, line_of, filled};
+ghost use Rattle.spelling.specs.inner.Steps.{PutsText, filled};
 
 // ---- text; all that put something answer the place behind it
 
@@ -12,12 +12,9 @@ pub fn put(out: &mut [u8], at: usize, text: &[u8]) -> usize
     requires { at + length text.now ≤ length out.old }
     ensures { PutsText at text.now out.old result out.new }
 {
-    let mut i = 0;
-    while i < text.len() {
-        out[at + i] = text[i];
-        i += 1;
-    }
-    at + i
+    let end = at + text.len();
+    out[at..end].copy_from_slice(text);
+    end
 }
 
 fn put_byte(out: &mut [u8], at: usize, byte: u8) -> usize
@@ -28,27 +25,6 @@ fn put_byte(out: &mut [u8], at: usize, byte: u8) -> usize
     at + 1
 }
 
-// Line k of several, of which the first is 0. It asks for the room of all of them.
-pub fn put_line(out: &mut [u8], at: usize, lines: &[u8], k: u32) -> usize
-    requires { at + length lines.now ≤ length out.old }
-    ensures { PutsText at (line_of 0 k lines.now) out.old result out.new
-        × (result ≤ at + length lines.now) }
-{
-    let wanted = k as usize;
-    let mut end = at;
-    let mut line = 0;
-    let mut i = 0;
-    while i < lines.len() {
-        if line == wanted {
-            out[end] = lines[i];
-            end += 1;
-        }
-        line += (lines[i] == b'\n') as usize;
-        i += 1;
-    }
-    end
-}
-
 // ---- numbers
 
 // A digit below 16.
@@ -56,7 +32,11 @@ fn glyph(d: u32) -> u8
     requires { d < 16 }
     ensures { result ≡ glyph_of d }
 {
-    if d < 10 { 48 + d as u8 } else { 87 + d as u8 }
+    if d < 10 {
+        b'0' + d as u8
+    } else {
+        b'a' + (d - 10) as u8
+    }
 }
 
 // The eight digits of a float's bits, from the last to the first.
@@ -65,11 +45,9 @@ fn put_number(out: &mut [u8], at: usize, x: f32) -> usize
     ensures { PutsText at (bits x) out.old result out.new }
 {
     let mut rest = patterns::bits(x);
-    let mut i = 8;
-    while i > 0 {
-        i -= 1;
+    for i in (0..8).rev() {
         out[at + i] = glyph(rest % 16);
-        rest = rest / 16;
+        rest /= 16;
     }
     at + 8
 }
@@ -81,16 +59,14 @@ pub fn fill(out: &mut [u8], at: usize, form: &[u8], numbers: &[f32]) -> usize
 {
     let mut end = at;
     let mut used = 0;
-    let mut i = 0;
-    while i < form.len() {
-        if (form[i] == b'#') & (used < numbers.len()) {
+    for (i, byte) in form.iter().enumerate() {
+        if (*byte == b'#') & (used < numbers.len()) {
             end = put_number(out, end, numbers[used]);
             used += 1;
         } else {
-            out[end] = form[i];
+            out[end] = *byte;
             end += 1;
         }
-        i += 1;
     }
     end
 }

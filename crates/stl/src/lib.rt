@@ -47,12 +47,10 @@ fn put_corners(bytes: &[u8], n: usize, area: &mut [f32])
     requires { (stl_length n ≤ length bytes.now) × (length area.old ≡ 9 * n) }
     ensures { area.new ≡ floats_of (corners_to bytes.now n) }
 {
-    let mut t = 0;
-    while t < n {
+    for t in 0..n {
         let at = corners_at(t);
         let to = 9 * t;
-        words::put_floats(&bytes[at..at + 36], &mut area[to..to + 9]);
-        t += 1;
+        words::put_words(&bytes[at..at + 36], &mut area[to..to + 9]);
     }
 }
 
@@ -61,10 +59,8 @@ fn put_ids(area: &mut [u32])
     requires { (length area.old % 3 ≡ 0) × (length area.old ≤ 4294967296) }
     ensures { area.new ≡ ids_to (length area.old / 3) }
 {
-    let mut i = 0;
-    while i < area.len() {
-        area[i] = i as u32;
-        i += 1;
+    for (i, id) in area.iter_mut().enumerate() {
+        *id = i as u32;
     }
 }
 

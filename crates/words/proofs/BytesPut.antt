@@ -8,24 +8,6 @@ use lib.ListN.{length, get_or, take, drop, set, length-append, drop_of_length-le
 use lib.Seq.{length-take-le, take_all, take_at, drop-cons}
 use Rattle.words.specs.Words.{bytes_of, all_bytes}
 
--- ---- one word
-
--- four bytes stored one behind the other
-pub four_set : (at : ℕ) (t : List ℕ) (a b c d : ℕ) → at + 4 ≤ length t
-    → set (set (set (set t at a) (at + 1) b) (at + 2) c) (at + 3) d ≡ take at t ++ (a ∷ b ∷ c ∷ d ∷ drop (at + 4) t)
-four_set zero [] a b c d h = absurd (omega arith)
-four_set zero (p ∷ []) a b c d h = absurd (omega arith)
-four_set zero (p ∷ q ∷ []) a b c d h = absurd (omega arith)
-four_set zero (p ∷ q ∷ r ∷ []) a b c d h = absurd (omega arith)
-four_set zero (p ∷ q ∷ r ∷ s ∷ t) a b c d h = refl
-four_set (suc at) [] a b c d h = absurd (omega arith)
-four_set (suc at) (p ∷ t) a b c d h =
-    let one : suc at + 1 ≡ suc (at + 1) = omega arith in
-    let two : suc at + 2 ≡ suc (at + 2) = omega arith in
-    let three : suc at + 3 ≡ suc (at + 3) = omega arith in
-    let four : suc at + 4 ≡ suc (at + 4) = omega arith in
-    rw (one, two, three, four) (ap (λ (l : List ℕ). p ∷ l) (four_set at t a b c d (omega arith)))
-
 -- ---- one behind the other
 
 module _ (ws : List ℕ) where

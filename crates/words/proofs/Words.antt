@@ -5,15 +5,9 @@ use mathlib.Core.List.{List, [], ◌∷◌, ◌++◌, map, append_assoc, append-
 use Prim.Native.Nat.{ℕ, ◌+◌, ◌*◌, ◌≤◌, ◌<◌}
 use native.Mathlib.Numerals.{add-one}
 use native.Mathlib.Omega.{arith}
-use lib.Ieee.{Float, binary32, of_bits}
 use lib.ListN.{length, take, drop, set, length-drop, drop_of_length-le}
 use lib.Seq.{take_all, take-suc-set, get_or-drop, drop-drop}
-use Rattle.words.specs.Words.{u32_at, words_in, floats_of}
-
-pub floats_map : (ws : List ℕ) → map (of_bits binary32) ws ≡ floats_of ws
-unfolding floats_of
-floats_map [] = refl
-floats_map (w ∷ ws) = ap (λ (l : List Float). of_bits binary32 w ∷ l) (floats_map ws)
+use Rattle.words.specs.Words.{u32_at, words_in}
 
 words_first : (l : List ℕ) → 4 ≤ length l → words_in l ≡ u32_at l 0 ∷ words_in (drop 4 l)
 unfolding u32_at words_in

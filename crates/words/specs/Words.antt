@@ -1,5 +1,5 @@
 -- Numbers in bytes, little-endian: one at a place, those of a payload, these as floats; and the bytes of a number, and of many.
-use Rattle.std.specs.Prelude.{ℕ, ◌+◌, ◌*◌, ◌/◌, ◌%◌, ◌<◌, List, [], ◌∷◌, ◌++◌, get_or, Float}
+use Rattle.std.specs.Prelude.{ℕ, ◌+◌, ◌*◌, ◌/◌, ◌%◌, ◌<◌, List, [], ◌∷◌, ◌++◌, map, get_or, Float}
 use Rattle.std.specs.Float.{binary32}
 use Rattle.std.specs.Float.Ieee.{of_bits}
 
@@ -23,8 +23,7 @@ words_in (a ∷ b ∷ c ∷ d ∷ l) = (a + 256 * b + 65536 * c + 16777216 * d) 
 
 -- the floats of words: a NaN's pattern is a NaN
 unfoldable pub floats_of : List ℕ → List Float
-floats_of [] = []
-floats_of (w ∷ ws) = of_bits binary32 w ∷ floats_of ws
+floats_of = map (of_bits binary32)
 
 -- a u32 as four bytes, and words one behind the other
 unfoldable pub bytes_of : ℕ → List ℕ

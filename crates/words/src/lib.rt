@@ -1,8 +1,10 @@
 // Numbers from bytes and bytes from numbers, little-endian, for those who read and write files.
 #![tactic(auto)]
 
-ghost use Rattle.std.specs.Prelude.{◌≡◌, ◌+◌, ◌*◌, ◌≤◌, ◌<◌, ◌++◌, length, take, drop};
-ghost use Rattle.words.specs.Words.{byte as byte_of, u16_at, u32_at, words_in, floats_of, bytes_of, all_bytes};
+ghost use Rattle.std.specs.Prelude.{◌≡◌, ℕ, ◌+◌, ◌*◌, ◌≤◌, ◌<◌, ◌++◌, map, length, take, drop};
+ghost use Rattle.std.specs.Float.{binary32};
+ghost use Rattle.std.specs.Float.Ieee.{of_bits};
+ghost use Rattle.words.specs.Words.{byte as byte_of, u16_at, u32_at, words_in, bytes_of, all_bytes};
 
 // ---- one at a place
 
@@ -19,9 +21,7 @@ pub fn u16_at(bytes: &[u8], at: usize) -> u32
     requires { at + 2 ≤ length bytes.now }
     ensures { result ≡ u16_at bytes.now at }
 {
-    let low = byte(bytes, at);
-    let high = byte(bytes, at + 1);
-    low + 256 * high
+    u16::from_le_bytes([bytes[at], bytes[at + 1]]) as u32
 }
 
 // The u32 at a place.
@@ -29,36 +29,42 @@ pub fn u32_at(bytes: &[u8], at: usize) -> u32
     requires { at + 4 ≤ length bytes.now }
     ensures { result ≡ u32_at bytes.now at }
 {
-    let first = byte(bytes, at);
-    let second = byte(bytes, at + 1);
-    let third = byte(bytes, at + 2);
-    let fourth = byte(bytes, at + 3);
-    first + 256 * second + 65536 * third + 16777216 * fourth
+    u32::from_le_bytes([bytes[at], bytes[at + 1], bytes[at + 2], bytes[at + 3]])
 }
 
 // ---- all of a payload
 
-// The words as floats.
-pub fn put_floats(bytes: &[u8], area: &mut [f32])
-    requires { length bytes.now ≡ 4 * length area.old }
-    ensures { area.new ≡ floats_of (words_in bytes.now) }
-{
-    let mut i = 0;
-    while i < area.len() {
-        area[i] = floats::float_of(u32_at(bytes, 4 * i));
-        i += 1;
+// What a file holds as words of 32 bits: numbers as they are, or floats by their patterns.
+pub trait FromWord: Copy {
+    ghost of_word: { ℕ → Self };
+
+    fn from_word(word: u32) -> Self
+        ensures { result ≡ of_word word };
+}
+
+impl FromWord for u32 {
+    ghost of_word = { λ w. w };
+
+    fn from_word(word: u32) -> u32 {
+        word
     }
 }
 
-// The words as they are.
-pub fn put_words(bytes: &[u8], area: &mut [u32])
+impl FromWord for f32 {
+    ghost of_word = { of_bits binary32 };
+
+    fn from_word(word: u32) -> f32 {
+        floats::float_of(word)
+    }
+}
+
+// The words, each as what it stands for.
+pub fn put_words<U: FromWord>(bytes: &[u8], area: &mut [U])
     requires { length bytes.now ≡ 4 * length area.old }
-    ensures { area.new ≡ words_in bytes.now }
+    ensures { area.new ≡ map U.of_word (words_in bytes.now) }
 {
-    let mut i = 0;
-    while i < area.len() {
-        area[i] = u32_at(bytes, 4 * i);
-        i += 1;
+    for (i, place) in area.iter_mut().enumerate() {
+        *place = U::from_word(u32_at(bytes, 4 * i));
     }
 }
 
@@ -69,10 +75,7 @@ pub fn put_u32(area: &mut [u8], at: usize, w: u32)
     requires { at + 4 ≤ length area.old }
     ensures { area.new ≡ take at area.old ++ (bytes_of w ++ drop (at + 4) area.old) }
 {
-    area[at] = (w % 256) as u8;
-    area[at + 1] = (w / 256 % 256) as u8;
-    area[at + 2] = (w / 65536 % 256) as u8;
-    area[at + 3] = (w / 16777216 % 256) as u8;
+    area[at..at + 4].copy_from_slice(&w.to_le_bytes());
 }
 
 // All the words as bytes.
@@ -80,9 +83,7 @@ pub fn put_bytes(words: &[u32], area: &mut [u8])
     requires { length area.old ≡ 4 * length words.now }
     ensures { area.new ≡ all_bytes words.now }
 {
-    let mut i = 0;
-    while i < words.len() {
-        put_u32(area, 4 * i, words[i]);
-        i += 1;
+    for (i, word) in words.iter().enumerate() {
+        put_u32(area, 4 * i, *word);
     }
 }

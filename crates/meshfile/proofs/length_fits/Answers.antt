@@ -1,16 +1,16 @@
--- `meshfile::length_fits` meets its contract: its tests are the definition's. Assumes nothing.
-use borrow.Author.Tests.{eq-eqb, ne_eqb}
+-- `meshfile::length_fits` meets its contract: case by case its tests are the definition's. Assumes nothing.
+use mathlib.Core.Logic.{⊎_elim}
 use Rattle.meshfile.specs.Format.{length_fits}
 use Rattle.meshfile.proofs.length_fits.Goals as goal
 
-pub returns-then-kind-eq1 : goal.returns-then-kind-eq1
+pub returns-in-Unit : goal.returns-in-Unit
 unfolding length_fits
-returns-then-kind-eq1 c = rw (eq-eqb _ _ c.if-kind-eq1.true)
+returns-in-Unit c = rw c.in-Unit.is
 
-pub returns-then-kind-eq4 : goal.returns-then-kind-eq4
+pub returns-in-Vertices : goal.returns-in-Vertices
 unfolding length_fits
-returns-then-kind-eq4 c = rw (ne_eqb _ _ c.if-kind-eq1.false, eq-eqb _ _ c.if-kind-eq4.true)
+returns-in-Vertices c = ⊎_elim (λ e. rw e) (λ e. rw e) c.in-Vertices.is
 
-pub returns : goal.returns
+pub returns-in-Flags : goal.returns-in-Flags
 unfolding length_fits
-returns c = rw (ne_eqb _ _ c.if-kind-eq1.false, ne_eqb _ _ c.if-kind-eq4.false)
+returns-in-Flags c = rw c.in-Flags.is

@@ -2,11 +2,11 @@
 use Rattle.std.specs.Prelude.{◌≡◌, ◌||◌, cond, ℕ, ◌+◌, ◌*◌, ◌/◌, List, ltb, length, take, drop, Result, Ok, Err}
 use Rattle.ids.specs.declared.refusal.Refusal.{Refusal}
 use Rattle.meshfile.specs.declared.FlagValues.{FlagValues}
-use Rattle.meshfile.specs.declared.MeshBits.{MeshBits}
+use Rattle.meshfile.specs.declared.MeshFile.{MeshFile}
 use Rattle.meshfile.specs.declared.Parts.{Parts}
 use Rattle.words.specs.Words.{u32_at, words_in}
 use Rattle.meshfile.specs.Format.{behind, front_of, ending_of, Contents, File, file_of}
-use Rattle.meshfile.specs.Reading.{reading_of, ids_after}
+use Rattle.meshfile.specs.Reading.{reading_of, answer_as, ids_after}
 
 unfoldable pub parts_by : ℕ → ℕ → Result FlagValues Refusal → Result Parts Refusal
 parts_by f i (Err refusal) = Err refusal
@@ -48,6 +48,7 @@ file_at bytes (Err refusal) = Err refusal
 file_at bytes (Ok p) = Ok (contents_at bytes p)
 
 -- what reading all but the vertices gives, for which there is room for v
-pub record IdsRead (bytes : List ℕ) (v : ℕ) (ids : List ℕ) (r : Result MeshBits Refusal) (ids' : List ℕ) : Type 0 where
-  pub answers : r ≡ reading_of (file_of bytes) v (length ids)
+pub record IdsRead {A : Type 0} (of_word : ℕ → A) (bytes : List ℕ) (v : ℕ) (ids : List ℕ) (r : Result (MeshFile A) Refusal) (ids' : List ℕ)
+    : Type 0 where
+  pub answers : r ≡ answer_as of_word (reading_of (file_of bytes) v (length ids))
   pub ids_after_lem : ids' ≡ ids_after (file_of bytes) v ids

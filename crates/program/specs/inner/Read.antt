@@ -9,12 +9,12 @@ use Rattle.listing.specs.Listing.{refused_line}
 use Rattle.program.specs.Program.{mesh_text}
 use Rattle.program.specs.StlText.{stl_unit}
 
-unfoldable pub read_text : List Float → List ℕ → Result MeshFile Refusal → List ℕ
+unfoldable pub read_text : List Float → List ℕ → Result (MeshFile Float) Refusal → List ℕ
 read_text vs ids (Err refusal) = refused_line (refusal_number refusal)
 read_text vs ids (Ok m) = mesh_text (take m.floats vs) (take m.ids ids) m.unit m.clip m.profile
 
 -- what stands beside the floats and ids of n triangles of an STL: its unit, its counts, and no flags
-pub record OfTriangles (n : ℕ) (m : MeshFile) : Type 0 where
+pub record OfTriangles (n : ℕ) (m : MeshFile Float) : Type 0 where
   pub unit : m.unit ≡ of_bits binary32 stl_unit
   pub clip : m.clip ≡ false
   pub profile : m.profile ≡ None

@@ -1,20 +1,17 @@
--- `spelling::put` meets its contract: i bytes are copied, and then all of them. Assumes nothing.
+-- `spelling::put` meets its contract: the text stands between what was there. Assumes nothing.
+use mathlib.Core.Path.{refl}
 use native.Mathlib.Omega.{arith}
-use lib.Seq.{paste-zero}
-use Rattle.spelling.proofs.Puts.{paste_more, puts_all}
-use borrow.Author.Rules.{rules}
+use Prim.Native.Nat.{◌+◌}
+use lib.ListN.{length}
+use borrow.Rule.Slice.PartMut.{Post-is}
+use Rattle.spelling.specs.inner.Steps.{written}
 use Rattle.spelling.proofs.put.Goals as goal
 
-pub loop-i-init : goal.loop-i-init
-loop-i-init c = (search rules, search rules, paste-zero c.args.out.now c.args.at c.args.text.now)
-
-pub loop-i-preserved : goal.loop-i-preserved
-loop-i-preserved c =
-    let l = c.loop-i in
-    let more = paste_more c.args.at c.args.text.now c.args.out.now l.out l.i (search rules) c.requires l.invariant.2 in
-    (search rules, search rules, more)
-
 pub returns : goal.returns
+unfolding written
 returns c =
-    let l = c.loop-i in
-    puts_all c.args.at c.args.text.now c.args.out.now l.out l.i (omega arith) l.invariant.2
+    let a = c.args in
+    record {
+      place = refl;
+      later = rw (c.copy_from_slice.ensures.after, Post-is a.at (a.at + length a.text.now) a.out.now (omega arith));
+    }

@@ -5,12 +5,11 @@ use borrow.Author.Rules.{rules}
 use Rattle.spelling.proofs.put_number.Goals as goal
 
 pub loop-i-init : goal.loop-i-init
-loop-i-init c = (search rules, search rules, spelt_none _ c.bits-rest.result _)
+loop-i-init c = spelt_none _ c.bits-rest.result _
 
 pub loop-i-preserved : goal.loop-i-preserved
-loop-i-preserved c =
-    (search rules, search rules, spelt_more c.args.at _ c.loop-i.invariant.2 _ c.glyph.ensures (search rules) c.requires)
+loop-i-preserved c = spelt_more c.args.at _ c.loop-i.invariant _ c.glyph.ensures (search rules) c.requires
 
 pub returns : goal.returns
 unfolding bits
-returns c = rw (← c.bits-rest.ensures) (spelt_all _ _ c.loop-i.invariant.2 (search rules))
+returns c = rw (← c.bits-rest.ensures) (spelt_all _ _ c.loop-i.invariant (search rules))

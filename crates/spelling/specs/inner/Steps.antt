@@ -1,6 +1,5 @@
 -- How text is put together: a text at a place, and the place behind it.
 use Rattle.std.specs.Prelude.{◌≡◌, ℕ, ◌+◌, Bool, true, false, cond, List, ◌++◌, ◌∷◌, [], eqb, length, take, drop, Float}
-use mir.Val.{bool_byte}
 use Rattle.spelling.specs.Text.{bits}
 
 -- the area with a text at a place
@@ -11,11 +10,6 @@ written at text area = take at area ++ (text ++ drop (at + length text) area)
 pub record PutsText (at : ℕ) (text area : List ℕ) (r : ℕ) (area' : List ℕ) : Type 0 where
   pub place : r ≡ at + length text
   pub later : area' ≡ written at text area
-
--- line k of a text that begins in line n, with its end
-unfoldable pub line_of : ℕ → ℕ → List ℕ → List ℕ
-line_of n k [] = []
-line_of n k (b ∷ t) = cond (eqb n k) (b ∷ []) [] ++ line_of (n + bool_byte (eqb b 10)) k t
 
 -- one byte of a form: the next number if it is a mark and there is one, or the byte; and the rest with the other numbers
 unfoldable pub filled_at : Bool → ℕ → List Float → (List Float → List ℕ) → List ℕ

@@ -1,12 +1,6 @@
--- What the loop keeps, and what grows less by each turn.
-use mathlib.Core.Path.{◌≡◌}
-use Prim.Native.Nat.{ℕ, ◌≤◌, ◌-◌}
-use lib.ListN.{length}
+-- What the loop keeps: the words put so far, then those still to come, are the payload's.
 use Rattle.words.proofs.Words.{Put}
 use Rattle.words.proofs.put_words.Given as goal
 
 abbrev pub invariant-loop-i : goal.invariant-loop-i
-invariant-loop-i l = (l.i ≤ length l.initial.area) × (length l.area ≡ length l.initial.area) × Put (λ (w : ℕ). w) l.bytes l.i l.area
-
-abbrev pub decreases-loop-i : goal.decreases-loop-i
-decreases-loop-i l = length l.initial.area - l.i
+invariant-loop-i g l = Put g.U.FromWord.of_word l.bytes l.i l.area

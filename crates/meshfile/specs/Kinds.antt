@@ -1,0 +1,9 @@
+-- The numbers of the kinds of records, as document 01 has them.
+use Rattle.std.specs.Prelude.{ℕ}
+use Rattle.meshfile.specs.declared.kind.Kind.{Kind}
+
+abbrev pub kind_number : Kind → ℕ
+kind_number Kind.Unit = 1
+kind_number Kind.Vertices = 2
+kind_number Kind.Ids = 3
+kind_number Kind.Flags = 4

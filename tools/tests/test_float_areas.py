@@ -33,7 +33,7 @@ STORES = {
 NAMED = {
     ("qto", "compute", "surfaces"): [
         "surfaces.len(),",
-        "vertices, indices, unit_scale, edition, work, raster, surfaces,",  # of the call that the next test holds
+        "Ok(full(&mesh, edition, work, raster, surfaces))",  # of the call that the next test holds
     ],
     ("meshfile", "read", "vertices"): [
         "let found = read_ids(bytes, vertices.len(), ids);",

@@ -108,7 +108,8 @@ module _ (vs : List Float) (ids : List ℕ) (u : Float) (e clip defect : ℕ) (w
     pub refused : (why : Refusal) → a ≡ Err why
         → ComputesNumbered vs ids u e clip defect w r s words (0x8000_0000 + refusal_number why) w' r' s' words
     unfolding answer_number answer_words
-    refused why ha = numbered (0x8000_0000 + refusal_number why) words (sym (ap answer_number ha)) (sym (ap (answer_words clip defect words) ha))
+    refused why ha = numbered (0x8000_0000 + refusal_number why) words (sym (ap answer_number ha))
+        (sym (ap (answer_words clip defect words) ha))
 
 -- any two numbers that the contract allows are equal, and so is what is left in the record's words and in the areas
 pub compute_numbered_one : ComputeNumberedOne

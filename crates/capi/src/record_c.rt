@@ -10,6 +10,7 @@ use qto::Takeoff;
 // ---- the prism bound as numbers
 
 // Was the bound computed?
+#[tactic(auto, unfolding(record::specs::Numbers::prism_number))]
 fn prism_number(prism: Option<f32>) -> u32
     ensures { result ≡ prism_number prism }
 {
@@ -20,6 +21,7 @@ fn prism_number(prism: Option<f32>) -> u32
 }
 
 // Its bits, and 0 where it was not.
+#[tactic(auto, unfolding(record::specs::Numbers::prism_bits))]
 fn prism_bits(prism: Option<f32>) -> u32
     ensures { result ≡ prism_bits prism }
 {
@@ -36,15 +38,11 @@ fn record_words(t: Takeoff) -> [u32; 26]
 {
     let q = t.qto;
     let pairs = t.pairs;
-    let quality = q.mesh_quality;
-    let method = q.volume_method;
-    let profile = q.profile_invalid;
-    let prism = q.volume_prism_bound_m3;
     [
-        u32::from(quality),
+        u32::from(q.mesh_quality),
         q.volume_reliable as u32,
-        u32::from(method),
-        record::profile_number(profile),
+        u32::from(q.volume_method),
+        record::profile_number(q.profile_invalid),
         floats::bits(q.volume_m3),
         floats::bits(q.aabb_volume_m3),
         floats::bits(q.surface_area_m2),
@@ -55,8 +53,8 @@ fn record_words(t: Takeoff) -> [u32; 26]
         floats::bits(q.largest_surface_m2),
         floats::bits(q.smallest_surface_m2),
         floats::bits(q.volume_best_m3),
-        prism_number(prism),
-        prism_bits(prism),
+        prism_number(q.volume_prism_bound_m3),
+        prism_bits(q.volume_prism_bound_m3),
         q.surface_count,
         q.triangles_used,
         q.triangles_out_of_range,
@@ -94,11 +92,10 @@ pub extern "C" fn mf_compute(
     let answer = qto::compute(vertices, ids, unit, edition, work, raster, surfaces);
     match answer {
         Ok(t) => {
-            let pairs = t.pairs;
             let qto = t
                 .qto
                 .apply_product_flags(clip == 1, record::profile_of(defect));
-            *record = record_words(Takeoff { qto, pairs });
+            *record = record_words(Takeoff { qto, ..t });
             0
         }
         Err(refusal) => REFUSED + u32::from(refusal),

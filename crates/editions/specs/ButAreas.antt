@@ -30,7 +30,8 @@ PairUnseen = (vs : List Float) (ids : List ℕ) (u : Float) (p p' : Thresholds) 
 
 abbrev pub EditionUnseen : Type 0
 EditionUnseen =
-    (vs : List Float) (ids : List ℕ) (u : Float) (e e' : ℕ) (w r : List ℕ) (s : List Float) (a a' : Result Takeoff Refusal) (w₁ w₂ r₁ r₂ : List ℕ)
+    (vs : List Float) (ids : List ℕ) (u : Float) (e e' : ℕ) (w r : List ℕ) (s : List Float) (a a' : Result Takeoff Refusal)
+    (w₁ w₂ r₁ r₂ : List ℕ)
     (s₁ s₂ : List Float)
     → T (edition_known e) → T (edition_known e') → Computes vs ids u e w r s a w₁ r₁ s₁ → Computes vs ids u e' w r s a' w₂ r₂ s₂
     → Agree ButAreas SameArea a a' w₁ w₂ r₁ r₂ s₁ s₂

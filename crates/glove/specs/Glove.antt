@@ -11,7 +11,8 @@ use Rattle.glove.specs.Turned.{TurnedRecords, TurnedArea}
 -- the same vertices, unit and edition, and lent areas alike before the call (`glove`)
 abbrev pub Glove : Type 0
 Glove =
-    (vs : List Float) (ids : List ℕ) (u : Float) (e : ℕ) (w r : List ℕ) (s : List Float) (a a' : Result Takeoff Refusal) (w₁ w₂ r₁ r₂ : List ℕ)
+    (vs : List Float) (ids : List ℕ) (u : Float) (e : ℕ) (w r : List ℕ) (s : List Float) (a a' : Result Takeoff Refusal)
+    (w₁ w₂ r₁ r₂ : List ℕ)
     (s₁ s₂ : List Float)
     → Computes vs ids u e w r s a w₁ r₁ s₁ → Computes vs (reversed ids) u e w r s a' w₂ r₂ s₂
     → Agree (Beside TurnedRecords) TurnedArea a a' w₁ w₂ r₁ r₂ s₁ s₂

@@ -74,7 +74,8 @@ module _ (vs : List Float) (ids : List ℕ) (u : Float) (clip : Bool) (profile :
 
   -- ---- by what `compute` gave, over areas as long as the program's
 
-  module _ (w r : List ℕ) (a : Result Takeoff Refusal) (w' r' : List ℕ) (s' : List Float) (made : Computes vs ids u named_edition w r s a w' r' s') where
+  module _ (w r : List ℕ) (a : Result Takeoff Refusal) (w' r' : List ℕ) (s' : List Float)
+      (made : Computes vs ids u named_edition w r s a w' r' s') where
     pub rows_fit : (t : Takeoff) → a ≡ Ok t → 4 * t.qto.surface_count ≤ length s'
     unfolding answer_rows
     rows_fit t e =

@@ -34,7 +34,8 @@ named_edition = 1
 unfoldable pub text_at : Result Check Refusal → List Float → List ℕ → Float → Bool → Option ProfileDefect → List ℕ
 text_at (Err why) vs ids u clip profile = refused_line (refusal_number why)
 text_at (Ok Check.Zero) vs ids u clip profile = listed ids clip profile zero_record []
-text_at (Ok Check.Full) vs ids u clip profile = listed ids clip profile (record_of vs ids u (thresholds_of named_edition)) (surface_rows vs ids u)
+text_at (Ok Check.Full) vs ids u clip profile = listed ids clip profile (record_of vs ids u (thresholds_of named_edition))
+    (surface_rows vs ids u)
 
 -- The program lends 13,824 work words, 65,536 raster bytes and 2,048 surface floats, enough for every file, and names an edition that is
 -- known: so it never prints 1, 3 or 7 (`areas_suffice`).

@@ -46,7 +46,8 @@ module _ (vs : List Float) (ids : List ℕ) (u : Float) (e : ℕ) (w r : List �
 
 -- what holds of the zero record and its pairs, and of those of a mesh that passes, holds of whatever comes back
 pub of_record : (P : Takeoff → Type 0) (vs : List Float) (ids : List ℕ) (u : Float) (e : ℕ) (w r : List ℕ) (s : List Float) → P zero_takeoff
-    → (Passes vs ids u e → P (takeoff_of vs ids u (thresholds_of e))) → {a : Result Takeoff Refusal} {w' r' : List ℕ} {s' : List Float} {t : Takeoff}
+    → (Passes vs ids u e → P (takeoff_of vs ids u (thresholds_of e))) → {a : Result Takeoff Refusal} {w' r' : List ℕ}
+    {s' : List Float} {t : Takeoff}
     → Computes vs ids u e w r s a w' r' s' → a ≡ Ok t → P t
 unfolding answer_at
 of_record P vs ids u e w r s zero_has full-has {a} {w'} {r'} {s'} {t} c is =

@@ -29,7 +29,8 @@ area_at (Ok Check.Full) after area = after
 
 -- The complete contract: of floats vs, ids, a unit u, an edition e, and lent work area w, raster r and surface area s come the answer a and
 -- the later w', r' and s'.
-pub record Computes (vs : List Float) (ids : List ℕ) (u : Float) (e : ℕ) (w r : List ℕ) (s : List Float) (a : Result Takeoff Refusal) (w' r' : List ℕ)
+pub record Computes (vs : List Float) (ids : List ℕ) (u : Float) (e : ℕ) (w r : List ℕ) (s : List Float) (a : Result Takeoff Refusal)
+    (w' r' : List ℕ)
     (s' : List Float) : Type 0 where
   pub answers : a ≡ answer_at (check_of vs ids u e (length w) (length r) (length s)) (takeoff_of vs ids u (thresholds_of e))
   pub work : w' ≡ area_at (check_of vs ids u e (length w) (length r) (length s)) (cleared (work_words (length vs) (length ids)) w) w
@@ -39,6 +40,7 @@ pub record Computes (vs : List Float) (ids : List ℕ) (u : Float) (e : ℕ) (w 
 -- any two answers that the contract allows are equal, and so is what is left in the areas (`compute_one`)
 abbrev pub ComputeOne : Type 0
 ComputeOne =
-    (vs : List Float) (ids : List ℕ) (u : Float) (e : ℕ) (w r : List ℕ) (s : List Float) (a a' : Result Takeoff Refusal) (w₁ w₂ r₁ r₂ : List ℕ)
+    (vs : List Float) (ids : List ℕ) (u : Float) (e : ℕ) (w r : List ℕ) (s : List Float) (a a' : Result Takeoff Refusal)
+    (w₁ w₂ r₁ r₂ : List ℕ)
     (s₁ s₂ : List Float)
     → Computes vs ids u e w r s a w₁ r₁ s₁ → Computes vs ids u e w r s a' w₂ r₂ s₂ → (a ≡ a') × (w₁ ≡ w₂) × (r₁ ≡ r₂) × (s₁ ≡ s₂)

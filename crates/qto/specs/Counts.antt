@@ -9,7 +9,8 @@ use Rattle.qto.specs.Compute.{Computes}
 
 abbrev pub FullCounts : Type 0
 FullCounts =
-    (vs : List Float) (ids : List ℕ) (u : Float) (e : ℕ) (w r : List ℕ) (s : List Float) (a : Result Takeoff Refusal) (w' r' : List ℕ) (s' : List Float)
+    (vs : List Float) (ids : List ℕ) (u : Float) (e : ℕ) (w r : List ℕ) (s : List Float) (a : Result Takeoff Refusal) (w' r' : List ℕ)
+    (s' : List Float)
     (t : Takeoff)
     → Computes vs ids u e w r s a w' r' s' → a ≡ Ok t → check_of vs ids u e (length w) (length r) (length s) ≡ Ok Check.Full
     → t.qto.triangles_used + t.qto.triangles_out_of_range + t.qto.triangles_sliver ≡ triangle_count ids

@@ -36,7 +36,8 @@ FiniteRows (r ∷ rs) = T (finite r.area) × FiniteRows rs
 
 abbrev pub ComputesFinite : Type 0
 ComputesFinite =
-    (vs : List Float) (ids : List ℕ) (u : Float) (e : ℕ) (w r : List ℕ) (s : List Float) (a : Result Takeoff Refusal) (w' r' : List ℕ) (s' : List Float)
+    (vs : List Float) (ids : List ℕ) (u : Float) (e : ℕ) (w r : List ℕ) (s : List Float) (a : Result Takeoff Refusal) (w' r' : List ℕ)
+    (s' : List Float)
     (t : Takeoff)
     → Computes vs ids u e w r s a w' r' s' → a ≡ Ok t → FiniteRecord t.qto
 

@@ -16,6 +16,7 @@ pub record PairsAre (t : Takeoff) : Type 0 where
 
 abbrev pub ComputesPairs : Type 0
 ComputesPairs =
-    (vs : List Float) (ids : List ℕ) (u : Float) (e : ℕ) (w r : List ℕ) (s : List Float) (a : Result Takeoff Refusal) (w' r' : List ℕ) (s' : List Float)
+    (vs : List Float) (ids : List ℕ) (u : Float) (e : ℕ) (w r : List ℕ) (s : List Float) (a : Result Takeoff Refusal) (w' r' : List ℕ)
+    (s' : List Float)
     (t : Takeoff)
     → Computes vs ids u e w r s a w' r' s' → a ≡ Ok t → PairsAre t

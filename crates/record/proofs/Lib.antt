@@ -1,4 +1,3 @@
--- The order of the flags; what they leave alone; document 01's numbers for the defects name them.
-mod Order
+-- What the flags leave alone; document 01's numbers for the defects name them.
 pub mod Numbers
 pub mod Kept

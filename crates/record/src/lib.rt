@@ -177,14 +177,15 @@ pub fn profile_number(profile: Option<ProfileDefect>) -> u32
 // ---- flags as numbers
 
 // Is clip 0 or 1, and defect 0 to 4?
+// Stays: numbers, since the flags of C (`mf_compute`, `mf_write_mesh`) and of a file's kind 4 are.
 pub fn flags_fit(clip: u32, defect: u32) -> bool
     ensures { result ≡ flags_fit clip defect }
 {
     (clip <= 1) & (defect <= 4)
 }
 
-// Stays: a function, for the same reason.
 // The profile of a number: 0 is a valid one, and all from 4 are the last defect.
+// Stays: a function, since neither u32 nor Option is a type of this crate, so that no From can be written for them here.
 pub fn profile_of(defect: u32) -> Option<ProfileDefect>
     ensures { result ≡ profile_at defect }
 {

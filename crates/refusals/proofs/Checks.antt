@@ -45,7 +45,8 @@ not_refused true h = tt
 not_refused false h = absurd (false≢true (sym h))
 
 -- the mesh passes, and the areas are long enough
-pub admitted : (vs : List Float) (ids : List ℕ) (u : Float) (e w r s : ℕ) (k : Result Check Refusal) → k ≡ Ok Check.Full → k ≡ check_of vs ids u e w r s
+pub admitted : (vs : List Float) (ids : List ℕ) (u : Float) (e w r s : ℕ) (k : Result Check Refusal) → k ≡ Ok Check.Full
+    → k ≡ check_of vs ids u e w r s
     → Admitted vs ids u e w r s
 unfolding check_of is_full
 admitted vs ids u e w r s k h is =

@@ -57,7 +57,8 @@ clip_keeps false q q' r = r
 clip_keeps true q q' r =
     keeps clip_unapplied (λ x. refl) (λ x x' e. marked_open _ _ x.profile_invalid x'.profile_invalid x x' e.profile e) q q' r
 
-profile_keeps : (profile : Option ProfileDefect) (q q' : MeshQto) → AgreeRecords q q' → AgreeRecords (if_invalid profile q) (if_invalid profile q')
+profile_keeps : (profile : Option ProfileDefect) (q q' : MeshQto) → AgreeRecords q q' → AgreeRecords (if_invalid profile q)
+    (if_invalid profile q')
 unfolding if_invalid marked
 profile_keeps None q q' r = r
 profile_keeps (Some d) q q' r =

@@ -114,7 +114,8 @@ module _ (W : ℕ → List ℕ → List ℕ → Type 0) (S : ℕ → List ℕ �
   rows_at (Ok Check.Full) passes = k.full_rows (passes refl)
 
   -- flags that are none are refused before anything is asked of the mesh
-  fitting : (fit : Bool) (c : Result Check Refusal) → (c ≡ Ok Check.Full → Passes vs ids u e) → cond (not fit) (Err Refusal.File) c ≡ Ok Check.Full
+  fitting : (fit : Bool) (c : Result Check Refusal) → (c ≡ Ok Check.Full → Passes vs ids u e) → cond (not fit)
+      (Err Refusal.File) c ≡ Ok Check.Full
       → Passes vs ids u e
   fitting false c passes h = let no : ◌≡◌ {A = ℕ} 0 1 = cc in absurd (no_more no)
     where

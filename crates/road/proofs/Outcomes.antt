@@ -54,7 +54,8 @@ pub zero_beside : (R : MeshQto → MeshQto → Type 0) → R zero_record zero_re
 unfolding AgreePairs
 zero_beside R r = record { records = r; pairs = refl }
 
-module _ (R : Takeoff → Takeoff → Type 0) (S : Result Takeoff Refusal → List Float → List Float → Type 0) (vs vs' : List Float) (ids ids' : List ℕ)
+module _ (R : Takeoff → Takeoff → Type 0) (S : Result Takeoff Refusal → List Float → List Float → Type 0) (vs vs' : List Float)
+    (ids ids' : List ℕ)
     (u : Float) (e e' : ℕ) (s : List Float) (k : Alike R S vs vs' ids ids' u e e' s) where
   abbrev made : Takeoff
   made = takeoff_of vs ids u (thresholds_of e)
@@ -80,7 +81,8 @@ module _ (R : Takeoff → Takeoff → Type 0) (S : Result Takeoff Refusal → Li
   outcomes_agree w r a a' w₁ w₂ r₁ r₂ s₁ s₂ c c' =
       let said = check_of vs ids u e (length w) (length r) (length s) in
       let same = k.checks (length w) (length r) (length s) in
-      let passes : said ≡ Ok Check.Full → Passes vs ids u e = λ h. (admitted vs ids u e (length w) (length r) (length s) said h refl).mesh in
+      let passes : said ≡ Ok Check.Full → Passes vs ids u e = λ h.
+      (admitted vs ids u e (length w) (length r) (length s) said h refl).mesh in
       record {
         answers = rw (c.answers, c'.answers, same) (agree_at said passes);
         work = rw (c.work, c'.work, same, k.lengths);

@@ -42,7 +42,8 @@ pub record AgreeRecords (q q' : MeshQto) : Type 0 where
 -- the same flags keep that (`flags_keep`)
 abbrev pub FlagsKeep : Type 0
 FlagsKeep =
-    (clip : Bool) (profile : Option ProfileDefect) (q q' : MeshQto) → AgreeRecords q q' → AgreeRecords (flagged clip profile q) (flagged clip profile q')
+    (clip : Bool) (profile : Option ProfileDefect) (q q' : MeshQto) → AgreeRecords q q' → AgreeRecords (flagged clip profile q)
+    (flagged clip profile q')
 
 -- the pairs, by the verdict: those of an open mesh may differ, all of them; of any other mesh they are the same
 unfoldable pub AgreePairs : Quality → Pairs → Pairs → Type 0
@@ -63,7 +64,8 @@ AgreeAnswers R (Err why) (Ok t) = ⊥
 AgreeAnswers R (Ok t) (Err why) = ⊥
 
 -- the answers, and what stands in work area, raster and surface area afterwards; of the surface area S says it, by the answer
-pub record Agree (R : Takeoff → Takeoff → Type 0) (S : Result Takeoff Refusal → List Float → List Float → Type 0) (a a' : Result Takeoff Refusal) (w w' r r' : List ℕ)
+pub record Agree (R : Takeoff → Takeoff → Type 0) (S : Result Takeoff Refusal → List Float → List Float → Type 0)
+    (a a' : Result Takeoff Refusal) (w w' r r' : List ℕ)
     (s s' : List Float) : Type 0 where
   pub answers : AgreeAnswers R a a'
   pub work : w' ≡ w

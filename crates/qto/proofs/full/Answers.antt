@@ -11,7 +11,8 @@ use borrow.Rule.Slice.PartMut.{post_of}
 use Rattle.qto.proofs.full.Goals as goal
 
 pub slice_bounds-measure-end : goal.slice_bounds-measure-end
-slice_bounds-measure-end c = omega (arith, index_in (length c.args.mesh.now.vertices.now) (length c.args.mesh.now.indices.now), c.requires.work)
+slice_bounds-measure-end c = omega
+    (arith, index_in (length c.args.mesh.now.vertices.now) (length c.args.mesh.now.indices.now), c.requires.work)
 
 pub measure-m-requires : goal.measure-m-requires
 measure-m-requires c =
@@ -63,7 +64,8 @@ returns c =
     let within = index_in (length a.mesh.now.vertices.now) (length a.mesh.now.indices.now) in
     record {
       is =
-          of_mesh a.mesh.now.vertices.now a.mesh.now.indices.now a.mesh.now.unit_scale (thresholds_of a.edition) m.result q.result m.ensures.is
+          of_mesh a.mesh.now.vertices.now a.mesh.now.indices.now a.mesh.now.unit_scale
+          (thresholds_of a.edition) m.result q.result m.ensures.is
           q.ensures.is q.ensures.pairs_are;
       work =
           front_cleared words _ (m.new.index ++ post_of 0 (index - 0) a.work.now) q.new.work c.work_words-words.ensures q.ensures.work

@@ -8,7 +8,8 @@ use Rattle.qto.proofs.measure.Goals as goal
 pub arrange-e-requires : goal.arrange-e-requires
 arrange-e-requires c =
     let a = c.args in
-    let found : Found a.mesh.now.vertices.now a.mesh.now.indices.now a.b c.origin.result (thresholds_of a.edition) c.thresholds_of.result a.surfaces.now
+    let found : Found a.mesh.now.vertices.now a.mesh.now.indices.now a.b c.origin.result
+    (thresholds_of a.edition) c.thresholds_of.result a.surfaces.now
     c.walk-w.result c.walk-w.new.rows =
     record {
       is_box = c.requires.is_box;
@@ -21,7 +22,8 @@ arrange-e-requires c =
 pub returns : goal.returns
 returns c =
     let a = c.args in
-    let found : Found a.mesh.now.vertices.now a.mesh.now.indices.now a.b c.origin.result (thresholds_of a.edition) c.thresholds_of.result a.surfaces.now
+    let found : Found a.mesh.now.vertices.now a.mesh.now.indices.now a.b c.origin.result
+    (thresholds_of a.edition) c.thresholds_of.result a.surfaces.now
     c.walk-w.result c.walk-w.new.rows =
     record {
       is_box = c.requires.is_box;
@@ -33,9 +35,11 @@ returns c =
     let e = c.arrange-e in
     record {
       is =
-          measured a.mesh.now.unit_scale found (front - 0) (omega arith) e.result _ e.ensures _ _ _ _ _ c.requires.mesh.fine c.narrow.ensures
+          measured a.mesh.now.unit_scale found (front - 0)
+          (omega arith) e.result _ e.ensures _ _ _ _ _ c.requires.mesh.fine c.narrow.ensures
           c.f32_to_f64_with_nan-cube.ensures c.narrow-2.ensures c.f32_to_f64_with_nan.ensures c.scaled.ensures;
       few = few a.mesh.now.unit_scale found c.requires.mesh.ids_most;
       later =
-          rows_after a.mesh.now.unit_scale found (front - 0) (omega arith) e.result _ e.ensures _ (Post-is 0 front c.walk-w.new.rows (omega arith));
+          rows_after a.mesh.now.unit_scale found (front - 0) (omega arith) e.result _ e.ensures _
+          (Post-is 0 front c.walk-w.new.rows (omega arith));
     }

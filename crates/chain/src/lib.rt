@@ -2,7 +2,7 @@
 // and either refuses, with nothing changed, or answers and leaves zero in the words that it needs.
 #![tactic(auto)]
 
-ghost use Rattle.std.specs.Prelude.{◌≡◌, ◌&&◌, List, ℕ, ◌*◌, length};
+ghost use Rattle.std.specs.Prelude.{◌≡◌, ◌&&◌, List, ℕ, Bool, ◌*◌, length};
 ghost use Rattle.ids.specs.Triangles.{triangle_count};
 ghost use Rattle.ids.specs.EdgeChain.{enough, proper_edges, closed_manifold, winding_coherent};
 ghost use Rattle.table.specs.inner.Words.{Lends, Leaves};
@@ -10,7 +10,6 @@ ghost use Rattle.steps.specs.inner.Rows.{EdgeTable, EdgeRows};
 ghost use Rattle.chain.specs.Answers.{incidence_of, net_of};
 ghost use Rattle.chain.specs.Answers.{EdgeChainGiven, FaceNetGiven, VerdictGiven};
 ghost use Rattle.chain.specs.Answers.{ClosedManifoldGiven, WindingCoherentGiven};
-ghost use Rattle.chain.specs.inner.Questions.{question_of};
 
 use ids::Refusal;
 pub use tally::{Incidence, Net};
@@ -39,62 +38,63 @@ fn net_in(ids: &[u32], part: &mut [u32]) -> Net
 
 // ---- the two questions with yes or no for an answer: they have one table, of all edges but those between equal ids
 
+trait Question {
+    ghost holds: { List ℕ → Bool };
+
+    // What a table of all edges says, where there are enough ids.
+    fn ask(part: &[u32], n: usize) -> bool
+        requires { EdgeRows n part.now }
+        ensures { (ids : List ℕ) → EdgeTable n part.now (proper_edges ids)
+            → (enough (length ids) && result) ≡ holds ids };
+}
+
 // No edge is there that is not used twice, once each way.
-fn all_paired(part: &[u32], n: usize) -> bool
-    requires { EdgeRows n part.now }
-    ensures { (ids : List ℕ) → EdgeTable n part.now (proper_edges ids)
-        → (enough (length ids) && result) ≡ closed_manifold ids }
-{
-    let unpaired = edges::count::<edges::Unpaired>(part, n);
-    unpaired == 0
+struct ClosedManifold;
+
+impl Question for ClosedManifold {
+    ghost holds = { closed_manifold };
+
+    fn ask(part: &[u32], n: usize) -> bool {
+        let unpaired = edges::count::<edges::Unpaired>(part, n);
+        unpaired == 0
+    }
 }
 
 // Some edge is there, and at most one in fifty is used neither once nor twice, once each way.
-fn most_cohere(part: &[u32], n: usize) -> bool
-    requires { EdgeRows n part.now }
-    ensures { (ids : List ℕ) → EdgeTable n part.now (proper_edges ids)
-        → (enough (length ids) && result) ≡ winding_coherent ids }
-{
-    let present = edges::count::<edges::Present>(part, n);
-    let incoherent = edges::count::<edges::Incoherent>(part, n);
-    (0 < present) & (50 * incoherent <= present)
-}
+struct WindingCoherent;
 
-// One or the other.
-fn rows_say(part: &[u32], n: usize, winding: bool) -> bool
-    requires { EdgeRows n part.now }
-    ensures { (ids : List ℕ) → EdgeTable n part.now (proper_edges ids)
-        → (enough (length ids) && result) ≡ question_of winding ids }
-{
-    if winding {
-        most_cohere(part, n)
-    } else {
-        all_paired(part, n)
+impl Question for WindingCoherent {
+    ghost holds = { winding_coherent };
+
+    fn ask(part: &[u32], n: usize) -> bool {
+        let present = edges::count::<edges::Present>(part, n);
+        let incoherent = edges::count::<edges::Incoherent>(part, n);
+        (0 < present) & (50 * incoherent <= present)
     }
 }
 
 // Makes the table, asks it, and clears it.
-fn question_in(ids: &[u32], part: &mut [u32], winding: bool) -> bool
+fn answer_in<Q: Question>(ids: &[u32], part: &mut [u32]) -> bool
     requires { Lends (4 * length ids.now) ids.now part.old }
-    ensures { Leaves (4 * length ids.now) (question_of winding ids.now) result part.new }
+    ensures { Leaves (4 * length ids.now) (Q.holds ids.now) result part.new }
 {
     let m = 4 * ids.len();
     let n = edges::rows(ids.len());
     table::clear(part, m);
     edges::gather::<edges::Proper>(ids, part, n);
-    let said = rows_say(part, n, winding);
+    let said = Q::ask(part, n);
     table::clear(part, m);
     tally::enough(ids.len()) & said
 }
 
-// Refuses, or answers the question about the winding or the other.
+// Refuses, or answers the question.
 #[tactic(auto, using(table::proofs::Words::answered))]
-fn question(ids: &[u32], work: &mut [u32], winding: bool) -> Result<bool, Refusal>
-    ensures { VerdictGiven (question_of winding) ids.now work.old result work.new }
+fn answer<Q: Question>(ids: &[u32], work: &mut [u32]) -> Result<bool, Refusal>
+    ensures { VerdictGiven Q.holds ids.now work.old result work.new }
 {
     let m = 4 * ids.len();
     table::admit(ids.len(), m, work.len())?;
-    Ok(question_in(ids, &mut work[..m], winding))
+    Ok(answer_in::<Q>(ids, &mut work[..m]))
 }
 
 // ---- the public routines
@@ -113,14 +113,14 @@ pub fn edge_chain(ids: &[u32], work: &mut [u32]) -> Result<Incidence, Refusal>
 pub fn is_closed_manifold(ids: &[u32], work: &mut [u32]) -> Result<bool, Refusal>
     ensures { ClosedManifoldGiven ids.now work.old result work.new }
 {
-    question(ids, work, false)
+    answer::<ClosedManifold>(ids, work)
 }
 
 // Is at most one edge in fifty used neither once nor twice, once each way?
 pub fn winding_coherent(ids: &[u32], work: &mut [u32]) -> Result<bool, Refusal>
     ensures { WindingCoherentGiven ids.now work.old result work.new }
 {
-    question(ids, work, true)
+    answer::<WindingCoherent>(ids, work)
 }
 
 // The face net of a list of ids: the largest magnitude of a face's sum, and whether all sums are 0.

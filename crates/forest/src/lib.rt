@@ -2,16 +2,45 @@
 // triangle that it hangs on. Internal: what the piece count stands on.
 #![tactic(auto)]
 
-ghost use Rattle.std.specs.Prelude.{◌≡◌, ◌≤◌, ◌<◌, length};
+ghost use Rattle.std.specs.Prelude.{◌≡◌, ◌+◌, ◌*◌, ◌/◌, ◌%◌, ◌≤◌, ◌<◌, length};
 ghost use Rattle.forest.specs.inner.Words.{parent_in, held_in, with_parent, with_slot, Planted, Freed};
 ghost use Rattle.forest.specs.inner.Labels.{Forest, RootOf, Joined};
+
+// ---- a word
+
+// What a word packs, in so many bits: what its triangle hangs on in the lower 15, what its slot holds in the 17 above.
+#[derive(Clone, Copy)]
+struct Word {
+    parent: u32,
+    held: u32,
+    ghost fits: { (parent < 32768) × (held < 131072) },
+}
+
+impl From<u32> for Word {
+    ghost from_gives = { λ bits word. (word.parent ≡ bits % 32768) × (word.held ≡ bits / 32768) };
+
+    fn from(bits: u32) -> Word {
+        Word {
+            parent: bits % 32768,
+            held: bits / 32768,
+        }
+    }
+}
+
+impl From<Word> for u32 {
+    ghost from_gives = { λ word bits. bits ≡ word.held * 32768 + word.parent };
+
+    fn from(word: Word) -> u32 {
+        word.held * 32768 + word.parent
+    }
+}
 
 // What triangle t hangs on: itself, if on none.
 pub fn parent(work: &[u32], t: usize) -> usize
     requires { t < length work.now }
     ensures { result ≡ parent_in work.now t }
 {
-    (work[t] % 32768) as usize
+    Word::from(work[t]).parent as usize
 }
 
 // What slot r holds: 0, if it is free.
@@ -19,7 +48,7 @@ pub fn slot(work: &[u32], r: usize) -> usize
     requires { r < length work.now }
     ensures { result ≡ held_in work.now r }
 {
-    (work[r] / 32768) as usize
+    Word::from(work[r]).held as usize
 }
 
 // Triangle t hangs on p.
@@ -27,7 +56,11 @@ fn hang(work: &mut [u32], t: usize, p: usize)
     requires { (t < length work.old) × (p < 32768) }
     ensures { work.new ≡ with_parent work.old t p }
 {
-    work[t] = work[t] / 32768 * 32768 + p as u32;
+    let held = Word::from(work[t]).held;
+    work[t] = u32::from(Word {
+        parent: p as u32,
+        held,
+    });
 }
 
 // Slot r holds s.
@@ -35,31 +68,35 @@ pub fn hold(work: &mut [u32], r: usize, s: usize)
     requires { (r < length work.old) × (s < 131072) }
     ensures { work.new ≡ with_slot work.old r s }
 {
-    work[r] = s as u32 * 32768 + work[r] % 32768;
+    let parent = Word::from(work[r]).parent;
+    work[r] = u32::from(Word {
+        parent,
+        held: s as u32,
+    });
 }
 
 // Each triangle hangs on itself, and every slot is free.
+#[tactic(auto, using(crate::proofs::Words::plant_next))]
 pub fn plant(work: &mut [u32])
     requires { length work.old ≤ 32768 }
     ensures { Planted (length work.old) work.new }
 {
-    let mut i = 0;
-    while i < work.len() {
-        work[i] = i as u32;
-        i += 1;
+    for (t, word) in work.iter_mut().enumerate() {
+        *word = t as u32;
     }
 }
 
 // Every slot is free.
+#[tactic(auto, using(crate::proofs::Words::free_next))]
 pub fn free(work: &mut [u32])
     ensures { Freed (length work.old) work.old work.new }
 {
-    let mut i = 0;
-    while i < work.len() {
-        work[i] = work[i] % 32768;
-        i += 1;
+    for word in work.iter_mut() {
+        *word = Word::from(*word).parent;
     }
 }
+
+// ---- the forest
 
 // The root above t. Each triangle passed is hung two steps higher.
 fn root(work: &mut [u32], t: usize) -> usize
@@ -67,6 +104,7 @@ fn root(work: &mut [u32], t: usize) -> usize
     ensures { RootOf work.old work.new t result }
 {
     let mut x = t;
+    // Stays: it climbs from parent to parent and writes on the way, with no list of x to go over.
     loop {
         let p = parent(work, x);
         if p == x {

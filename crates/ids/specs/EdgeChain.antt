@@ -1,12 +1,12 @@
 -- Edge chain: the undirected edges that the triangles of a list of ids use, and what is asked of them.
 use Rattle.std.specs.Prelude.{ℕ, ◌*◌, ◌%◌, min, max, Bool, true, cond, not, ◌&&◌, ◌||◌, List, [], ◌∷◌, ◌++◌, ltb, leb, eqb, length}
+use Rattle.ids.specs.declared.edge.Edge as code
 use Rattle.ids.specs.Triangles.{Triangle, distinct, over_triangles}
 use Rattle.ids.specs.Uses.{Use, keys_that}
 
--- an undirected edge
-pub record Edge : Type 0 where
-  pub low : ℕ
-  pub high : ℕ
+-- an undirected edge: its two ids, `low` and `high`, as in the code
+abbrev pub Edge : Type 0
+Edge = code.Edge
 
 unfoldable pub same_edge : Edge → Edge → Bool
 same_edge e f = eqb e.low f.low && eqb e.high f.high

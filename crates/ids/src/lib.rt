@@ -2,8 +2,10 @@
 // it is lent; in proofs/ what these say of every edge, face and piece, and laws that other crates cite. Of code there are the refusals alone.
 #![tactic(auto)]
 
+mod edge; // an undirected edge
 mod refusal; // why a routine refuses
 
+pub use edge::Edge;
 pub use refusal::Refusal;
 
 // The most floats, and the most ids, that a mesh may have (01).

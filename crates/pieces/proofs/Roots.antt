@@ -1,13 +1,16 @@
 -- The distinct-id triangles that hang on themselves are as many as the pieces, once all is joined. Assumes nothing.
 use mathlib.Core.Path.{◌≡◌, refl, sym, ap, ◌∙◌}
 use mathlib.Core.Bool.{Bool, true, false, cond, ◌&&◌}
-use mathlib.Core.List.{List, ◌∷◌}
+use mathlib.Core.List.{List, [], ◌∷◌, ◌++◌}
 use Prim.Native.Nat.{ℕ, zero, suc, ◌+◌, ◌/◌, ◌<◌}
 use native.Mathlib.Omega.{arith}
 use native.Mathlib.Decide.{ℕ_discrete}
 use borrow.Author.Tests.{eq-eqb, ne_eqb}
 use lib.Dec.{eqb}
 use lib.ListN.{length}
+use Rattle.std.specs.Prelude.{count_by}
+use Rattle.std.specs.List.{range_with_len}
+use Rattle.std.proofs.lemmas.List.Sums.{sum_by_push}
 use Rattle.ids.specs.Uses.{bit, sum_by}
 use Rattle.ids.specs.Triangles.{triangle}
 use Rattle.table.specs.inner.Rows.{sum_to}
@@ -23,6 +26,12 @@ use Rattle.pieces.specs.inner.Joined.{Whole, is_root}
 
 -- ---- the numbers below n that pass
 
+range_more : (a n : ℕ) → range_with_len a (suc n) ≡ range_with_len a n ++ (a + n) ∷ []
+range_more a zero = ap (λ (x : ℕ). x ∷ []) (omega arith)
+range_more a (suc n) =
+    let on : a + 1 + n ≡ a + suc n = omega arith in
+    ap (λ (l : List ℕ). a ∷ l) (range_more (a + 1) n ∙ ap (λ (x : ℕ). range_with_len (a + 1) n ++ x ∷ []) on)
+
 module _ (p : ℕ → Bool) where
   -- a sum over all numbers below n is one over those that pass, where the others add nothing
   those_sum : (q r : ℕ → Bool) (n : ℕ) → ((i : ℕ) → i < n → r i ≡ p i && q i)
@@ -37,27 +46,26 @@ module _ (p : ℕ → Bool) where
       go true e false d ih k = rw (k, e, d) (omega arith)
       go false e c d ih k = rw (k, e) (omega arith)
 
--- ---- one triangle
-
-module _ (ids t : List ℕ) (i : ℕ) where
-  pub root_yes : parent_in t i ≡ i → solid ids i ≡ true → 1 ≡ bit (is_root ids t i)
-  unfolding is_root bit
-  root_yes e s = rw (s, eq-eqb (parent_in t i) i e)
-
-  pub root_flat : solid ids i ≡ false → 0 ≡ bit (is_root ids t i)
-  unfolding is_root bit
-  root_flat s = rw s
-
-  pub root_other : (parent_in t i ≡ i → ⊥) → 0 ≡ bit (is_root ids t i)
-  unfolding is_root bit
-  root_other n = elim (solid ids i) as (λ b. 0 ≡ bit (b && eqb (parent_in t i) i)) [ true ↦ rw (ne_eqb (parent_in t i) i n) | false ↦ refl ]
+  -- and a count over them is such a sum
+  counted_sum : (n : ℕ) → count_by p (range_with_len 0 n) ≡ sum_to (λ i. bit (p i)) n
+  unfolding sum_to bit
+  counted_sum zero = refl
+  counted_sum (suc n) =
+      let at : 0 + n ≡ n = omega arith in
+      ap (count_by p) (range_more 0 n ∙ ap (λ (x : ℕ). range_with_len 0 n ++ x ∷ []) at)
+      ∙ sum_by_push (λ i. cond (p i) 1 0) (range_with_len 0 n) n ∙ omega (arith, counted_sum n, as_bit (p n))
+    where
+      as_bit : (b : Bool) → cond b 1 0 ≡ bit b
+      as_bit true = refl
+      as_bit false = refl
 
 -- ---- all of them
 
-pub answers : (ids t : List ℕ) → length t ≡ length ids / 3 → Whole ids t → sum_to (λ i. bit (is_root ids t i)) (length t) ≡ pieces joins ids
+pub answers : (ids t : List ℕ) → length t ≡ length ids / 3 → Whole ids t
+    → count_by (is_root ids t) (range_with_len 0 (length t)) ≡ pieces joins ids
 unfolding pieces solids is_root
 answers ids t e z =
-    those_sum (solid ids) (λ i. eqb (f i) i) (is_root ids t) n same ∙ total ∙ ap (λ (k : ℕ). length (groups joined (those (solid ids) k))) e
+    counted_sum (is_root ids t) n ∙ those_sum (solid ids) (λ i. eqb (f i) i) (is_root ids t) n same ∙ total ∙ ap (λ (k : ℕ). length (groups joined (those (solid ids) k))) e
   where
     n : ℕ
     n = length t

@@ -4,13 +4,12 @@
 // each piece has one triangle that hangs on itself.
 #![tactic(auto)]
 
-ghost use Rattle.std.specs.Prelude.{◌≡◌, ◌+◌, ◌*◌, ◌≤◌, ◌<◌, length};
-ghost use Rattle.ids.specs.Uses.{bit};
+ghost use Rattle.std.specs.Prelude.{◌≡◌, ◌+◌, ◌*◌, ◌≤◌, ◌<◌, length, count_by};
+ghost use Rattle.std.specs.List.{range_with_len};
 ghost use Rattle.ids.specs.Triangles.{triangle_count};
 ghost use Rattle.ids.specs.Pieces.{share_edge, pieces as pieces_of};
-ghost use Rattle.table.specs.inner.Rows.{sum_to};
 ghost use Rattle.table.specs.inner.Words.{Leaves};
-ghost use Rattle.sides.specs.inner.Joins.{OneWordEach, Labelled, Grows};
+ghost use Rattle.sides.specs.inner.Joins.{OneWordEach, Joinable, Grows};
 ghost use Rattle.sides.specs.inner.Sides.{taken};
 ghost use Rattle.sides.specs.inner.Passes.{Settles};
 ghost use Rattle.pieces.specs.inner.Joined.{Tied, Whole, is_root};
@@ -22,7 +21,7 @@ use ids::Refusal;
 
 // Joins triangles s and t, if they have distinct ids and share an edge.
 fn tie(ids: &[u32], work: &mut [u32], s: usize, t: usize)
-    requires { OneWordEach ids.now work.old × Labelled ids.now work.old × (s < length work.old) × (t < length work.old) }
+    requires { Joinable ids.now work.old × (s < length work.old) × (t < length work.old) }
     ensures { Grows ids.now work.old work.new
         (Tied ids.now (length work.old) s t (t + 1)) }
 {
@@ -34,14 +33,12 @@ fn tie(ids: &[u32], work: &mut [u32], s: usize, t: usize)
 
 // Joins triangle t to each one behind it that it is to be joined with.
 fn settle(ids: &[u32], work: &mut [u32], t: usize)
-    requires { OneWordEach ids.now work.old × Labelled ids.now work.old × (t < length work.old) }
+    requires { Joinable ids.now work.old × (t < length work.old) }
     ensures { Grows ids.now work.old work.new
         (Tied ids.now (length work.old) t (t + 1) (length work.old)) }
 {
-    let mut j = t + 1;
-    while j < work.len() {
+    for j in t + 1..work.len() {
         tie(ids, work, t, j);
-        j += 1;
     }
 }
 
@@ -49,7 +46,7 @@ fn settle(ids: &[u32], work: &mut [u32], t: usize)
 
 // A pass, and if it entered nothing the first triangle by itself: where to go on.
 fn advance(ids: &[u32], work: &mut [u32], class: u64, from: usize) -> usize
-    requires { OneWordEach ids.now work.old × Labelled ids.now work.old × (from < length work.old) }
+    requires { Joinable ids.now work.old × (from < length work.old) }
     ensures { (from < result) × (result ≤ length work.old)
         × Settles ids.now (taken ids.now class) (length work.old) (3 * from) (3 * result)
         work.old work.new }
@@ -64,11 +61,12 @@ fn advance(ids: &[u32], work: &mut [u32], class: u64, from: usize) -> usize
 
 // Joins all triangles that share an edge of a class, pass after pass.
 fn join_class(ids: &[u32], work: &mut [u32], class: u64)
-    requires { OneWordEach ids.now work.old × Labelled ids.now work.old }
+    requires { Joinable ids.now work.old }
     ensures { Settles ids.now (taken ids.now class) (length work.old) 0
         (3 * length work.old) work.old work.new }
 {
     let mut t = 0;
+    // Stays: each turn goes on where the pass before it stopped, so no range or iterator gives the next t.
     while t < work.len() {
         t = advance(ids, work, class, t);
     }
@@ -80,38 +78,26 @@ fn join_all(ids: &[u32], work: &mut [u32])
     ensures { Whole ids.now work.new }
 {
     forest::plant(work);
-    let mut class = 0;
-    while class < 3 {
+    for class in 0..3 {
         join_class(ids, work, class);
-        class += 1;
     }
 }
 
-// 1 for a distinct-id triangle that hangs on itself.
-fn one_root(ids: &[u32], work: &[u32], t: usize) -> u32
+// Is triangle t a distinct-id triangle that hangs on itself?
+#[tactic(auto, unfolding(crate::specs::inner::Joined::is_root, ids::specs::Pieces::solid))]
+fn is_root(ids: &[u32], work: &[u32], t: usize) -> bool
     requires { OneWordEach ids.now work.now × (t < length work.now) }
-    ensures { (result ≡ bit (is_root ids.now work.now t)) × (result ≤ 1) }
+    ensures { result ≡ is_root ids.now work.now t }
 {
-    if forest::parent(work, t) == t {
-        if table::distinct_at(ids, t) {
-            return 1;
-        }
-    }
-    0
+    forest::parent(work, t) == t && table::distinct_at(ids, t)
 }
 
 // How many distinct-id triangles hang on themselves.
 fn count(ids: &[u32], work: &[u32]) -> u32
     requires { OneWordEach ids.now work.now }
-    ensures { result ≡ sum_to (λ t. bit (is_root ids.now work.now t)) (length work.now) }
+    ensures { result ≡ count_by (is_root ids.now work.now) (range_with_len 0 (length work.now)) }
 {
-    let mut roots: u32 = 0;
-    let mut t = 0;
-    while t < work.len() {
-        roots += one_root(ids, work, t);
-        t += 1;
-    }
-    roots
+    (0..work.len()).filter(|t| is_root(ids, work, *t)).count() as u32
 }
 
 // The number of pieces, over an area of just the words that it takes, which are zero afterwards.

@@ -1,6 +1,6 @@
 -- Joins make labels coarser, and only as far as the joined triangles ask: what one join does, none, and one routine after another.
 -- Assumes nothing.
-use mathlib.Core.Path.{◌≡◌, refl, sym, subst, fun_ext}
+use mathlib.Core.Path.{◌≡◌, refl, sym, ◌∙◌, subst, fun_ext}
 use mathlib.Core.List.{List}
 use Prim.Native.Nat.{ℕ}
 use native.Mathlib.Omega.{arith}
@@ -8,7 +8,7 @@ use lib.ListN.{length}
 use Rattle.forest.specs.inner.Words.{parent_in, Planted}
 use Rattle.forest.specs.inner.Labels.{LabelledBy, merged, Forest, Joined}
 use Rattle.forest.proofs.Labels.{merged_keeps, merged_inner}
-use Rattle.sides.specs.inner.Joins.{Linked, Good, Labelled, More, Grows}
+use Rattle.sides.specs.inner.Joins.{Joinable, Linked, Good, Labelled, More, Grows}
 
 -- a join of two linked triangles
 module _ {ids t u : List ℕ} {a b : ℕ} (e : length u ≡ length t) (k : Linked ids (length t) a b) (j : Joined t u a b) where
@@ -43,6 +43,10 @@ more_then a b s f g =
 
 pub labelled_then : {ids t u : List ℕ} {Q : (ℕ → ℕ) → Type 0} → Labelled ids t → Grows ids t u Q → Labelled ids u
 labelled_then z more = let p = more z.0 z.1 in (p.label, p.good)
+
+pub joinable_then : {ids t u : List ℕ} {Q : (ℕ → ℕ) → Type 0} → Joinable ids t → length u ≡ length t → Grows ids t u Q → Joinable ids u
+joinable_then z long more =
+    record { sized = record { few = z.sized.few; long = long ∙ z.sized.long }; labelled = labelled_then z.labelled more }
 
 pub good_forest : {ids t : List ℕ} → Labelled ids t → Forest t
 good_forest z = (z.0, z.1.means)

@@ -10,16 +10,19 @@
 
 ghost use Rattle.std.specs.Prelude.{◌≡◌, ◌+◌, ◌*◌, ◌/◌, ◌≤◌, ◌<◌, min, length};
 ghost use Rattle.ids.specs.Triangles.{triangle};
-ghost use Rattle.ids.specs.EdgeChain.{edge, same_edge};
+ghost use Rattle.ids.specs.EdgeChain.{same_edge};
 ghost use Rattle.ids.specs.Pieces.{has_edge, share_edge};
 ghost use Rattle.table.specs.inner.Words.{TriangleOf};
-ghost use Rattle.sides.specs.inner.Joins.{OneWordEach, Labelled};
+ghost use Rattle.sides.specs.inner.Joins.{Joinable};
 ghost use Rattle.sides.specs.inner.Sides.{corner_after, side_edge, edge_class, taken, side_home, SoughtIn, Seekable};
 ghost use Rattle.sides.specs.inner.Passes.{SlotsReady, SideReady, Enters, EntersTo, Settles};
+
+use ids::Edge;
 
 // ---- a side
 
 // The corner after c in its triangle, round.
+#[tactic(auto, unfolding(crate::specs::inner::Sides::corner_after))]
 fn after(c: usize) -> usize
     requires { c < 4294967295 }
     ensures { result ≡ corner_after c }
@@ -27,33 +30,38 @@ fn after(c: usize) -> usize
     if c % 3 == 2 { c - 2 } else { c + 1 }
 }
 
-// Is this edge that of side c?
-fn is_edge(ids: &[u32], c: usize, low: u32, high: u32) -> bool
+// The edge of side c.
+#[tactic(auto, using(crate::proofs::Sides::after_in), unfolding(crate::specs::inner::Sides::side_edge))]
+fn edge_of(ids: &[u32], c: usize) -> Edge
     requires { TriangleOf ids.now (c / 3) }
-    ensures { result ≡ same_edge (record { low = low; high = high }) (side_edge ids.now c) }
+    ensures { result ≡ side_edge ids.now c }
 {
-    let u = ids[c];
-    let v = ids[after(c)];
-    (low == table::lesser(u, v)) & (high == table::greater(u, v))
+    Edge::between(ids[c], ids[after(c)])
+}
+
+// Is this edge that of side c?
+fn is_edge(ids: &[u32], c: usize, edge: Edge) -> bool
+    requires { TriangleOf ids.now (c / 3) }
+    ensures { result ≡ same_edge edge (side_edge ids.now c) }
+{
+    edge == edge_of(ids, c)
 }
 
 // The class of an edge.
-fn class_of(low: u32, high: u32) -> u64
-    ensures { result ≡ edge_class (record { low = low; high = high }) }
+#[tactic(auto, unfolding(crate::specs::inner::Sides::edge_class))]
+fn class_of(edge: Edge) -> u64
+    ensures { result ≡ edge_class edge }
 {
-    (low as u64 + high as u64) / 8 % 3
+    (edge.low as u64 + edge.high as u64) / 8 % 3
 }
 
-// Is the edge between two ids one of triangle t's?
-fn has_edge(ids: &[u32], t: usize, u: u32, v: u32) -> bool
+// Is the edge one of triangle t's?
+fn has_edge(ids: &[u32], t: usize, edge: Edge) -> bool
     requires { TriangleOf ids.now t }
-    ensures { result ≡ has_edge (triangle ids.now t) (edge u v) }
+    ensures { result ≡ has_edge (triangle ids.now t) edge }
 {
-    let low = table::lesser(u, v);
-    let high = table::greater(u, v);
     let at = 3 * t;
-    is_edge(ids, at, low, high)
-        | (is_edge(ids, at + 1, low, high) | is_edge(ids, at + 2, low, high))
+    is_edge(ids, at, edge) | (is_edge(ids, at + 1, edge) | is_edge(ids, at + 2, edge))
 }
 
 // Do triangles s and t share an edge?
@@ -62,10 +70,10 @@ pub fn share_edge(ids: &[u32], s: usize, t: usize) -> bool
     ensures { result ≡ share_edge (triangle ids.now s) (triangle ids.now t) }
 {
     let at = 3 * s;
-    let a = ids[at];
-    let b = ids[at + 1];
-    let c = ids[at + 2];
-    has_edge(ids, t, a, b) | (has_edge(ids, t, b, c) | has_edge(ids, t, c, a))
+    let ab = edge_of(ids, at);
+    let bc = edge_of(ids, at + 1);
+    let ca = edge_of(ids, at + 2);
+    has_edge(ids, t, ab) | (has_edge(ids, t, bc) | has_edge(ids, t, ca))
 }
 
 // ---- a pass and its hash
@@ -79,22 +87,15 @@ struct Plan {
     limit: usize,
 }
 
-// How many rows a search looks at, of n: all, if there are few.
-fn limit_of(n: usize) -> usize
-    ensures { result ≡ min n 256 }
-{
-    if n < 256 { n } else { 256 }
-}
-
 // An odd number from another, as by chance: no rule that edges could keep leads from one pass's factors to the next one's.
 fn stirred(x: u32) -> u32 {
-    let y = x as u64 * 2246822507 % 0x1_0000_0000;
-    let z = (y + y / 8192) % 0x1_0000_0000;
-    let w = z * 3266489909 % 0x1_0000_0000;
-    ((w + w / 65536) % 0x1_0000_0000 / 2 * 2 + 1) as u32
+    let y = x.wrapping_mul(2246822507);
+    let z = y.wrapping_add(y / 8192);
+    let w = z.wrapping_mul(3266489909);
+    w.wrapping_add(w / 65536) | 1
 }
 
-// The pass over a class from triangle `from` on, with n slots.
+// The pass over a class from triangle `from` on, with n slots: a search looks at 256 of them, or at all, if there are fewer.
 fn plan_of(class: u64, from: usize, n: usize) -> Plan
     requires { from < 4294900000 }
     ensures { (result.class ≡ class) × (result.limit ≡ min n 256) }
@@ -104,126 +105,93 @@ fn plan_of(class: u64, from: usize, n: usize) -> Plan
         class,
         low,
         high: stirred(low),
-        limit: limit_of(n),
+        limit: n.min(256),
     }
 }
 
 // The row at which a search for an edge starts.
-fn start(low: u32, high: u32, plan: Plan, n: usize) -> usize
+#[tactic(auto, unfolding(crate::specs::inner::Sides::side_home))]
+fn start(edge: Edge, plan: Plan, n: usize) -> usize
     requires { (0 < n) × (n < 4294967296) }
-    ensures { (result ≡ side_home plan.low plan.high n (record { low = low; high = high })) × (result < n) }
+    ensures { (result ≡ side_home plan.low plan.high n edge) × (result < n) }
 {
-    let a = low as u64 * plan.low as u64 % 0x1_0000_0000;
-    let b = high as u64 * plan.high as u64 % 0x1_0000_0000;
-    table::home(((a + b) % 0x1_0000_0000) as u32, n)
+    let low = edge.low.wrapping_mul(plan.low);
+    let high = edge.high.wrapping_mul(plan.high);
+    table::home(low.wrapping_add(high), n)
 }
 
 // The row, from `at` on and round, that holds a side with the edge or is free; n, if `limit` rows hold others.
-fn find(ids: &[u32], work: &[u32], low: u32, high: u32, at: usize, limit: usize) -> usize
+fn find(ids: &[u32], work: &[u32], edge: Edge, at: usize, limit: usize) -> usize
     requires { Seekable ids.now limit work.now × (at < length work.now) }
-    ensures { SoughtIn ids.now work.now limit at (record { low = low; high = high }) result }
+    ensures { SoughtIn ids.now work.now limit at edge result }
 {
     let n = work.len();
     let mut r = at;
-    let mut left = limit;
-    loop {
+    for _ in 0..limit {
         let s = forest::slot(work, r);
         if s == 0 {
             return r;
         }
-        if is_edge(ids, s - 1, low, high) {
+        if is_edge(ids, s - 1, edge) {
             return r;
-        }
-        left -= 1;
-        if left == 0 {
-            return n;
         }
         r = table::next(r, n);
     }
+    n
 }
 
 // ---- entering sides
 
-// What entering gave: whether all is entered, and how many more slots may be filled.
-#[derive(Clone, Copy)]
-struct Entry {
-    entered: bool,
-    spare: usize,
-}
-
-// Enters side c, between ids u and v, if its edge is of the class: joins it to the side that its row holds, or fills the row if a slot may
-// be filled.
+// Enters side c, with this edge, if that is of the class: joins it to the side that its row holds, or fills the row, if so many slots as
+// `spare` may be filled still. Is it entered?
 fn enter_side(
     ids: &[u32],
     work: &mut [u32],
     plan: Plan,
-    spare: usize,
+    spare: &mut usize,
     c: usize,
-    u: u32,
-    v: u32,
-) -> Entry
-    requires { SideReady plan ids.now work.old c u v }
-    ensures { Enters plan ids.now c (c + 1) work.old work.new result.entered }
+    edge: Edge,
+) -> bool
+    requires { SideReady plan ids.now work.old c edge }
+    ensures { Enters plan ids.now c (c + 1) work.old work.new result }
 {
-    let low = table::lesser(u, v);
-    let high = table::greater(u, v);
-    if class_of(low, high) != plan.class {
-        return Entry {
-            entered: true,
-            spare,
-        };
+    if class_of(edge) != plan.class {
+        return true;
     }
-    let at = start(low, high, plan, work.len());
-    let r = find(ids, work, low, high, at, plan.limit);
+    let at = start(edge, plan, work.len());
+    let r = find(ids, work, edge, at, plan.limit);
     if r == work.len() {
-        return Entry {
-            entered: false,
-            spare,
-        };
+        return false;
     }
     let s = forest::slot(work, r);
     if s != 0 {
         forest::join(work, (s - 1) / 3, c / 3);
-        return Entry {
-            entered: true,
-            spare,
-        };
+        return true;
     }
-    if spare == 0 {
-        return Entry {
-            entered: false,
-            spare,
-        };
+    if *spare == 0 {
+        return false;
     }
     forest::hold(work, r, c + 1);
-    Entry {
-        entered: true,
-        spare: spare - 1,
-    }
+    *spare -= 1;
+    true
 }
 
-// Enters the three sides of triangle t, if its ids are distinct.
-fn enter(ids: &[u32], work: &mut [u32], plan: Plan, spare: usize, t: usize) -> Entry
+// Enters the three sides of triangle t, if its ids are distinct. Are all entered?
+fn enter(ids: &[u32], work: &mut [u32], plan: Plan, spare: &mut usize, t: usize) -> bool
     requires { SlotsReady plan ids.now work.old × (t < length work.old) }
-    ensures { Enters plan ids.now (3 * t) (3 * (t + 1)) work.old work.new result.entered }
+    ensures { Enters plan ids.now (3 * t) (3 * (t + 1)) work.old work.new result }
 {
     let at = 3 * t;
     let a = ids[at];
     let b = ids[at + 1];
     let c = ids[at + 2];
     if !table::distinct(a, b, c) {
-        return Entry {
-            entered: true,
-            spare,
-        };
+        return true;
     }
-    let ab = enter_side(ids, work, plan, spare, at, a, b);
-    let bc = enter_side(ids, work, plan, ab.spare, at + 1, b, c);
-    let ca = enter_side(ids, work, plan, bc.spare, at + 2, c, a);
-    Entry {
-        entered: (ab.entered & bc.entered) & ca.entered,
-        spare: ca.spare,
-    }
+    let ab = enter_side(ids, work, plan, spare, at, Edge::between(a, b));
+    let bc = enter_side(ids, work, plan, spare, at + 1, Edge::between(b, c));
+    let ca = enter_side(ids, work, plan, spare, at + 2, Edge::between(c, a));
+    (ab & bc) & ca
 }
 
 // Enters triangles from `from` on: with slots to fill up to the first that finds no room, with none all of them, which only looks them
@@ -235,22 +203,19 @@ fn enter_from(ids: &[u32], work: &mut [u32], plan: Plan, most: usize, from: usiz
     let n = work.len();
     let filling = 0 < most;
     let mut spare = most;
-    let mut t = from;
-    while t < n {
-        let e = enter(ids, work, plan, spare, t);
-        if !e.entered & filling {
+    for t in from..n {
+        let entered = enter(ids, work, plan, &mut spare, t);
+        if !entered & filling {
             return t;
         }
-        spare = e.spare;
-        t += 1;
     }
-    t
+    n
 }
 
-// One pass over a class, from triangle `from` on: every side that it entered is joined with all behind it that have its edge. Where it
+// One pass over a class, from triangle `from` on: every side that it entered is joined with all behind it that have their edge. Where it
 // stopped entering.
 pub fn pass(ids: &[u32], work: &mut [u32], class: u64, from: usize) -> usize
-    requires { OneWordEach ids.now work.old × Labelled ids.now work.old × (from < length work.old) }
+    requires { Joinable ids.now work.old × (from < length work.old) }
     ensures { (from ≤ result) × (result ≤ length work.old)
         × Settles ids.now (taken ids.now class) (length work.old) (3 * from) (3 * result)
         work.old work.new }

@@ -28,6 +28,7 @@ pub fn greater(a: u32, b: u32) -> u32
 }
 
 // Do the three ids differ?
+#[tactic(auto, unfolding(ids::specs::Triangles::distinct))]
 pub fn distinct(a: u32, b: u32, c: u32) -> bool
     ensures { result ≡ is_distinct (record { a = a; b = b; c = c }) }
 {
@@ -35,6 +36,7 @@ pub fn distinct(a: u32, b: u32, c: u32) -> bool
 }
 
 // Do the three ids of triangle t differ?
+#[tactic(auto, unfolding(ids::specs::Triangles::triangle))]
 pub fn distinct_at(ids: &[u32], t: usize) -> bool
     requires { TriangleOf ids.now t }
     ensures { result ≡ is_distinct (triangle ids.now t) }
@@ -59,18 +61,16 @@ pub fn admit(ids: usize, needed: usize, lent: usize) -> Result<(), Refusal>
 }
 
 // Zeroes the first n words.
+#[tactic(auto, unfolding(ids::specs::Lent::cleared))]
 pub fn clear(work: &mut [u32], n: usize)
     requires { n ≤ length work.old }
     ensures { work.new ≡ cleared n work.old }
 {
-    let mut i = 0;
-    while i < n {
-        work[i] = 0;
-        i += 1;
-    }
+    work[..n].fill(0);
 }
 
 // The row at which a search starts, of n, by a hash.
+#[tactic(auto, unfolding(crate::specs::inner::Rows::home_row))]
 pub fn home(hash: u32, n: usize) -> usize
     requires { (0 < n) × (n < 4294967296) }
     ensures { (result ≡ home_row n hash) × (result < n) }
@@ -79,6 +79,7 @@ pub fn home(hash: u32, n: usize) -> usize
 }
 
 // The row after r, round.
+#[tactic(auto, unfolding(crate::specs::inner::Rows::next_row))]
 pub fn next(r: usize, n: usize) -> usize
     requires { (r < n) × (n < 4294967296) }
     ensures { result ≡ next_row n r }

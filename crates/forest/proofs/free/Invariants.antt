@@ -1,12 +1,6 @@
--- What the loop keeps, and what grows less by each turn.
-use mathlib.Core.Path.{◌≡◌}
-use Prim.Native.Nat.{◌-◌, ◌≤◌}
-use lib.ListN.{length}
+-- What the loop keeps.
 use Rattle.forest.specs.inner.Words.{Freed}
 use Rattle.forest.proofs.free.Given as goal
 
-abbrev pub invariant-loop-i : goal.invariant-loop-i
-invariant-loop-i l = (l.i ≤ length l.initial.work) × (length l.work ≡ length l.initial.work) × Freed l.i l.initial.work l.work
-
-abbrev pub decreases-loop-i : goal.decreases-loop-i
-decreases-loop-i l = length l.initial.work - l.i
+abbrev pub invariant-loop-word : goal.invariant-loop-word
+invariant-loop-word l = Freed l.word-index l.initial.work l.work

@@ -1,12 +1,7 @@
--- What the loop keeps, and what grows less by each turn.
-use mathlib.Core.Path.{◌≡◌}
-use Prim.Native.Nat.{◌-◌}
+-- What the loop keeps: the classes before this one are settled.
 use lib.ListN.{length}
 use Rattle.pieces.proofs.Joining.{Joining}
 use Rattle.pieces.proofs.join_all.Given as goal
 
 abbrev pub invariant-loop-class : goal.invariant-loop-class
-invariant-loop-class l = (length l.work ≡ length l.initial.work) × Joining l.ids l.work (length l.initial.work) l.class
-
-abbrev pub decreases-loop-class : goal.decreases-loop-class
-decreases-loop-class l = 3 - l.class
+invariant-loop-class l = Joining l.ids l.work (length l.initial.work) l.class

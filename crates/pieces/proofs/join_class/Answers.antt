@@ -1,9 +1,9 @@
 -- `pieces::join_class` meets its contract. The sides of the triangles before t are settled; each pass gets ahead. Assumes nothing.
-use mathlib.Core.Path.{◌≡◌, refl, ◌∙◌}
+use mathlib.Core.Path.{◌≡◌, refl}
 use Prim.Native.Nat.{◌*◌}
 use native.Mathlib.Omega.{arith}
 use lib.ListN.{length}
-use Rattle.sides.proofs.Joins.{labelled_then}
+use Rattle.sides.proofs.Joins.{joinable_then}
 use Rattle.pieces.proofs.Joining.{settles_none, settles_then}
 use Rattle.pieces.proofs.join_class.Goals as goal
 
@@ -13,7 +13,7 @@ loop-t-init c = (refl, omega arith, settles_none _ _ _ 0)
 pub advance-t-requires : goal.advance-t-requires
 advance-t-requires c =
     let l = c.loop-t in
-    (record { few = c.requires.0.few; long = l.invariant.0 ∙ c.requires.0.long }, labelled_then c.requires.1 l.invariant.2, omega arith)
+    (joinable_then c.requires l.invariant.0 l.invariant.2, omega arith)
 
 pub loop-t-smaller : goal.loop-t-smaller
 loop-t-smaller c =

@@ -18,7 +18,7 @@ returns-then-solid-share_edge c =
     let solids = both _ c.distinct_at-2.result told.0 in
     more_joined c.join.auto.work
     (record {
-      within = (c.requires.2, c.requires.3);
+      within = (c.requires.1, c.requires.2);
       solids = (sym c.distinct_at.ensures ∙ solids.0, sym c.distinct_at-2.ensures ∙ solids.1);
       share = sym c.share_edge.ensures ∙ told.1;
     })

@@ -17,6 +17,4 @@ returns c =
       side_first ids t,
       side_at ids t 1 (omega arith),
       side_at ids t 2 (omega arith),
-      c.greater-high.ensures,
-      c.lesser-low.ensures,
     )

@@ -21,17 +21,17 @@ module _ (c : lts.After-plan_of the-claims Pre Post) where
 
   emptied : SlotsReady c.plan_of-plan.result c.args.ids.now c.free.new.work
   emptied =
-      let z = c.requires.1 in
+      let z = c.requires.0.labelled in
       let limit = c.plan_of-plan.ensures.1 in
       record {
-        sized = record { few = c.requires.0.few; long = long ∙ c.requires.0.long };
-        limited = (omega (arith, limit, c.requires.2, long), omega (arith, limit));
+        sized = record { few = c.requires.0.sized.few; long = long ∙ c.requires.0.sized.long };
+        limited = (omega (arith, limit, c.requires.1, long), omega (arith, limit));
         slots = slots_free (rw long c.free.ensures.slots);
         labelled = (z.0, good_kept long c.free.ensures.parents z.1);
       }
 
 pub enter_from-next-requires : goal.enter_from-next-requires
-enter_from-next-requires c = (emptied c.before.before, omega (arith, long c.before.before, c.requires.2))
+enter_from-next-requires c = (emptied c.before.before, omega (arith, long c.before.before, c.requires.1))
 
 pub enter_from-requires : goal.enter_from-requires
 enter_from-requires c =
@@ -45,7 +45,7 @@ returns c =
     let told = c.enter_from-next.ensures in
     let kept = c.enter_from-next.auto.work in
     let behind = c.enter_from.ensures in
-    let some = lt-ltb 0 (length c.free.new.work - length c.free.new.work / 8) (omega (arith, long c.before.before.before.before.before.before.before.before.before, c.requires.2)) in
+    let some = lt-ltb 0 (length c.free.new.work - length c.free.new.work / 8) (omega (arith, long c.before.before.before.before.before.before.before.before.before, c.requires.1)) in
     let all = swept (long c.before.before.before.before.before.before.before.before.before) c.free.ensures told.enters some (rw kept at behind.enters)
     (omega (arith, behind.all refl, kept)) in (
       told.ahead,

@@ -32,6 +32,11 @@ pub record Good (ids t : List ℕ) (f : ℕ → ℕ) : Type 0 where
 abbrev pub Labelled : List ℕ → List ℕ → Type 0
 Labelled ids t = (f : ℕ → ℕ) × Good ids t f
 
+-- what joining asks for, and keeps
+pub record Joinable (ids t : List ℕ) : Type 0 where
+  pub sized : OneWordEach ids t
+  pub labelled : Labelled ids t
+
 -- labels of u that give one label to whatever f gives one, with Q
 pub record More (ids u : List ℕ) (f : ℕ → ℕ) (Q : (ℕ → ℕ) → Type 0) : Type 0 where
   pub label : ℕ → ℕ

@@ -2,7 +2,7 @@
 -- says which sides are asked for.
 use Rattle.std.specs.Prelude.{◌≡◌, Bool, true, List, ℕ, ◌-◌, ◌*◌, ◌/◌, ◌≤◌, ◌<◌, ltb, length}
 use Rattle.forest.specs.inner.Words.{held_in}
-use Rattle.ids.specs.EdgeChain.{Edge, edge}
+use Rattle.ids.specs.EdgeChain.{Edge}
 use Rattle.ids.specs.Pieces.{solid}
 use Rattle.sides.specs.declared.Plan.{Plan}
 use Rattle.sides.specs.inner.Joins.{OneWordEach, Labelled, Grows}
@@ -42,12 +42,12 @@ pub record SlotsReady (plan : Plan) (ids t : List ℕ) : Type 0 where
   pub slots : Slots ids (home_in plan t) plan.limit (length t) (held_in t)
   pub labelled : Labelled ids t
 
--- side c, of a distinct-id triangle, between ids u and v
-pub record SideReady (plan : Plan) (ids t : List ℕ) (c u v : ℕ) : Type 0 where
+-- side c, of a distinct-id triangle, with this edge
+pub record SideReady (plan : Plan) (ids t : List ℕ) (c : ℕ) (e : Edge) : Type 0 where
   pub ready : SlotsReady plan ids t
   pub here : c < 3 * length t
   pub of_solid : solid ids (c / 3) ≡ true
-  pub is : side_edge ids c ≡ edge u v
+  pub is : side_edge ids c ≡ e
 
 abbrev pub Enters : Plan → List ℕ → ℕ → ℕ → List ℕ → List ℕ → Bool → Type 0
 Enters plan ids a b t u entered = Entered ids (home_in plan t) plan.limit (length t) (taken ids plan.class) a b t u entered

@@ -1,4 +1,4 @@
--- `chain::most_cohere` meets its contract, by what it means: whether there are edges, and whether fifty times the incoherent are more.
+-- `WindingCoherent` asks its question, by what it means: whether there are edges, and whether fifty times the incoherent are more.
 -- Assumes nothing.
 use mathlib.Core.Path.{◌≡◌, ◌∙◌}
 use Prim.Native.Nat.{◌*◌, ◌<◌}
@@ -7,7 +7,7 @@ use native.Mathlib.Omega.{arith}
 use borrow.Author.Tests.{lt-ltb, le-ltb, lt-leb, le-leb}
 use Rattle.ids.specs.EdgeChain.{proper_edges, edges_that, present, incoherent, winding_coherent}
 use Rattle.edges.proofs.Tally.{table_tally}
-use Rattle.chain.proofs.most_cohere.Goals as goal
+use Rattle.chain.proofs.WindingCoherentQuestion.ask.Goals as goal
 
 ruleset tests = (lt-ltb, le-ltb, lt-leb, le-leb)
 

@@ -1,4 +1,4 @@
--- `chain::all_paired` meets its contract, by what it means: whether there are unpaired edges or none. Assumes nothing.
+-- `ClosedManifold` asks its question, by what it means: whether there are unpaired edges or none. Assumes nothing.
 use mathlib.Core.Path.{◌≡◌, ◌∙◌}
 use Prim.Native.Nat.{◌<◌}
 use native.Mathlib.Decide.{ℕ_discrete}
@@ -6,7 +6,7 @@ use native.Mathlib.Omega.{arith}
 use borrow.Author.Tests.{lt-ltb, le-ltb, lt-leb, le-leb, eq-eqb, ne_eqb}
 use Rattle.ids.specs.EdgeChain.{proper_edges, edges_that, unpaired, closed_manifold}
 use Rattle.edges.proofs.Tally.{table_tally}
-use Rattle.chain.proofs.all_paired.Goals as goal
+use Rattle.chain.proofs.ClosedManifoldQuestion.ask.Goals as goal
 
 ruleset tests = (lt-ltb, le-ltb, lt-leb, le-leb, eq-eqb, ne_eqb)
 

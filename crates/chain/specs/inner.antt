@@ -1,3 +1,0 @@
--- What only the contracts of this crate's own functions speak of: nobody has to believe it.
-pub mod Questions
-pub mod NetSmall

@@ -18,14 +18,12 @@ FUNCTION = re.compile(
 FLOATS = re.compile(r"(\w+): &mut \[f(?:32|64)")
 
 # Functions that store into floats that they are lent, and how many statements do. All of them store into a row that is there
-# or begins, but the last two: `put_floats` is lent just as many floats as a mesh file, or a triangle of an STL, has, and `centres` an array
-# of its caller's own.
+# or begins, but the last: `put_floats` is lent just as many floats as a mesh file, or a triangle of an STL, has.
 STORES = {
     ("rows", "put"): 4,
     ("surfaces", "new_row"): 1,
     ("surfaces", "put_normal"): 1,
     ("words", "put_floats"): 1,
-    ("grid", "centres"): 1,
 }
 
 # The three routines that are lent floats from outside, and every line in which they name them: the length is asked for, and
@@ -88,14 +86,9 @@ class Stores(unittest.TestCase):
         self.assertIn(arm, re.sub(r"\s", "", body))
 
     def test_the_centres_are_no_callers(self) -> None:
-        calls = [
-            line.strip()
-            for path in (ROOT / "crates").glob("*/src/**/*.rt")
-            for line in without_comments(path).splitlines()
-            if "centres(" in line and not line.startswith("pub fn")
-        ]
-        self.assertEqual(calls, ["grid::centres(&mut columns, g.x, g.w);"])
-        self.assertIn("    let mut columns = [0f32; 256];\n", without_comments(ROOT / "crates/paint/src/lib.rt"))
+        self.assertNotIn("grid", {crate for crate, _ in functions()})
+        _, body = without_comments(ROOT / "crates/grid/src/along.rt").split("pub fn centres(self) -> [f32; 256]\n")
+        self.assertIn("        let mut list = [0f32; 256];\n        for (i, here) in list.iter_mut().enumerate() {\n", body)
 
     def test_the_rows_alone_are_put_in_order(self) -> None:
         _, body = functions()["qto", "measure"]

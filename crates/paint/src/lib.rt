@@ -38,10 +38,16 @@ fn mark(cell: &mut u8, p: Point, t: Flat)
     ensures { cell.new ≡ max cell.old (place_number (place p t)) }
 {
     if *cell < 2 {
-        *cell = (*cell).max(u8::from(grid::point_in_triangle(p, t)));
+        let number = u8::from(grid::point_in_triangle(p, t));
+        // Stays: no `max`, which stores for each cell that is outside: the footprint of a sphere took a tenth longer by it.
+        if *cell < number {
+            *cell = number;
+        }
     }
 }
 
+// Stays: the bytes beside the sheet, though they are always as many as its grid has cells, since they are lent to be written while the
+// sheet is only read: in one struct, each clause would name a field behind two references, and the sheet would be lent as `&mut`.
 impl Sheet {
     fn on(grid: Grid) -> Sheet
         ensures { result.grid ≡ grid }

@@ -38,6 +38,7 @@ pub struct Footprint {
     pub cells: Pair,
 }
 
+// Stays: six numbers, since they are the fields of the struct that they make, which the definitions of `volume` and `qto` read by name.
 pub fn window_on(u: Axis, v: Axis, xmin: f32, xmax: f32, ymin: f32, ymax: f32) -> Window
     ensures { result ≡ window_of u v xmin xmax ymin ymax }
 {
@@ -57,7 +58,8 @@ pub fn no_cells() -> Pair
     Pair { covered: 0, rim: 0 }
 }
 
-// How many cells are covered, and how many of these are on the rim.
+// How many cells are covered, and how many of these are on the rim. Both in one pass with no branch: two filters would read the bytes
+// twice.
 fn tally(part: &[u8]) -> Pair
     requires { length part.now ≤ raster_bytes }
     ensures { Counts part.now result }
@@ -71,7 +73,7 @@ fn tally(part: &[u8]) -> Pair
     Pair { covered, rim }
 }
 
-// Zeroes the first n bytes.
+// Zeroes the first n bytes: a step by name, which `volume` takes too where it has no footprint to make.
 pub fn clear(area: &mut [u8], n: usize)
     requires { n ≤ length area.old }
     ensures { area.new ≡ cleared n area.old }

@@ -3,7 +3,7 @@ use Rattle.std.proofs.Common.{◌≡◌, ◌+◌, ◌*◌, true, List, sym, ◌�
 use lib.Ieee.{Float}
 use Rattle.ids.specs.Triangles.{Triangle, triangle}
 use Rattle.vertices.specs.Vertices.{corners_in_range}
-use Rattle.sums.proofs.Parts.{Corners, part_in_lem, part_out, corners_are, no_part}
+use Rattle.sums.proofs.Parts.{Corners, part_in_lem, part_out, corners_are, no_part_yet}
 use Rattle.sums.proofs.triangle.cross_at.Goals as goal
 use Rattle.sums.proofs.triangle.cross_at.Lts as lts
 use Rattle.sums.proofs.triangle.cross_at.Tie.{the-claims}
@@ -33,7 +33,7 @@ pub returns-then-not-corners_in_range : goal.returns-then-not-corners_in_range
 unfolding triangle
 returns-then-not-corners_in_range c =
     let out = sym c.corners_in_range.ensures ∙ c.if-not-corners_in_range.true in
-    λ h. no_part ∙ part_out (vs c.before.before) c.args.origin (tri c.before.before) out
+    λ h. rw c.nothing-then-not-corners_in_range.ensures (no_part_yet ∙ part_out (vs c.before.before.before) c.args.origin (tri c.before.before.before) out)
 
 pub overflow_cast-a : goal.overflow_cast-a
 overflow_cast-a c = omega (arith, c.shared_slice_known-5-1.given (3 * c.args.t))

@@ -1,17 +1,17 @@
 -- A triangle's part by what is prepared of it and by what its corners are found to be. Assumes nothing.
-use Rattle.std.proofs.Common.{◌≡◌, ◌*◌, ◌<◌, true, false, ◌&&◌, T, eqb, Option, None, Some, List, [], ◌∷◌, pos, sym, refl, subst, mul-pos, arith, eqb→eq, ltb→lt}
-use Rattle.std.specs.Option.{option_map}
+use Rattle.std.proofs.Common.{◌≡◌, ◌*◌, ◌<◌, true, false, ◌&&◌, T, eqb, List, [], ◌∷◌, pos, sym, refl, subst, mul-pos, arith, eqb→eq, ltb→lt}
 use lib.Ieee.{Float, nan, inf, fin, binary64, up, down, lt, eq, fits}
 use lib.Ieee.Fits.{and_l, and_r, down_pos}
 use Rattle.ieee.specs.Double.{nought64}
+use Rattle.ieee.proofs.Examples.{examples}
 use Rattle.ieee.proofs.Order.Differences.{zero_bits}
 use Rattle.ieee.proofs.Values.OneFloat.{value_unique}
 use Rattle.ids.specs.Triangles.{Triangle}
 use Rattle.vertices.specs.Vertices.{vertex_count, corners_in_range}
 use Rattle.vertices.proofs.Range.{corners_below}
-use Rattle.sums.specs.declared.triangle.Crossed.{Crossed}
+use Rattle.sums.specs.declared.triangle.Prepared.{Prepared}
 use Rattle.sums.specs.Facet.{at, dot, normal, size, tetra, facet_of, out_of_range, part_of, rebased, part}
-use Rattle.sums.specs.inner.Prepared.{facet_by, part_by, HasRoot, with_root, part_in}
+use Rattle.sums.specs.inner.Prepared.{facet_by, part_by, HasRoot, with_root, part_in, no_triangle}
 
 -- ---- on its way
 
@@ -44,19 +44,26 @@ equal_above x y F G h =
     above x y F G (and_l (eq x y) (lt nought64 x) h) (subst (λ (z : Float). T (lt z x)) (zero_bits binary64) l)
 
 -- by the cross product n and its square d
-pub crossed_corners : (t : List (List Float)) (n : List Float) (d v : Float) → n ≡ normal t → d ≡ dot n n → v ≡ tetra t
-    → part_in (Some (record { n = n; square = d; volume = v })) ≡ part_of t
+pub crossed_corners : (t : List (List Float)) (n : List Float) (d l v : Float) → n ≡ normal t → d ≡ dot n n → v ≡ tetra t
+    → part_in (record { in_range = true; square = d; length = l; nx = at n 0; ny = at n 1; nz = at n 2; volume = v }) ≡ part_of t
 unfolding with_root part_by facet_by part_of facet_of size
-crossed_corners t n d v n_is d-is v-is = rw (d-is, n_is, v-is)
+crossed_corners t n d l v n_is d-is v-is = rw (d-is, n_is, v-is)
 
-pub no_part : part_by None ≡ out_of_range
+pub no_part : part_by no_triangle ≡ out_of_range
 unfolding part_by
 no_part = refl
 
-pub has_root : (q : Option Crossed) → HasRoot (option_map with_root q)
+pub no_part_yet : part_in no_triangle ≡ out_of_range
+unfolding with_root part_by
+no_part_yet = refl
+
+-- the root of 0 is 0
+pub no_length : HasRoot no_triangle
+no_length = rw (zero_bits binary64) (sym examples.root_0)
+
+pub has_root : (r : Prepared) → HasRoot (with_root r)
 unfolding with_root
-has_root None = tt
-has_root (Some r) = refl
+has_root r = refl
 
 -- ---- by the corners
 pub part_out : (vs o : List Float) (t : Triangle) → corners_in_range vs t ≡ false → out_of_range ≡ part vs o t

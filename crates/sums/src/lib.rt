@@ -7,4 +7,4 @@ mod triangle; // one triangle, on its way to the facet that it adds
 
 pub use bounds::{Bounds, box_of, box_volume, extent, origin};
 pub use totals::{Areas, Slope, Thresholds, Totals, thresholds_of};
-pub use triangle::{Crossed, Facet, Prepared, cross_at, facet_by, with_root};
+pub use triangle::{Facet, Prepared, cross_at, facet_by, nothing, with_root};

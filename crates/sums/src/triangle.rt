@@ -1,7 +1,6 @@
 // One triangle of a mesh: its cross product, its volume term and its length, and the facet that it adds.
-ghost use Rattle.std.specs.Prelude.{◌≡◌, ◌<◌, ◌≤◌, T, true, length};
+ghost use Rattle.std.specs.Prelude.{◌≡◌, ◌<◌, ◌≤◌, T, length};
 ghost use Rattle.std.specs.Float.{binary64};
-ghost use Rattle.std.specs.Option.{option_map};
 ghost use Rattle.ieee.specs.Root.{root};
 ghost use Rattle.ids.specs.Lent.{most_entries};
 ghost use Rattle.ids.specs.Triangles.{triangle, triangle_count};
@@ -9,7 +8,7 @@ ghost use Rattle.vertices.specs.Vertices.{vertex_count};
 ghost use Rattle.sums.specs.Facet.{minus as minus_of, cross as cross_of, dot as dot_of, normal as normal_of, tetra as tetra_of};
 ghost use Rattle.sums.specs.Facet.{part_of, rebased, part};
 ghost use Rattle.sums.specs.Fine.{all_fine};
-ghost use Rattle.sums.specs.inner.Prepared.{facet_by, part_in, HasRoot, with_root};
+ghost use Rattle.sums.specs.inner.Prepared.{no_triangle, facet_by, part_in, HasRoot, with_root};
 
 use vertices::Corners;
 
@@ -73,29 +72,46 @@ pub struct Facet {
 // ---- a triangle on its way, in two stages: first its cross product and volume term are there, then the length. Between them the
 // triangle before it gets its length, and behind them the one before that is taken, so that a processor works at all three.
 
-// The cross product, its square, and the volume term.
+// The cross product n, its square and its length, which is 0 until the second stage, and the volume term.
+// Stays: a flag beside the numbers, since an Option of them was tried, and takes 16 instructions and 3 branches a triangle more.
 #[derive(Clone, Copy)]
-pub struct Crossed {
-    pub n: [f64; 3],
+pub struct Prepared {
+    pub in_range: bool,
     pub square: f64,
+    pub length: f64,
+    pub nx: f64,
+    pub ny: f64,
+    pub nz: f64,
     pub volume: f64,
 }
 
-// With the length.
-#[derive(Clone, Copy)]
-pub struct Prepared {
-    pub crossed: Crossed,
-    pub length: f64,
+// One that adds nothing.
+pub fn nothing() -> Prepared
+    ensures { result ≡ no_triangle }
+{
+    Prepared {
+        in_range: false,
+        square: 0.0,
+        length: 0.0,
+        nx: 0.0,
+        ny: 0.0,
+        nz: 0.0,
+        volume: 0.0,
+    }
 }
 
 // The triangle with these corners.
-fn cross_corners(t: [[f64; 3]; 3]) -> Crossed
-    ensures { part_in (Some result) ≡ part_of t }
+fn cross_corners(t: [[f64; 3]; 3]) -> Prepared
+    ensures { part_in result ≡ part_of t }
 {
     let n = normal(t);
-    Crossed {
-        n,
+    Prepared {
+        in_range: true,
         square: dot(n, n),
+        length: 0.0,
+        nx: n[0],
+        ny: n[1],
+        nz: n[2],
         volume: tetra(t),
     }
 }
@@ -112,68 +128,61 @@ fn corner(vertices: &[f32], origin: [f64; 3], v: usize) -> [f64; 3]
     [x - origin[0], y - origin[1], z - origin[2]]
 }
 
-// Triangle t, where there is one and its ids are in range.
-pub fn cross_at(vertices: &[f32], indices: &[u32], origin: [f64; 3], t: usize) -> Option<Crossed>
+// Triangle t; nothing where there is none.
+pub fn cross_at(vertices: &[f32], indices: &[u32], origin: [f64; 3], t: usize) -> Prepared
     requires { (length indices.now ≤ most_entries) × T (all_fine vertices.now) }
     ensures { t < triangle_count indices.now
         → part_in result ≡ part vertices.now origin (triangle indices.now t) }
 {
     if indices.len() / 3 <= t {
-        return None;
+        return nothing();
     }
     let corners = Corners::of(indices, t);
     if !corners.in_range(vertices) {
-        return None;
+        return nothing();
     }
     let p = corner(vertices, origin, corners.a as usize);
     let q = corner(vertices, origin, corners.b as usize);
     let r = corner(vertices, origin, corners.c as usize);
-    Some(cross_corners([p, q, r]))
+    cross_corners([p, q, r])
 }
 
-// Are the two one float? Only zeros are equal and not the same.
-fn same(x: f64, y: f64) -> bool
-    ensures { result ≡ true → x ≡ y }
-{
-    (x == y) & (0.0 < x)
-}
-
-// The root of a square. The two triangles of a flat rectangle have one square, so the root is often known.
-fn length_of(square: f64, last: Option<Prepared>) -> f64
-    requires { HasRoot last }
+// The root of a square. The two triangles of a flat rectangle have one square, so the root is often known. Only zeros are equal and not the
+// same.
+fn length_of(square: f64, last: f64, length: f64) -> f64
+    requires { length ≡ root binary64 last }
     ensures { result ≡ root binary64 square }
 {
-    match last {
-        Some(p) if same(square, p.crossed.square) => p.length,
-        _ => floats::root64(square),
+    if (square == last) & (0.0 < square) {
+        length
+    } else {
+        floats::root64(square)
     }
 }
 
 // A triangle's second stage, behind another whose length is known.
-pub fn with_root(r: Option<Crossed>, last: Option<Prepared>) -> Option<Prepared>
+pub fn with_root(r: Prepared, last: Prepared) -> Prepared
     requires { HasRoot last }
-    ensures { result ≡ option_map with_root r }
+    ensures { result ≡ with_root r }
 {
-    let crossed = r?;
-    Some(Prepared {
-        crossed,
-        length: length_of(crossed.square, last),
-    })
+    Prepared {
+        length: length_of(r.square, last.square, last.length),
+        ..r
+    }
 }
 
-// The facet of one that is no sliver.
+// The facet of one that is in range and no sliver.
 pub fn facet_by(r: Prepared) -> Facet
     ensures { result ≡ facet_by r }
 {
     let area = 0.5 * r.length;
     let inv = 1.0 / r.length;
-    let [x, y, z] = r.crossed.n;
     Facet {
         area,
         area32: floats::narrow(area),
-        volume: r.crossed.volume,
-        nx: floats::narrow(x * inv),
-        ny: floats::narrow(y * inv),
-        nz: floats::narrow(z * inv),
+        volume: r.volume,
+        nx: floats::narrow(r.nx * inv),
+        ny: floats::narrow(r.ny * inv),
+        nz: floats::narrow(r.nz * inv),
     }
 }

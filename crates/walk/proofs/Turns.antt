@@ -11,16 +11,13 @@ use lib.Ieee.{Float, lt}
 use Rattle.ids.specs.Triangles.{over_numbers}
 use Rattle.ids.specs.Uses.{bit, sum_by}
 use Rattle.sums.specs.declared.triangle.Facet.{Facet}
-use Rattle.std.specs.Prelude.{Option, None, Some}
-use Rattle.std.specs.Option.{option_map}
-use Rattle.sums.specs.declared.triangle.Crossed.{Crossed}
 use Rattle.sums.specs.declared.triangle.Prepared.{Prepared}
 use Rattle.sums.specs.declared.totals.Totals.{Totals}
 use Rattle.sums.specs.declared.totals.Thresholds.{Thresholds}
 use Rattle.sums.specs.Facet.{Part, out_of_range, sliver, used, shortest}
-use Rattle.sums.specs.inner.Prepared.{facet_by, part_by, with_root, part_in}
+use Rattle.sums.specs.inner.Prepared.{no_triangle, facet_by, part_by, with_root, part_in}
 use Rattle.sums.specs.Totals.{no_totals, with_facet, with_part, totals_to}
-use Rattle.sums.proofs.Parts.{has_root, no_part}
+use Rattle.sums.proofs.Parts.{has_root, no_length, no_part, no_part_yet}
 use Rattle.surfaces.specs.Surfaces.{Bucket, normal_key}
 use Rattle.surfaces.specs.inner.Index.{AddsArea}
 use Rattle.surfaces.proofs.Gathering.{gathered_none}
@@ -33,21 +30,21 @@ use Rattle.walk.proofs.Counting.{parts_next, parts_all, neither_left, counts_all
 
 -- ---- a part is taken
 
-module _ (m : ℕ) (pair : Thresholds) (p : Option Prepared) (s : State) where
+module _ (m : ℕ) (pair : Thresholds) (p : Prepared) (s : State) where
   -- a part that adds nothing
-  pub takes_out : p ≡ None → Takes m pair (part_by p) s s
+  pub takes_out : p.in_range ≡ false → Takes m pair (part_by p) s s
   unfolding part_by with_part with_surface is_facet is_thin bit
   takes_out e = rw e (record { totals = refl; puts = λ w bs l g. (sym l, g); used = omega arith; sliver = omega arith })
 
-  pub takes_sliver : {r : Prepared} → p ≡ Some r → lt r.length shortest ≡ true
+  pub takes_sliver : p.in_range ≡ true → lt p.length shortest ≡ true
       → Takes m pair (part_by p) s (state s.index s.rows
       (record { totals = s.sums.totals; rows = s.sums.rows; used = s.sums.used; sliver = s.sums.sliver + 1 }))
   unfolding part_by with_part with_surface is_facet is_thin bit
   takes_sliver e h = rw (e, h) (record { totals = refl; puts = λ w bs l g. (sym l, g); used = omega arith; sliver = refl })
 
   -- a facet
-  pub takes_used : {r : Prepared} (f : Facet) (t : List ℕ) (u : List Float) (n : ℕ) (a : Totals) → p ≡ Some r → lt r.length shortest ≡ false
-      → f ≡ facet_by r
+  pub takes_used : (f : Facet) (t : List ℕ) (u : List Float) (n : ℕ) (a : Totals) → p.in_range ≡ true → lt p.length shortest ≡ false
+      → f ≡ facet_by p
       → AddsArea m s.sums.rows (normal_key f.nx f.ny f.nz) f.area32 s.index t s.rows u n
       → a ≡ with_facet pair s.sums.totals f
       → Takes m pair (part_by p) s (state t u (record { totals = a; rows = n; used = s.sums.used + 1; sliver = s.sums.sliver }))
@@ -102,21 +99,22 @@ module _ (g : Given) where
       let e : suc n - 1 ≡ n = omega arith in
       taken_next n s r (subst (λ (k : ℕ). Taken g k s) e a) (rw h at b)
 
-  pub underway_none : (t : List ℕ) (a : Totals) → t ≡ replicate (5 * triangles_in g) 0 → a ≡ no_totals
-      → Underway g 0 (state t g.area (record { totals = a; rows = 0; used = 0; sliver = 0 })) None None
+  pub underway_none : (t : List ℕ) (a : Totals) (p q : Prepared) → t ≡ replicate (5 * triangles_in g) 0 → a ≡ no_totals → p ≡ no_triangle
+      → q ≡ no_triangle
+      → Underway g 0 (state t g.area (record { totals = a; rows = 0; used = 0; sliver = 0 })) p q
   unfolding Awaits totals_to buckets_to over_numbers sum_by
-  underway_none t a e h =
-      rw (e, h)
+  underway_none t a p q e h p-is q-is =
+      rw (e, h, p-is, q-is)
       (record {
-        rooted = tt;
-        crossed = λ _. no_part;
+        rooted = no_length;
+        crossed = λ _. no_part_yet;
         prepared = λ _. no_part;
         taken = record { totals = refl; rows = refl; means = gathered_none (triangles_in g) g.area; used = refl; sliver = refl };
       })
 
-  pub underway_next : (n : ℕ) (s r : State) (p p' : Option Prepared) (q q' : Option Crossed) → n ≤ triangles_in g + 1 → Underway g n s p q
+  pub underway_next : (n : ℕ) (s r : State) (p p' q q' : Prepared) → n ≤ triangles_in g + 1 → Underway g n s p q
       → Takes (triangles_in g) g.pair (part_by p) s r
-      → p' ≡ option_map with_root q → (n < triangles_in g → part_in q' ≡ part_at g n) → Underway g (n + 1) r p' q'
+      → p' ≡ with_root q → (n < triangles_in g → part_in q' ≡ part_at g n) → Underway g (n + 1) r p' q'
   unfolding Awaits
   underway_next n s r p p' q q' h a b e f =
       let before : n - 2 ≡ n - 1 - 1 = omega arith in

@@ -6,7 +6,7 @@ ghost use Rattle.sums.specs.inner.Prepared.{part_by};
 ghost use Rattle.walk.specs.inner.Steps.{state, Takeable, Takes};
 ghost use Rattle.walk.specs.inner.Walks.{Walkable, Walks};
 
-use sums::{Crossed, Prepared, Thresholds, Totals};
+use sums::{Prepared, Thresholds, Totals};
 use surfaces::Normal;
 
 // What the triangles done so far add up to, how many rows they have, and how many were used and were slivers.
@@ -35,12 +35,12 @@ pub struct Walked {
 }
 
 // Stays: six parameters, since `surfaces` takes each of these by itself, and a type that holds both slices would live for this call alone.
-// A triangle more that is prepared: a facet adds its row and its part of the totals. It is counted as used or as a sliver; where there
-// is none it was out of range, or no triangle.
+// What is prepared of a triangle more: a facet adds its row and its part of the totals. It is counted as used or as a sliver; what is
+// neither is out of range, or no triangle.
 fn take(
     pair: Thresholds,
     mut s: Sums,
-    p: Option<Prepared>,
+    p: Prepared,
     index: &mut [u32],
     rows: &mut [f32],
     m: usize,
@@ -49,9 +49,9 @@ fn take(
     ensures { Takes m pair (part_by p) (state index.old rows.old s)
         (state index.new rows.new result) }
 {
-    let Some(p) = p else {
+    if !p.in_range {
         return s;
-    };
+    }
     if p.length < 1e-12 {
         s.sliver += 1;
         return s;
@@ -96,8 +96,8 @@ pub fn walk(
         used: 0,
         sliver: 0,
     };
-    let mut held: Option<Prepared> = None;
-    let mut next: Option<Crossed> = None;
+    let mut held = sums::nothing();
+    let mut next = sums::nothing();
     for t in 0..m + 2 {
         let p = sums::with_root(next, held);
         let r = sums::cross_at(vertices, indices, origin, t);

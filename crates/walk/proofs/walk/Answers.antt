@@ -1,7 +1,6 @@
 -- `walk::walk` meets its contract: the index is cleared; after t turns one triangle has its cross product, the one in front of it its
 -- length, and all in front of that are taken. Assumes nothing.
-use Rattle.std.proofs.Common.{◌≡◌, ℕ, Option, ◌+◌, ◌-◌, ap, subst, ◌∙◌, refl, replicate, arith}
-use Rattle.sums.specs.declared.triangle.Crossed.{Crossed}
+use Rattle.std.proofs.Common.{◌≡◌, ℕ, ◌+◌, ◌-◌, ap, subst, ◌∙◌, refl, replicate, arith}
 use Rattle.sums.specs.declared.triangle.Prepared.{Prepared}
 use Rattle.walk.specs.inner.Steps.{Given, triangles_in, State, Underway, Taken}
 use Rattle.walk.proofs.Turns.{underway_none, underway_next, ready, none_left, walks}
@@ -11,7 +10,7 @@ use Rattle.walk.proofs.walk.Goals as goal
 pub loop-t-init : goal.loop-t-init
 loop-t-init c =
     let zero = c.clear.ensures ∙ cleared_all _ c.args.index.now refl ∙ ap (λ (n : ℕ). replicate n 0) c.requires.words in
-    (refl, refl, underway_none _ _ _ zero c.none.ensures)
+    (refl, refl, underway_none _ _ _ _ _ zero c.none.ensures c.nothing-held.ensures c.nothing-next.ensures)
 
 pub with_root-p-requires : goal.with_root-p-requires
 with_root-p-requires c = c.loop-t.invariant.2.rooted
@@ -35,7 +34,7 @@ loop-t-preserved c =
     )
 
 -- two turns more than there are triangles, and all are taken
-all_taken : {g : Given} {s : State} {p : Option Prepared} {q : Option Crossed} {t : ℕ} → t ≡ triangles_in g + 2 → Underway g t s p q → Taken g (triangles_in g) s
+all_taken : {g : Given} {s : State} {p q : Prepared} {t : ℕ} → t ≡ triangles_in g + 2 → Underway g t s p q → Taken g (triangles_in g) s
 all_taken {g} {s} {p} {q} {t} e w =
     let d : t - 2 ≡ triangles_in g = omega arith in
     subst (λ (k : ℕ). Taken g k s) d w.taken

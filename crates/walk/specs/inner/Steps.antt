@@ -1,9 +1,8 @@
 -- What one triangle does to the totals, the rows with their index and the counts, and which triangles are under way after n turns.
-use Rattle.std.specs.Prelude.{◌≡◌, ℕ, zero, suc, ◌+◌, ◌-◌, ◌≤◌, ◌<◌, Bool, Option, List, [], ◌∷◌, length, Float}
+use Rattle.std.specs.Prelude.{◌≡◌, ℕ, zero, suc, ◌+◌, ◌-◌, ◌≤◌, ◌<◌, Bool, List, [], ◌∷◌, length, Float}
 use Rattle.ids.specs.Triangles.{triangle, triangle_count, over_numbers}
 use Rattle.ids.specs.Uses.{bit, sum_by}
 use Rattle.sums.specs.declared.totals.Thresholds.{Thresholds}
-use Rattle.sums.specs.declared.triangle.Crossed.{Crossed}
 use Rattle.sums.specs.declared.triangle.Prepared.{Prepared}
 use Rattle.sums.specs.Facet.{Part, out_of_range, part}
 use Rattle.sums.specs.inner.Prepared.{part_by, part_in, HasRoot}
@@ -82,7 +81,7 @@ Awaits g zero p = p ≡ out_of_range
 Awaits g (suc n) p = p ≡ part_at g n
 
 -- after n turns: q has the cross product of the last triangle, p the length of the one in front of it, and those in front of that are taken
-pub record Underway (g : Given) (n : ℕ) (s : State) (p : Option Prepared) (q : Option Crossed) : Type 0 where
+pub record Underway (g : Given) (n : ℕ) (s : State) (p q : Prepared) : Type 0 where
   pub rooted : HasRoot p
   pub crossed : n ≤ triangles_in g → Awaits g n (part_in q)
   pub prepared : n - 1 ≤ triangles_in g → Awaits g (n - 1) (part_by p)

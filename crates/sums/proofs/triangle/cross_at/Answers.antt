@@ -1,7 +1,7 @@
 -- `sums::triangle::cross_at` meets its contract. A triangle in range has its corners, and one out of range has no part. Assumes nothing.
 use Rattle.std.proofs.Common.{sym, ◌∙◌, arith}
 use Rattle.vertices.specs.Vertices.{triangle_of}
-use Rattle.sums.proofs.Parts.{part_in_lem, part_out, corners_are, no_part}
+use Rattle.sums.proofs.Parts.{part_in_lem, part_out, corners_are, no_part_yet}
 use Rattle.sums.proofs.triangle.cross_at.Goals as goal
 
 pub returns-then-indices-t : goal.returns-then-indices-t
@@ -10,8 +10,8 @@ returns-then-indices-t c = λ h. absurd (omega (arith, h))
 pub returns-then-not-in_range : goal.returns-then-not-in_range
 returns-then-not-in_range c =
     let out = sym c.in_range.ensures ∙ c.if-not-in_range.true in
-    λ h. rw (← c.of-corners.ensures)
-    (no_part ∙ part_out c.args.vertices.now c.args.origin (triangle_of c.of-corners.result) out)
+    λ h. rw (← c.of-corners.ensures, c.nothing-then-not-in_range.ensures)
+    (no_part_yet ∙ part_out c.args.vertices.now c.args.origin (triangle_of c.of-corners.result) out)
 
 pub corner-p-requires : goal.corner-p-requires
 corner-p-requires c =

@@ -1,10 +1,12 @@
--- `sums::triangle::length_of` meets its contract: one square has one root. Assumes nothing.
-use Rattle.std.proofs.Common.{sym, ap, ◌∙◌}
+-- `sums::triangle::length_of` meets its contract: above zero, equal floats are one. Assumes nothing.
+use Rattle.std.proofs.Common.{T, sym, ap, ◌∙◌, subst}
 use lib.Ieee.{binary64}
 use Rattle.ieee.specs.Root.{root}
+use Rattle.sums.proofs.Parts.{equal_above}
 use Rattle.sums.proofs.triangle.length_of.Goals as goal
 
-pub returns-in-Some : goal.returns-in-Some
-returns-in-Some c =
-    let known = rw c.in-Some.is at c.requires in
-    known ∙ ap (root binary64) (sym (c.same.ensures c.if-same.true))
+pub returns-then-square-last : goal.returns-then-square-last
+returns-then-square-last c =
+    let F = subst T (sym c.well_formed.0.1) tt in
+    let G = subst T (sym c.well_formed.1.0.1) tt in
+    c.requires ∙ ap (root binary64) (sym (equal_above c.args.square c.args.last F G (subst T (sym c.if-square-last.true) tt)))

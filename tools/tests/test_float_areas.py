@@ -12,18 +12,19 @@ from tests.common import ROOT
 
 # A function's name, its parameters, and its body behind the contract.
 FUNCTION = re.compile(
-    r"^(?:pub )?(?:extern \"C\" )?fn (\w+)\((.*?)\)(?: -> [^{]*?)?\n?(?:    (?:requires|ensures|decreases).*?\n)*\{\n(.*?)^\}",
+    r"^(?:pub )?(?:extern \"C\" )?fn (\w+)(?:<[^(]*>)?\((.*?)\)(?: -> [^{]*?)?\n?(?:    (?:requires|ensures|decreases).*?\n)*\{\n(.*?)^\}",
     re.M | re.S,
 )
-FLOATS = re.compile(r"(\w+): &mut \[f(?:32|64)")
+# A `U` is what words of a file stand for: a number, or a float.
+FLOATS = re.compile(r"(\w+): &mut \[(?:f(?:32|64)|U\b)")
 
 # Functions that store into floats that they are lent, and how many statements do. All of them store into a row that is there
-# or begins, but the last: `put_floats` is lent just as many floats as a mesh file, or a triangle of an STL, has.
+# or begins, but the last: `put_words` is lent just as many floats as a mesh file, or a triangle of an STL, has.
 STORES = {
     ("rows", "put"): 4,
     ("surfaces", "new_row"): 1,
     ("surfaces", "put_normal"): 1,
-    ("words", "put_floats"): 1,
+    ("words", "put_words"): 1,
 }
 
 # The three routines that are lent floats from outside, and every line in which they name them: the length is asked for, and
@@ -33,9 +34,9 @@ NAMED = {
         "surfaces.len(),",
         "Ok(full(&mesh, edition, work, raster, surfaces))",  # of the call that the next test holds
     ],
-    ("meshfile", "read", "vertices"): [
-        "let found = read_ids(bytes, vertices.len(), ids);",
-        "fill_floats(bytes, 16, m.floats, vertices);",
+    ("meshfile", "read_as", "vertices"): [
+        "let m = read_ids(bytes, vertices.len(), ids)?;",
+        "fill(bytes, 16, m.floats, vertices);",
     ],
     ("stl", "read_most", "vertices"): [
         "if (vertices.len() < 9 * n) | (ids.len() < 3 * n) {",
@@ -64,12 +65,13 @@ class Stores(unittest.TestCase):
     def test_all_functions_are_seen(self) -> None:
         seen = sum(len(lent) for lent, _ in functions().values())
         texts = [without_comments(path) for path in (ROOT / "crates").glob("*/src/**/*.rt")]
-        self.assertEqual(seen, sum(len(re.findall(r"&mut \[f(?:32|64)\]", text)) for text in texts))
+        self.assertEqual(seen, sum(len(re.findall(r"&mut \[(?:f(?:32|64)|U)\]", text)) for text in texts))
 
     def test_who_stores(self) -> None:
         stores = {}
         for key, (lent, body) in functions().items():
-            count = sum(len(re.findall(rf"^\s*{name}\[[^\]]*\](?: [-+*/]?= |\.copy_from_slice\()", body, re.M)) for name in lent)
+            stored = [rf"^\s*{name}\[[^\]]*\](?: [-+*/]?= |\.copy_from_slice\()|^\s*for .*\b{name}\.iter_mut\(\)" for name in lent]
+            count = sum(len(re.findall(form, body, re.M)) for form in stored)
             if count:
                 stores[key] = count
         self.assertEqual(stores, STORES)

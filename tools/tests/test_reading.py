@@ -45,7 +45,7 @@ def parts_of(crate, name):
     for folder, _, files in os.walk(os.path.join(ROOT, "crates", crate, "src")):
         for file in files:
             with open(os.path.join(folder, file), encoding="utf-8") as text:
-                m = re.search(r"pub (struct|enum) " + name + r" \{(.*?)\n\}", text.read(), re.S)
+                m = re.search(r"pub (struct|enum) " + name + r"(?:<[^>]*>)? \{(.*?)\n\}", text.read(), re.S)
             if m:
                 lines = (re.sub(r"//.*", "", line).strip().rstrip(",") for line in m[2].split("\n"))
                 return m[1], "; ".join("`" + line.replace("pub ", "") + "`" for line in lines if line)

@@ -7,12 +7,12 @@ ghost use Rattle.ids.specs.Uses.{Use, bit};
 ghost use Rattle.ids.specs.Lent.{most_entries};
 ghost use Rattle.ids.specs.EdgeChain.{Edge, proper_step, around, around_proper, present, unbalanced, crowded, unpaired, incoherent};
 ghost use Rattle.table.specs.inner.Rows.{sum_to};
-ghost use Rattle.table.specs.inner.Words.{triangle_of};
 ghost use Rattle.steps.specs.inner.Rows.{EdgeTable, EdgeRows, EdgesFit, EdgesAdded};
 ghost use Rattle.edges.specs.inner.Tests.{use_bit, row_bit};
 ghost use Rattle.edges.specs.inner.Gather.{EdgesToCome, TriangleAdded};
 
-use table::{Corners, Uses};
+use ids::Triangle;
+use table::Uses;
 
 // ---- one triangle
 
@@ -21,9 +21,9 @@ pub trait Counted {
     ghost edges: { Triangle → List (Use Edge) };
 
     // Adds their uses.
-    fn triangle(work: &mut [u32], n: usize, t: Corners)
+    fn triangle(work: &mut [u32], n: usize, t: Triangle)
         requires { EdgesFit n 3 work.old }
-        ensures { TriangleAdded n work.old work.new (edges (triangle_of t)) };
+        ensures { TriangleAdded n work.old work.new (edges t) };
 }
 
 // All three, but none if the triangle repeats an id.
@@ -32,7 +32,7 @@ pub struct Whole;
 impl Counted for Whole {
     ghost edges = { around };
 
-    fn triangle(work: &mut [u32], n: usize, t: Corners) {
+    fn triangle(work: &mut [u32], n: usize, t: Triangle) {
         if !t.distinct() {
             return;
         }
@@ -48,7 +48,7 @@ pub struct Proper;
 impl Counted for Proper {
     ghost edges = { around_proper };
 
-    fn triangle(work: &mut [u32], n: usize, t: Corners) {
+    fn triangle(work: &mut [u32], n: usize, t: Triangle) {
         proper_step(work, n, t.a, t.b);
         proper_step(work, n, t.b, t.c);
         proper_step(work, n, t.c, t.a);
@@ -82,7 +82,7 @@ pub fn gather<C: Counted>(ids: &[u32], work: &mut [u32], n: usize)
     ensures { EdgeTable n work.new (over_triangles C.edges ids.now) }
 {
     for t in 0..ids.len() / 3 {
-        C::triangle(work, n, Corners::of(ids, t));
+        C::triangle(work, n, Triangle::of(ids, t));
     }
 }
 

@@ -6,11 +6,11 @@ ghost use Rattle.ids.specs.Triangles.{triangle};
 ghost use Rattle.ids.specs.FaceNet.{sorted_ids, face_use, face, faces};
 ghost use Rattle.table.specs.inner.Rows.{sum_to, Found};
 ghost use Rattle.table.specs.inner.Table.{max_to};
-ghost use Rattle.table.specs.inner.Words.{triangle_of};
 ghost use Rattle.faces.specs.inner.Rows.{face_at, face_word, face_uses, put_face, face_of, face_hash, FaceTable, FaceRows};
 ghost use Rattle.faces.specs.inner.Rows.{FaceSearch, FaceToAdd, FacesToCome, FacesAdded, row_off, row_size};
 
-use table::{Corners, Uses};
+use ids::Triangle;
+use table::Uses;
 
 // The ids of a triangle, sorted.
 #[derive(Clone, Copy, PartialEq)]
@@ -22,8 +22,8 @@ struct Face {
 
 impl Face {
     #[tactic(auto, using(crate::proofs::Faces::sorted_by))]
-    fn of(t: Corners) -> Face
-        ensures { sorted_ids (triangle_of t) ≡ face_of result }
+    fn of(t: Triangle) -> Face
+        ensures { sorted_ids t ≡ face_of result }
     {
         let first = t.a.min(t.b);
         let last = t.a.max(t.b);
@@ -47,8 +47,8 @@ impl Face {
 
 // Does a triangle use its face upwards? It does if an even number of its pairs fall.
 #[tactic(auto, using(crate::proofs::Parity::fallen_small))]
-fn upwards(t: Corners) -> bool
-    ensures { result ≡ (face_use (triangle_of t)).up }
+fn upwards(t: Triangle) -> bool
+    ensures { result ≡ (face_use t).up }
 {
     let falls = (t.b < t.a) as u32 + ((t.c < t.b) as u32 + (t.c < t.a) as u32);
     falls % 2 == 0
@@ -68,7 +68,7 @@ fn find(ids: &[u32], work: &[u32], n: usize, face: Face, start: usize) -> usize
         if work[at + 1] == 0 {
             break 'search r;
         }
-        if Face::of(Corners::of(ids, work[at] as usize)) == face {
+        if Face::of(Triangle::of(ids, work[at] as usize)) == face {
             break 'search r;
         }
         r = table::next(r, n);
@@ -91,7 +91,7 @@ fn triangle(ids: &[u32], work: &mut [u32], n: usize, t: usize)
     requires { FaceToAdd ids.now n work.old t }
     ensures { FacesAdded ids.now n work.old work.new (face (triangle ids.now t)) }
 {
-    let corners = Corners::of(ids, t);
+    let corners = Triangle::of(ids, t);
     if !corners.distinct() {
         return;
     }

@@ -1,10 +1,10 @@
 -- The triangles of a list of ids: its complete triples, in order. One or two ids left over at the end belong to none.
 use Rattle.std.specs.Prelude.{ℕ, zero, suc, ◌+◌, ◌*◌, ◌/◌, Bool, not, ◌&&◌, List, [], ◌∷◌, ◌++◌, eqb, length, get_or}
+use Rattle.ids.specs.declared.triangle.Triangle as code
 
-pub record Triangle : Type 0 where
-  pub a : ℕ
-  pub b : ℕ
-  pub c : ℕ
+-- its three ids
+abbrev pub Triangle : Type 0
+Triangle = code.Triangle
 
 -- its three ids differ
 unfoldable pub distinct : Triangle → Bool

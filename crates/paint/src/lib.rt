@@ -3,7 +3,7 @@
 
 ghost use Rattle.std.specs.Prelude.{◌≡◌, ◌&&◌, ◌+◌, ◌*◌, ◌<◌, max, eqb, true, length};
 ghost use Rattle.ids.specs.Triangles.{triangle, triangle_count};
-ghost use Rattle.vertices.specs.Vertices.{axis_number, triangle_of, corners_in_range, coordinate as coordinate_of};
+ghost use Rattle.vertices.specs.Vertices.{axis_number, corners_in_range, coordinate as coordinate_of};
 ghost use Rattle.grid.specs.Point.{place, place_number};
 ghost use Rattle.grid.specs.Grid.{cells, by_cell};
 ghost use Rattle.grid.specs.inner.Centred.{Centred};
@@ -11,7 +11,8 @@ ghost use Rattle.paint.specs.Covered.{point as point_of, flat as flat_of, betwee
 ghost use Rattle.paint.specs.inner.Painted.{only_if, centre_number, cell_number, Adds};
 
 use grid::{Flat, Grid, Point, Span};
-use vertices::{Axis, Corners};
+use ids::Triangle;
+use vertices::Axis;
 
 // A mesh, seen along the axis that is neither u nor v.
 #[derive(Clone, Copy)]
@@ -104,8 +105,8 @@ impl Sheet {
             (by_cell self.now.grid (λ i j. place_number (lies mesh.now.vertices.now (axis_number mesh.now.u) (axis_number mesh.now.v)
             self.now.grid (triangle mesh.now.ids.now t) i j))) }
     {
-        let corners = Corners::of(mesh.ids, t);
-        if corners.in_range(mesh.vertices) {
+        let corners = Triangle::of(mesh.ids, t);
+        if vertices::corners_in_range(mesh.vertices, corners) {
             self.paint(part, mesh.flat(corners));
         }
     }
@@ -146,9 +147,9 @@ impl View<'_> {
     }
 
     // Three of them.
-    fn flat(&self, t: Corners) -> Flat
-        requires { corners_in_range self.now.vertices.now (triangle_of t) ≡ true }
-        ensures { result ≡ flat_of self.now.vertices.now (axis_number self.now.u) (axis_number self.now.v) (triangle_of t) }
+    fn flat(&self, t: Triangle) -> Flat
+        requires { corners_in_range self.now.vertices.now t ≡ true }
+        ensures { result ≡ flat_of self.now.vertices.now (axis_number self.now.u) (axis_number self.now.v) t }
     {
         Flat {
             a: self.point(t.a),

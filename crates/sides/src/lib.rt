@@ -17,7 +17,7 @@ ghost use Rattle.sides.specs.inner.Joins.{Joinable};
 ghost use Rattle.sides.specs.inner.Sides.{corner_after, side_edge, edge_class, taken, side_home, SoughtIn, Seekable};
 ghost use Rattle.sides.specs.inner.Passes.{SlotsReady, SideReady, Enters, EntersTo, Settles};
 
-use ids::Edge;
+use ids::{Edge, Triangle};
 
 // ---- a side
 
@@ -182,15 +182,13 @@ fn enter(ids: &[u32], work: &mut [u32], plan: Plan, spare: &mut usize, t: usize)
     ensures { Enters plan ids.now (3 * t) (3 * (t + 1)) work.old work.new result }
 {
     let at = 3 * t;
-    let a = ids[at];
-    let b = ids[at + 1];
-    let c = ids[at + 2];
-    if !table::distinct(a, b, c) {
+    let corners = Triangle::of(ids, t);
+    if !corners.distinct() {
         return true;
     }
-    let ab = enter_side(ids, work, plan, spare, at, Edge::between(a, b));
-    let bc = enter_side(ids, work, plan, spare, at + 1, Edge::between(b, c));
-    let ca = enter_side(ids, work, plan, spare, at + 2, Edge::between(c, a));
+    let ab = enter_side(ids, work, plan, spare, at, Edge::between(corners.a, corners.b));
+    let bc = enter_side(ids, work, plan, spare, at + 1, Edge::between(corners.b, corners.c));
+    let ca = enter_side(ids, work, plan, spare, at + 2, Edge::between(corners.c, corners.a));
     (ab & bc) & ca
 }
 

@@ -2,39 +2,21 @@
 // it.
 #![tactic(auto)]
 
-ghost use Rattle.std.specs.Prelude.{◌≡◌, [], ◌∷◌, ◌+◌, ◌*◌, ◌<◌, min, max, length};
+ghost use Rattle.std.specs.Prelude.{◌≡◌, [], ◌∷◌, ◌+◌, ◌*◌, ◌<◌, length};
 ghost use Rattle.ids.specs.EdgeChain.{step as step_use};
 ghost use Rattle.table.specs.inner.Rows.{Found};
-ghost use Rattle.steps.specs.inner.Rows.{edge_at, edge_word, edge_uses, put_edge, edge_hash, edge_of, EdgeSearch, EdgesFit, EdgesAdded};
+ghost use Rattle.steps.specs.inner.Rows.{edge_at, edge_word, edge_uses, put_edge, edge_hash, EdgeSearch, EdgesFit, EdgesAdded};
 
+use ids::Edge;
 use table::Uses;
 
-// The two ids of an edge, the lower one first.
-#[derive(Clone, Copy, PartialEq)]
-struct Edge {
-    low: u32,
-    high: u32,
-}
-
-impl Edge {
-    // The edge between two ids.
-    fn between(u: u32, v: u32) -> Edge
-        ensures { (result.low ≡ min u v) × (result.high ≡ max u v) }
-    {
-        Edge {
-            low: u.min(v),
-            high: u.max(v),
-        }
-    }
-
-    // Its hash. The two factors were chosen so that the edges of grids, fans, boxes, strips and mirrored rims
-    // spread about as well at every size.
-    #[tactic(auto, unfolding(crate::specs::inner::Rows::edge_hash))]
-    fn hash(self) -> u32
-        ensures { result ≡ edge_hash (edge_of self) }
-    {
-        ((self.low as u64 * 517785211 + self.high as u64 * 3599898067) % 0x1_0000_0000) as u32
-    }
+// The hash of an edge. The two factors were chosen so that the edges of grids, fans, boxes, strips and mirrored rims
+// spread about as well at every size.
+#[tactic(auto, unfolding(crate::specs::inner::Rows::edge_hash))]
+fn hash(edge: Edge) -> u32
+    ensures { result ≡ edge_hash edge }
+{
+    ((edge.low as u64 * 517785211 + edge.high as u64 * 3599898067) % 0x1_0000_0000) as u32
 }
 
 // The first row, from `start` on and round, that holds the edge or is free.
@@ -42,7 +24,7 @@ impl Edge {
 #[tactic(auto, using(table::proofs::Counts::none_used))]
 fn find(work: &[u32], n: usize, edge: Edge, start: usize) -> usize
     requires { EdgeSearch n start work.now }
-    ensures { Found n start (edge_at work.now) (edge_uses work.now) (edge_of edge) result }
+    ensures { Found n start (edge_at work.now) (edge_uses work.now) edge result }
 {
     let mut r = start;
     'search: loop {
@@ -81,7 +63,7 @@ pub fn walk(work: &mut [u32], n: usize, u: u32, v: u32)
     ensures { EdgesAdded n work.old work.new (step_use u v ∷ []) }
 {
     let edge = Edge::between(u, v);
-    let start = table::home(edge.hash(), n);
+    let start = table::home(hash(edge), n);
     let r = find(work, n, edge, start);
     bump(work, r, edge, Uses::weight(u < v));
 }

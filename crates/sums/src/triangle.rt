@@ -10,7 +10,7 @@ ghost use Rattle.sums.specs.Facet.{part_of, rebased, part};
 ghost use Rattle.sums.specs.Fine.{all_fine};
 ghost use Rattle.sums.specs.inner.Prepared.{no_triangle, facet_by, part_in, HasRoot, with_root};
 
-use vertices::Corners;
+use ids::Triangle;
 
 // ---- three numbers
 // Stays: arrays and functions, since the definitions `minus`, `cross` and `dot` are of lists, and a `Sub` would be for two differences.
@@ -137,8 +137,8 @@ pub fn cross_at(vertices: &[f32], indices: &[u32], origin: [f64; 3], t: usize) -
     if indices.len() / 3 <= t {
         return nothing();
     }
-    let corners = Corners::of(indices, t);
-    if !corners.in_range(vertices) {
+    let corners = Triangle::of(indices, t);
+    if !vertices::corners_in_range(vertices, corners) {
         return nothing();
     }
     let p = corner(vertices, origin, corners.a as usize);

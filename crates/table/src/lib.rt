@@ -1,48 +1,24 @@
 // Triangles, lent areas and tables in them: what the routines on ids, the weld's cells and the surface rows share. Internal.
 #![tactic(auto)]
 
-ghost use Rattle.std.specs.Prelude.{◌≡◌, ◌≤◌, ◌<◌, min, max, length, OnOk};
+ghost use Rattle.std.specs.Prelude.{◌≡◌, ◌≤◌, ◌<◌, length, OnOk};
 ghost use Rattle.ids.specs.Triangles.{distinct as is_distinct, triangle};
 ghost use Rattle.ids.specs.Lent.{cleared, refusal, unless_refused, most_entries};
 ghost use Rattle.table.specs.inner.Rows.{home_row, next_row};
 ghost use Rattle.table.specs.inner.Words.{TriangleOf};
 
-use ids::{MOST_ENTRIES, Refusal};
+use ids::{MOST_ENTRIES, Refusal, Triangle};
 
-mod corners; // a triangle's three ids
 mod uses; // how often a key is used, as its row's word has it
 
-pub use corners::Corners;
 pub use uses::Uses;
 
-pub fn lesser(a: u32, b: u32) -> u32
-    ensures { result ≡ min a b }
-{
-    if a < b { a } else { b }
-}
-
-pub fn greater(a: u32, b: u32) -> u32
-    ensures { result ≡ max a b }
-{
-    if a < b { b } else { a }
-}
-
-// Do the three ids differ?
-#[tactic(auto, unfolding(ids::specs::Triangles::distinct))]
-pub fn distinct(a: u32, b: u32, c: u32) -> bool
-    ensures { result ≡ is_distinct (record { a = a; b = b; c = c }) }
-{
-    (a != b) & ((b != c) & (c != a))
-}
-
 // Do the three ids of triangle t differ?
-#[tactic(auto, unfolding(ids::specs::Triangles::triangle))]
 pub fn distinct_at(ids: &[u32], t: usize) -> bool
     requires { TriangleOf ids.now t }
     ensures { result ≡ is_distinct (triangle ids.now t) }
 {
-    let at = 3 * t;
-    distinct(ids[at], ids[at + 1], ids[at + 2])
+    Triangle::of(ids, t).distinct()
 }
 
 // Refuses what every routine on ids refuses: more ids than there may be, and fewer words lent than it needs.

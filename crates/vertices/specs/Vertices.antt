@@ -3,7 +3,6 @@ use Rattle.std.specs.Prelude.{ℕ, ◌+◌, ◌*◌, ◌/◌, Bool, ◌&&◌, Li
 use Rattle.std.specs.Float.{nan}
 use Rattle.ids.specs.Triangles.{Triangle}
 use Rattle.vertices.specs.declared.Axis.{Axis}
-use Rattle.vertices.specs.declared.Corners.{Corners}
 
 -- 0 for x, 1 for y, 2 for z
 abbrev pub axis_number : Axis → ℕ
@@ -26,7 +25,3 @@ in_range vs i = ltb (3 * i + 2) (length vs)
 -- and a triangle when its three ids are
 unfoldable pub corners_in_range : List Float → Triangle → Bool
 corners_in_range vs t = in_range vs t.a && (in_range vs t.b && in_range vs t.c)
-
--- a triangle whose ids are at hand
-abbrev pub triangle_of : Corners → Triangle
-triangle_of t = record { a = t.a; b = t.b; c = t.c }

@@ -1,9 +1,10 @@
-// The axes, the ids of a triangle, and which ids name a vertex. Internal: `paint`, `raster` and `sums` ask it.
+// The axes, and which ids name a vertex. Internal: `paint`, `raster` and `sums` ask it.
 #![tactic(auto)]
 
-ghost use Rattle.std.specs.Prelude.{◌≡◌, ◌<◌};
-ghost use Rattle.ids.specs.Triangles.{triangle, triangle_count};
-ghost use Rattle.vertices.specs.Vertices.{axis_number, in_range, corners_in_range, triangle_of};
+ghost use Rattle.std.specs.Prelude.{◌≡◌};
+ghost use Rattle.vertices.specs.Vertices.{axis_number, in_range, corners_in_range};
+
+use ids::Triangle;
 
 // An axis of space.
 #[derive(Clone, Copy, PartialEq, Eq)]
@@ -26,42 +27,18 @@ impl From<Axis> for usize {
     }
 }
 
-// The ids of a triangle.
-#[derive(Clone, Copy, PartialEq, Eq)]
-pub struct Corners {
-    pub a: u32,
-    pub b: u32,
-    pub c: u32,
-}
-
-impl Corners {
-    // Those of triangle t of the list.
-    #[tactic(auto, unfolding(ids::specs::Triangles::triangle))]
-    pub fn of(ids: &[u32], t: usize) -> Corners
-        requires { t < triangle_count ids.now }
-        ensures { triangle_of result ≡ triangle ids.now t }
-    {
-        let at = 3 * t;
-        Corners {
-            a: ids[at],
-            b: ids[at + 1],
-            c: ids[at + 2],
-        }
-    }
-
-    // Does each of the three name a vertex?
-    #[tactic(auto, unfolding(crate::specs::Vertices::corners_in_range))]
-    pub fn in_range(self, vertices: &[f32]) -> bool
-        ensures { result ≡ corners_in_range vertices.now (triangle_of self) }
-    {
-        in_range(vertices, self.a) & (in_range(vertices, self.b) & in_range(vertices, self.c))
-    }
-}
-
 // Does the id name a vertex?
 #[tactic(auto, unfolding(crate::specs::Vertices::in_range))]
 pub fn in_range(vertices: &[f32], id: u32) -> bool
     ensures { result ≡ in_range vertices.now id }
 {
     (id as usize) < vertices.len() / 3
+}
+
+// Does each of the three name a vertex?
+#[tactic(auto, unfolding(crate::specs::Vertices::corners_in_range))]
+pub fn corners_in_range(vertices: &[f32], corners: Triangle) -> bool
+    ensures { result ≡ corners_in_range vertices.now corners }
+{
+    in_range(vertices, corners.a) & (in_range(vertices, corners.b) & in_range(vertices, corners.c))
 }

@@ -17,8 +17,7 @@ pub search-init : goal.search-init
 search-init c = look_first c.requires.starts
 
 pub of-requires : goal.of-requires
-of-requires c =
-    record { few = c.requires.few; here = c.requires.named c.search.r c.search.invariant.within }
+of-requires c = c.requires.named c.search.r c.search.invariant.within
 
 -- the row is used, and its face was compared
 module _ (c : lts.Else2 the-claims Pre Post goal.the-invariant-search goal.the-decreases-search) where

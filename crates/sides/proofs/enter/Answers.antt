@@ -4,7 +4,8 @@ use mathlib.Core.Bool.{Bool, true, false, ◌&&◌}
 use mathlib.Core.List.{List}
 use Prim.Native.Nat.{ℕ, ◌+◌, ◌*◌, ◌/◌}
 use native.Mathlib.Omega.{arith}
-use Rattle.ids.specs.Triangles.{distinct, triangle}
+use Rattle.ids.specs.Triangles.{Triangle, distinct, triangle}
+use Rattle.ids.specs.EdgeChain.{edge}
 use Rattle.ids.specs.Pieces.{solid}
 use Rattle.ids.proofs.Shared.{side}
 use Rattle.sides.specs.inner.Passes.{SlotsReady, Enters}
@@ -19,7 +20,7 @@ unfolding solid triangle
 returns-then-not-distinct c =
     let ids = c.args.ids.now in
     let t = c.args.t in
-    let flat : solid ids t ≡ false = sym c.distinct.ensures ∙ c.if-not-distinct.true in
+    let flat : solid ids t ≡ false = sym (c.distinct.ensures ∙ ap distinct c.of-corners.ensures) ∙ c.if-not-distinct.true in
     entered_none c.requires.0.slots (λ i la lb. let e : i / 3 ≡ t = omega arith in
     flat_not ids c.args.plan.class i (ap (solid ids) e ∙ flat))
 
@@ -34,8 +35,8 @@ enter_side-ab-requires c =
     record {
       ready = c.requires.0;
       here = omega (arith, c.requires.1);
-      of_solid = of_solid c.args.ids.now c.args.t _ c.distinct.ensures c.if-not-distinct.false (omega arith);
-      is = side_first c.args.ids.now c.args.t ∙ sym c.between.ensures;
+      of_solid = of_solid c.args.ids.now c.args.t _ (c.distinct.ensures ∙ ap distinct c.of-corners.ensures) c.if-not-distinct.false (omega arith);
+      is = side_first c.args.ids.now c.args.t ∙ sym (c.between.ensures ∙ ap (λ (k : Triangle). edge k.a k.b) c.of-corners.ensures);
     }
 
 -- after the first side, and after the second
@@ -48,8 +49,8 @@ enter_side-bc-requires c =
     record {
       ready = ready-1 (goal.at.enter_side-bc-requires c).After-enter_side-ab;
       here = omega (arith, c.requires.1, c.enter_side-ab.auto.work);
-      of_solid = of_solid c.args.ids.now c.args.t _ c.distinct.ensures c.if-not-distinct.false (omega arith);
-      is = side_at c.args.ids.now c.args.t 1 (omega arith) ∙ sym c.between-2.ensures;
+      of_solid = of_solid c.args.ids.now c.args.t _ (c.distinct.ensures ∙ ap distinct c.of-corners.ensures) c.if-not-distinct.false (omega arith);
+      is = side_at c.args.ids.now c.args.t 1 (omega arith) ∙ sym (c.between-2.ensures ∙ ap (λ (k : Triangle). edge k.b k.c) c.of-corners.ensures);
     }
 
 pub overflow_add-at-2 : goal.overflow_add-at-2
@@ -62,8 +63,8 @@ enter_side-ca-requires c =
     record {
       ready = ready_then _ (ready-1 (goal.at.enter_side-ca-requires c).After-enter_side-ab) c.enter_side-bc.auto.work c.enter_side-bc.ensures;
       here = omega (arith, c.requires.1, c.enter_side-ab.auto.work, c.enter_side-bc.auto.work);
-      of_solid = of_solid c.args.ids.now c.args.t _ c.distinct.ensures c.if-not-distinct.false (omega arith);
-      is = side_at c.args.ids.now c.args.t 2 (omega arith) ∙ sym c.between-3.ensures;
+      of_solid = of_solid c.args.ids.now c.args.t _ (c.distinct.ensures ∙ ap distinct c.of-corners.ensures) c.if-not-distinct.false (omega arith);
+      is = side_at c.args.ids.now c.args.t 2 (omega arith) ∙ sym (c.between-3.ensures ∙ ap (λ (k : Triangle). edge k.c k.a) c.of-corners.ensures);
     }
 
 pub returns : goal.returns

@@ -6,7 +6,7 @@ use Rattle.ids.specs.EdgeChain.{Edge, same_edge}
 use Rattle.ids.proofs.Same.{edge_eq, edge_refl, same_ne}
 use Rattle.table.proofs.Counts.{used}
 use Rattle.table.proofs.Turn.{Onward, look_first, turn_ends, turn_on}
-use Rattle.steps.specs.inner.Rows.{edge_at, edge_of, edge_uses}
+use Rattle.steps.specs.inner.Rows.{edge_at, edge_uses}
 use Rattle.steps.proofs.find.Goals as goal
 use Rattle.steps.proofs.find.Lts as lts
 use Rattle.steps.proofs.find.Tie.{the-claims}
@@ -18,7 +18,7 @@ search-init c = look_first c.requires.starts
 -- the row is used by another edge
 module _ (c : lts.Else2 the-claims Pre Post goal.the-invariant-search goal.the-decreases-search) where
   abbrev edge : Edge
-  edge = edge_of c.args.edge
+  edge = c.args.edge
 
   on : Onward c.args.n c.args.start (edge_at c.args.work.now) (edge_uses c.args.work.now) edge c.search.r
   unfolding same_edge

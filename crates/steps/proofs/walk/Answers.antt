@@ -1,4 +1,6 @@
 -- `steps::walk` meets its contract: the row that the search found counts one use more, and its word has room for it. Assumes nothing.
+use mathlib.Core.Path.{ap}
+use Rattle.ids.specs.EdgeChain.{Edge}
 use Rattle.steps.proofs.Added.{Reached, bump_fits, walked}
 use Rattle.steps.proofs.Within.{room_free}
 use Rattle.steps.proofs.walk.Goals as goal
@@ -16,8 +18,8 @@ module _ (c : After-weight) where
   reached : Reached c.args.n c.args.work.now c.args.u c.args.v c.between-edge.result.low c.between-edge.result.high
       c.hash.result c.home-start.result c.find-r.result c.weight.result
   reached = record {
-    lower = c.between-edge.ensures.0;
-    higher = c.between-edge.ensures.1;
+    lower = ap (λ (e : Edge). e.low) c.between-edge.ensures;
+    higher = ap (λ (e : Edge). e.high) c.between-edge.ensures;
     hashed = c.hash.ensures;
     homed = c.home-start.ensures.0;
     found = c.find-r.ensures;

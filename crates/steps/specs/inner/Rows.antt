@@ -6,11 +6,6 @@ use Rattle.ids.specs.EdgeChain.{Edge, same_edge}
 use Rattle.table.specs.inner.Rows.{home_row, Free}
 use Rattle.table.specs.inner.Counts.{ups_in, uses_in}
 use Rattle.table.specs.inner.Table.{ups, MeansUses}
-use Rattle.steps.specs.declared.Edge as steps
-
--- the edge that the code's two ids are
-abbrev pub edge_of : steps.Edge → Edge
-edge_of e = record { low = e.low; high = e.high }
 
 abbrev pub edge_at : List ℕ → ℕ → Edge
 edge_at t i = record { low = get_or t (3 * i) 0; high = get_or t (3 * i + 1) 0 }

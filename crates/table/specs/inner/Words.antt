@@ -1,13 +1,8 @@
 -- A triangle of a list of ids that is not too long; and a routine on ids over just the words that it needs: what it is lent, and what it
 -- leaves.
 use Rattle.std.specs.Prelude.{◌≡◌, List, ℕ, ◌≤◌, ◌<◌, length, replicate}
-use Rattle.ids.specs.Triangles.{Triangle, triangle_count}
+use Rattle.ids.specs.Triangles.{triangle_count}
 use Rattle.ids.specs.Lent.{most_entries}
-use Rattle.table.specs.declared.corners.Corners as table
-
--- the triangle that the code's three ids are
-abbrev pub triangle_of : table.Corners → Triangle
-triangle_of t = record { a = t.a; b = t.b; c = t.c }
 
 pub record TriangleOf (ids : List ℕ) (t : ℕ) : Type 0 where
   pub few : length ids ≤ most_entries

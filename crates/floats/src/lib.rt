@@ -1,7 +1,7 @@
 // Float helpers that answer every input, a NaN, an infinity and a -0 too. A contract is one equation with a definition of
 // `ieee`'s specs/ or of the kit's model, which follows a clause of IEEE 754-2019; those of the magnitudes of patterns are `SignCleared`.
-// Where `f32` and `f64` do the same, one function serves both: the trait `Binary` of `patterns` says what they share. A form on bit patterns, `_bits`,
-// also fixes the pattern of a NaN result: 7ff8000000000000 or 7fc00000.
+// Where `f32` and `f64` do the same, one function serves both: the trait `Binary` of `patterns` says what they share.
+// A form on bit patterns, `_bits`, also fixes the pattern of a NaN result: 7ff8000000000000 or 7fc00000.
 // The crates behind it: `patterns`, `integers`, `rounding`, `root`, `cube`; their laws stand in `ieee`.
 #![tactic(auto)]
 

@@ -1,6 +1,5 @@
 -- The complete contracts: for these ids and this area, r is the answer and `after` is what the area holds then.
-use Rattle.std.specs.Prelude.{ℕ, ◌*◌, Bool, List, length, Ok, Err}
-use Rattle.std.specs.declared.result.Result.{Result}
+use Rattle.std.specs.Prelude.{ℕ, ◌*◌, Bool, List, length, Ok, Err, Result}
 use Rattle.ids.specs.Triangles.{triangle_count}
 use Rattle.ids.specs.EdgeChain.{boundary_free, over_incident, closed_manifold, winding_coherent}
 use Rattle.ids.specs.FaceNet.{max_abs, all_cancel}

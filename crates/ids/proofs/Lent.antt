@@ -6,9 +6,7 @@ use native.Mathlib.Omega.{arith}
 use native.Mathlib.Decide.{dec_lt}
 use borrow.Author.Tests.{lt-ltb, le-ltb}
 use lib.ListN.{length, drop, replicate, drop_of_length-le}
-use Rattle.std.specs.Prelude.{Some, None, Ok, Err, MatchResult, IsOkAnd}
-use Rattle.std.specs.declared.option.Option.{Option}
-use Rattle.std.specs.declared.result.Result.{Result}
+use Rattle.std.specs.Prelude.{Some, None, Ok, Err, MatchResult, IsOkAnd, Option, Result}
 use Rattle.ids.specs.declared.refusal.Refusal.{Refusal}
 use Rattle.ids.specs.Refusal.{refused_number, answer_number}
 use Rattle.ids.specs.Lent.{refusal, unless_refused, cleared, area_after, Gives, most_entries}

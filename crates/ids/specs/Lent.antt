@@ -1,7 +1,6 @@
 -- Refusals of an id routine, and what it leaves in the area that it is lent: refusals 1 and 3 of document 01's table, the first by the
 -- number of ids alone.
-use Rattle.std.specs.Prelude.{ℕ, ◌≡◌, cond, List, ◌++◌, ltb, length, drop, replicate, Some, None}
-use Rattle.std.specs.declared.option.Option.{Option}
+use Rattle.std.specs.Prelude.{ℕ, ◌≡◌, cond, List, ◌++◌, ltb, length, drop, replicate, Some, None, Option}
 use Rattle.ids.specs.declared.refusal.Refusal.{Refusal}
 use Rattle.ids.specs.declared.refusal.Refusal.TheVariants as why
 

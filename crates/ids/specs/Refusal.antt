@@ -1,6 +1,5 @@
 -- The numbers of the refusals, as documents 01 and 02 have them.
-use Rattle.std.specs.Prelude.{ℕ, ◌+◌, Ok, Err}
-use Rattle.std.specs.declared.result.Result.{Result}
+use Rattle.std.specs.Prelude.{ℕ, ◌+◌, Ok, Err, Result}
 use Rattle.ids.specs.declared.refusal.Refusal.{Refusal}
 use Rattle.ids.specs.declared.refusal.Refusal.TheVariants as refusal
 

@@ -1,6 +1,5 @@
 -- The complete contract of the piece count.
-use Rattle.std.specs.Prelude.{ℕ, List, Ok, Err}
-use Rattle.std.specs.declared.result.Result.{Result}
+use Rattle.std.specs.Prelude.{ℕ, List, Ok, Err, Result}
 use Rattle.ids.specs.declared.refusal.Refusal.{Refusal}
 use Rattle.ids.specs.Triangles.{triangle_count}
 use Rattle.ids.specs.Lent.{Gives, OneGiven}

@@ -2,6 +2,8 @@
 //
 // A word has what its triangle hangs on (`forest`) and a slot of the table of sides (`sides`). Once all that share an edge are joined,
 // each piece has one triangle that hangs on itself.
+// Stays: ids and work are two parameters, since of a struct with both loans each contract would have to say that the loans stay, as
+// parameters say by their types; what is asked of the two is one record, Joinable.
 #![tactic(auto)]
 
 ghost use Rattle.std.specs.Prelude.{◌≡◌, ◌+◌, ◌*◌, ◌≤◌, ◌<◌, length, count_by};

@@ -9,8 +9,7 @@ use native.Mathlib.Omega.{arith}
 use borrow.Author.Tests.{le-ltb}
 use lib.ListN.{length, take}
 use lib.Ieee.{Float}
-use Rattle.std.specs.Prelude.{Ok}
-use Rattle.std.specs.declared.result.Result.{Result}
+use Rattle.std.specs.Prelude.{Ok, Result}
 use Rattle.ids.specs.declared.refusal.Refusal.{Refusal}
 use Rattle.ids.specs.Triangles.{triangle_count}
 use Rattle.ids.specs.Lent.{refusal, unless_refused, most_entries}

@@ -1,8 +1,7 @@
 -- `mf_pieces` gives the number of what `pieces` gives. Assumes nothing.
 use mathlib.Core.Path.{◌≡◌, refl}
 use Prim.Native.Nat.{ℕ}
-use Rattle.std.specs.Prelude.{Ok, Err, MatchResult, IsOkAnd}
-use Rattle.std.specs.declared.result.Result.{Result}
+use Rattle.std.specs.Prelude.{Ok, Err, MatchResult, IsOkAnd, Result}
 use Rattle.ids.specs.declared.refusal.Refusal.{Refusal}
 use Rattle.ids.proofs.Lent.{gives_number}
 use Rattle.capi.proofs.ids_c.mf_pieces.Goals as goal

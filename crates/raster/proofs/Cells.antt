@@ -1,5 +1,5 @@
 -- A rim cell is covered, and a grid has 65,536 cells at most. Assumes nothing.
-use Rattle.std.proofs.Common.{ℕ, ◌≤◌, Bool, true, false, cond, ◌||◌, List, le_trans, arith}
+use Rattle.std.proofs.Common.{ℕ, Bool, true, false, cond, ◌||◌, List, le_trans, arith}
 use lib.Ieee.{Float, le}
 use Rattle.ieee.specs.Single.{nought}
 use Rattle.grid.specs.declared.Grid.{Grid}

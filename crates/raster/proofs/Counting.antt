@@ -1,5 +1,5 @@
 -- From the bytes of a raster to the numbers of covered cells and of rim cells, and from these to the footprint. Assumes nothing.
-use Rattle.std.proofs.Common.{◌≡◌, ℕ, zero, suc, ◌+◌, ◌*◌, ◌/◌, ◌%◌, ◌<◌, ◌≤◌, Bool, true, false, cond, ◌&&◌, ◌||◌, eqb, ltb, List, length, get_or, replicate, sym, refl, ◌∙◌, le_trans, mul-le-mul, add-one, arith, lit≤}
+use Rattle.std.proofs.Common.{◌≡◌, ℕ, zero, suc, ◌+◌, ◌/◌, ◌%◌, ◌<◌, ◌≤◌, Bool, true, false, cond, ◌&&◌, ◌||◌, eqb, ltb, List, length, get_or, replicate, sym, refl, ◌∙◌, le_trans, mul-le-mul, add-one, arith, lit≤}
 use mir.Val.{bool_byte}
 use lib.Ieee.{Float, binary32, le, of_bits}
 use lib.ListN.{length-replicate, get_or-replicate}

@@ -1,5 +1,5 @@
 -- `raster::clear` meets its contract: n zeroes, and the rest as it was. Assumes nothing.
-use Rattle.std.proofs.Common.{◌≡◌, ℕ, replicate}
+use Rattle.std.proofs.Common.{◌≡◌, replicate}
 use Rattle.std.proofs.lemmas.List.{length-take-le}
 use Rattle.ids.specs.Lent.{cleared}
 use Rattle.raster.proofs.clear.Goals as goal

@@ -1,5 +1,4 @@
 -- Mesh files, the program's input: the format, and from the writer's side; what reading and writing one give; there and back; the C forms.
-pub mod Kinds
 pub mod Format
 pub mod Written
 pub mod Reading

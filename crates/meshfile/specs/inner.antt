@@ -1,2 +1,3 @@
 -- What only the contracts of this crate's own functions speak of: nobody has to believe it.
 pub mod Steps
+pub mod Kinds

@@ -1,6 +1,6 @@
 // The kinds of the records of a mesh file, in the order in which they stand there. Each has its number in the format.
 ghost use Rattle.std.specs.Prelude.{◌≡◌};
-ghost use Rattle.meshfile.specs.Kinds.{kind_number};
+ghost use Rattle.meshfile.specs.inner.Kinds.{kind_number};
 
 #[derive(Clone, Copy)]
 pub enum Kind {

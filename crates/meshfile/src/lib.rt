@@ -6,7 +6,7 @@ mod writing; // the way back
 
 ghost use Rattle.std.specs.Prelude.{◌≡◌, ◌+◌, ◌*◌, ◌≤◌, ◌<◌, ◌++◌, map, length, take, drop};
 ghost use Rattle.words.specs.Words.{words_in};
-ghost use Rattle.meshfile.specs.Kinds.{kind_number};
+ghost use Rattle.meshfile.specs.inner.Kinds.{kind_number};
 ghost use Rattle.meshfile.specs.Format.{length_fits, front_of, flags_in, ending_of};
 ghost use Rattle.meshfile.specs.Reading.{mesh_as, answer_as, ReadsAs, Reads, ReadsBits};
 ghost use Rattle.meshfile.specs.inner.Steps.{ids_from, vertices_from, layout_of, in_room, contents_at, IdsRead};

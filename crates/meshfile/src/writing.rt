@@ -2,7 +2,7 @@
 ghost use Rattle.std.specs.Prelude.{◌≡◌, ◌+◌, ◌*◌, ◌≤◌, cond, [], ◌∷◌, ◌++◌, length, drop};
 ghost use Rattle.record.specs.Numbers.{profile_number};
 ghost use Rattle.words.specs.Words.{bytes_of, all_bytes};
-ghost use Rattle.meshfile.specs.Kinds.{kind_number};
+ghost use Rattle.meshfile.specs.inner.Kinds.{kind_number};
 ghost use Rattle.meshfile.specs.Format.{most_in_file};
 ghost use Rattle.meshfile.specs.Written.{chunk_of, file_bytes};
 ghost use Rattle.meshfile.specs.Writing.{contents_of, Writes};

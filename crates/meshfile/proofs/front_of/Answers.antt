@@ -2,7 +2,7 @@
 use mathlib.Core.Path.{◌≡◌, sym, ◌∙◌}
 use mathlib.Core.Bool.{true}
 use native.Mathlib.Omega.{arith}
-use Rattle.meshfile.specs.Kinds.{kind_number}
+use Rattle.meshfile.specs.inner.Kinds.{kind_number}
 use Rattle.meshfile.specs.Format.{length_fits}
 use Rattle.meshfile.proofs.Fronts.{Header, header_cut, wrong_kind, wrong_length, payload_cut, payload_whole}
 use Rattle.meshfile.proofs.front_of.Goals as goal

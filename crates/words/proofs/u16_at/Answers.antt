@@ -5,4 +5,4 @@ use Rattle.words.proofs.u16_at.Goals as goal
 
 pub returns : goal.returns
 unfolding u16_at
-returns c = omega (arith, c.from_le_bytes.ensures)
+returns c = omega arith

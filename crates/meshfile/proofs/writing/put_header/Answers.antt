@@ -1,5 +1,5 @@
 -- `meshfile::writing::put_header` meets its contract: length, kind and a zero. Assumes nothing.
-use Rattle.meshfile.specs.Kinds.{kind_number}
+use Rattle.meshfile.specs.inner.Kinds.{kind_number}
 use Rattle.meshfile.proofs.Puts.{header_put}
 use Rattle.meshfile.proofs.writing.put_header.Goals as goal
 

@@ -1,6 +1,6 @@
 -- `meshfile::writing::put_record` meets its contract: a header, and the words behind it to the area's end. Assumes nothing.
 use native.Mathlib.Omega.{arith}
-use Rattle.meshfile.specs.Kinds.{kind_number}
+use Rattle.meshfile.specs.inner.Kinds.{kind_number}
 use Rattle.meshfile.proofs.Puts.{words_put}
 use Rattle.meshfile.proofs.writing.put_record.Goals as goal
 

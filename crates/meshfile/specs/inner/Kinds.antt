@@ -1,4 +1,4 @@
--- The numbers of the kinds of records, as document 01 has them.
+-- The numbers of the kinds of records, as the format has them.
 use Rattle.std.specs.Prelude.{ℕ}
 use Rattle.meshfile.specs.declared.kind.Kind.{Kind}
 

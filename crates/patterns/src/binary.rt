@@ -34,7 +34,7 @@ pub trait Binary: Copy {
 
     ghost WHOLE: { ℕ };
 
-    // The methods are no operators, since a `<` on a type parameter makes an `Ordering` first.
+    // Stays: methods and no operators, since a `<` on a type parameter makes an `Ordering` first, in loops that are hot.
 
     // Whether it is a NaN.
     fn no_number(self) -> bool

@@ -1,6 +1,6 @@
 -- A key as three words: one to one, so that equal codes are equal keys. An i32 has a code below 2 ^ 32, and is read back from it.
 -- Assumes nothing.
-use Rattle.std.proofs.Common.{◌≡◌, ℕ, zero, suc, ◌/◌, ◌%◌, ◌<◌, ℤ, pos, negsuc, ◌-ℤ◌, refl, ap, ◌∙◌, ◌≢◌, arith, w32, w64, SFits, to_z, of_z}
+use Rattle.std.proofs.Common.{◌≡◌, ℕ, zero, suc, ◌/◌, ◌%◌, ◌<◌, ℤ, pos, negsuc, ◌-ℤ◌, refl, ap, ◌∙◌, ◌≢◌, arith, w32, SFits, to_z, of_z}
 use mir.ValLaws.{to_z_pos, to_z-of_z}
 use lib.Ieee.{Float}
 use Rattle.ieee.proofs.Order.Ranges.{signed_fits, signed_kept}
@@ -13,10 +13,6 @@ use Rattle.surfaces.specs.Surfaces.{tenths, normal_key}
 use Rattle.surfaces.specs.inner.Index.{key_code}
 
 -- ---- an i32
-
-pub widened : (z : ℤ) → SFits w32 z → SFits w64 z
-widened (pos n) f = record { sfits = omega (arith, f.sfits) }
-widened (negsuc n) f = record { sfits = omega (arith, f.sfits) }
 
 coded_small : (z : ℤ) → SFits w32 z → coded z < 4294967296
 unfolding coded

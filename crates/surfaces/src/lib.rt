@@ -70,7 +70,7 @@ fn pattern_code(b: u64) -> u64
     cells::coded_size(b / 0x8000_0000, n)
 }
 
-// A key has room in three words.
+// The code of a key.
 impl From<Key> for Code {
     ghost from_gives = { λ k l. l ≡ key_code k };
 
@@ -84,14 +84,14 @@ impl From<Key> for Code {
     }
 }
 
-// Has the pattern of a component so few tenths?
+// Does the pattern say less than 2^23 tenths?
 fn few_tenths(b: u64) -> bool
     ensures { result ≡ ltb (b % 2147483648 / 8388608) 150 }
 {
     b % 0x8000_0000 / 0x80_0000 < 150
 }
 
-// The code of a normal's key: by the patterns, where they have so few tenths, as those of a unit normal do.
+// The code of a normal's key: by the patterns, where all three say so few tenths, as those of a unit normal do.
 fn code_of_normal(n: Normal) -> Code
     ensures { result ≡ key_code (normal_key n.x n.y n.z) }
 {

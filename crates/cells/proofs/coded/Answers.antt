@@ -25,24 +25,6 @@ down c = below (z c.before) c.ranges.z (rw (kept c.before) at c.if-z-ge0.false)
 rest_kept : (c : Else-z-ge0) → to_z w64 (of_z w64 (rest (z c.before))) ≡ rest (z c.before)
 rest_kept c = to_z-of_z w64 (rest (z c.before)) (down c).left
 
-pub overflow_cast-result : goal.overflow_cast-result
-overflow_cast-result c = rw (kept c.before) (up c).unsigned
-
-pub overflow_mul-result : goal.overflow_mul-result
-overflow_mul-result c = rw (kept c.before) (up c).twice
-
-pub overflow_sub-result : goal.overflow_sub-result
-overflow_sub-result c = rw (kept c.before) (down c).left
-
-pub overflow_cast-result-else-z-ge0 : goal.overflow_cast-result-else-z-ge0
-overflow_cast-result-else-z-ge0 c = rw (kept c.before, rest_kept c) (down c).unsigned
-
-pub overflow_mul-result-else-z-ge0 : goal.overflow_mul-result-else-z-ge0
-overflow_mul-result-else-z-ge0 c = rw (kept c.before, rest_kept c) (down c).twice
-
-pub overflow_add-result : goal.overflow_add-result
-overflow_add-result c = rw (kept c.before, rest_kept c) (down c).one_more
-
 pub returns-then-z-ge0 : goal.returns-then-z-ge0
 returns-then-z-ge0 c = rw (kept c.before) (up c).is
 

@@ -113,7 +113,8 @@ payload_most kind n p q h m =
     omega arith
 
 module _ (size : ℕ) (bytes : List ℕ) (enough : size ≤ length bytes) where
-  ids_by : (u : ℕ) (vs : List ℕ) (k : Result ℕ Refusal) → front_of 3 bytes ≡ k → 6159 ≤ size → ids_in u vs k (take size bytes) ≡ ids_in u vs k bytes
+  ids_by : (u : ℕ) (vs : List ℕ) (k : Result ℕ Refusal) → front_of 3 bytes ≡ k → 6159 ≤ size
+      → ids_in u vs k (take size bytes) ≡ ids_in u vs k bytes
   unfolding ids_in
   ids_by u vs (Err n) e h = refl
   ids_by u vs (Ok n) e h =
@@ -129,7 +130,8 @@ module _ (size : ℕ) (bytes : List ℕ) (enough : size ≤ length bytes) where
       (ids_by u vs (front_of 3 bytes) refl h)
 
 module _ (size : ℕ) (bytes : List ℕ) (enough : size ≤ length bytes) where
-  vertices_by : (u : ℕ) (k : Result ℕ Refusal) → front_of 2 bytes ≡ k → 12309 ≤ size → vertices_in u k (take size bytes) ≡ vertices_in u k bytes
+  vertices_by : (u : ℕ) (k : Result ℕ Refusal) → front_of 2 bytes ≡ k → 12309 ≤ size
+      → vertices_in u k (take size bytes) ≡ vertices_in u k bytes
   unfolding vertices_in
   vertices_by u (Err n) e h = refl
   vertices_by u (Ok n) e h =

@@ -79,7 +79,8 @@ flags_by true false c d bytes r e f h =
     record { record_is = r; exact = omega (arith, r.room); clip = s.0; defect = s.1; known = rw (s.0, s.1) at e }
 flags_by false y c d bytes r e f h = let y : ◌≡◌ {A = ℕ} 0 1 = cc in absurd (omega arith)
 
-flags_of : (k : Result ℕ Refusal) (c d : ℕ) (bytes : List ℕ) → front_of 4 bytes ≡ k → flags_in k bytes ≡ Ok (flag_values c d) → Flags c d bytes
+flags_of : (k : Result ℕ Refusal) (c d : ℕ) (bytes : List ℕ) → front_of 4 bytes ≡ k → flags_in k bytes ≡ Ok (flag_values c d)
+    → Flags c d bytes
 unfolding flags_in
 flags_of (Err n) c d bytes e h = let y : ◌≡◌ {A = ℕ} 0 1 = cc in absurd (omega arith)
 flags_of (Ok n) c d bytes e h =

@@ -88,7 +88,8 @@ module _ {A : Type 0} (of_word : ℕ → A) (bytes : List ℕ) (v : ℕ) (ids : 
         let x = room_whole v (length ids) (layout_of bytes) p (sym h) in
         (inside bytes p x.0, ltb-false _ _ (neither (ltb v p.floats) (ltb (length ids) p.ids) x.1).1)
 
-    pub given : (b : MeshFile A) (ids' : List ℕ) → b ≡ mesh_as of_word (contents_at bytes p) → ids' ≡ (contents_at bytes p).ids ++ drop p.ids ids
+    pub given : (b : MeshFile A) (ids' : List ℕ) → b ≡ mesh_as of_word (contents_at bytes p)
+        → ids' ≡ (contents_at bytes p).ids ++ drop p.ids ids
         → IdsRead of_word bytes v ids (Ok b) ids'
     unfolding reading_of answer_as ids_after contents_at
     given b ids' hb hi =

@@ -46,7 +46,8 @@ module _ (bytes : List ℕ) where
 
   module _ (unit : Record 1 4 bytes) where
     module _ (f : ℕ) (floats : Record 2 (4 * f) (drop 10 bytes)) where
-      ending : (i : ℕ) → Record 3 (4 * i) (drop (16 + 4 * f) bytes) → (e : Result FlagValues Refusal) → ending_of (drop (22 + 4 * f + 4 * i) bytes) ≡ e
+      ending : (i : ℕ) → Record 3 (4 * i) (drop (16 + 4 * f) bytes) → (e : Result FlagValues Refusal)
+          → ending_of (drop (22 + 4 * f + 4 * i) bytes) ≡ e
           → Agrees (ended (u32_at bytes 6) (floats_at f) (words_in (take (4 * i) (drop (22 + 4 * f) bytes))) e) (parts_by f i e)
       unfolding ended parts_by file_at contents_at Stands
       ending i ids (Err n) h = (refl, tt)

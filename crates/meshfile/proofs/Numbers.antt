@@ -73,7 +73,8 @@ clip_byte : (clip : Bool) → bool_byte clip ≡ cond clip 1 0
 clip_byte true = refl
 clip_byte false = refl
 
-module _ (bytes ps ids : List ℕ) (r : Result (MeshFile ℕ) Refusal) (ps' ids' : List ℕ) (x : ReadsBits bytes ps ids r ps' ids') (five : List ℕ) where
+module _ (bytes ps ids : List ℕ) (r : Result (MeshFile ℕ) Refusal) (ps' ids' : List ℕ)
+    (x : ReadsBits bytes ps ids r ps' ids') (five : List ℕ) where
   pub as_read : (k : ℕ) (five' : List ℕ) → k ≡ reading_number r → five' ≡ counts_after r five
       → ReadsNumbered bytes ps ids five k ps' ids' five'
   as_read k five' hk hc =
@@ -121,7 +122,8 @@ reads_back_numbered m hu hv hi area n area' small w ps ids five lv li k ps' ids'
     )
 
 -- five counts are those of a file that was read
-counts_of : (r : Result (MeshFile ℕ) Refusal) (five : List ℕ) (f i u c d : ℕ) → 0 ≡ reading_number r → f ∷ i ∷ u ∷ c ∷ d ∷ [] ≡ counts_after r five
+counts_of : (r : Result (MeshFile ℕ) Refusal) (five : List ℕ) (f i u c d : ℕ) → 0 ≡ reading_number r
+    → f ∷ i ∷ u ∷ c ∷ d ∷ [] ≡ counts_after r five
     → (m : MeshFile ℕ) × (r ≡ Ok m) × (f ≡ m.floats) × (i ≡ m.ids) × (u ≡ m.unit) × (c ≡ cond m.clip 1 0)
     × (d ≡ profile_number m.profile)
 unfolding reading_number counts_after

@@ -16,7 +16,8 @@ use Rattle.meshfile.specs.declared.FlagValues.{FlagValues}
 use Rattle.meshfile.specs.declared.MeshFile.{MeshFile}
 use Rattle.meshfile.specs.Format.{flag_values, most_in_file, length_fits, Contents, File, front_of, flags_in, ending_of, ended}
 use Rattle.meshfile.specs.Format.{ids_in, vertices_in, unit_in, file_of}
-use Rattle.meshfile.specs.Reading.{mesh_areas_short, mesh_bits, reading_of, answer_as, as_floats, vertices_after, ids_after, ReadsAs, ReadsBits, By356}
+use Rattle.meshfile.specs.Reading.{mesh_areas_short, mesh_bits, reading_of, answer_as, as_floats}
+use Rattle.meshfile.specs.Reading.{vertices_after, ids_after, ReadsAs, ReadsBits, By356}
 use Rattle.meshfile.specs.Reading.{RefusedReading, RefusedReadingBits, ReadOne, ReadAsFloats}
 use Rattle.ids.specs.declared.refusal.Refusal.{Refusal}
 
@@ -131,7 +132,8 @@ unfolding reading_of vertices_after ids_after
 kept taken (Err k) vs ids n h = (refl, refl)
 kept taken (Ok m) vs ids n h = short_kept (mesh_areas_short m (length vs) (length ids)) n (mesh_bits m) vs _ ids _ h
 
-module _ {A R : Type 0} (taken : List ℕ → List A) (answer : Result (MeshFile ℕ) Refusal → R) (bytes : List ℕ) (vs : List A) (ids : List ℕ) where
+module _ {A R : Type 0} (taken : List ℕ → List A) (answer : Result (MeshFile ℕ) Refusal → R)
+    (bytes : List ℕ) (vs : List A) (ids : List ℕ) where
   refused_by : (r : R) (n : Refusal) (vs' : List A) (ids' : List ℕ) → ReadsAs taken answer bytes vs ids r vs' ids'
       → Err n ≡ reading_of (file_of bytes) (length vs) (length ids) → By356 n × (vs' ≡ vs) × (ids' ≡ ids)
   refused_by r n vs' ids' x h =

@@ -80,7 +80,8 @@ Reads = ReadsAs floats_of as_floats
 abbrev pub By356 : Refusal → Type 0
 By356 refusal = (refusal ≡ Refusal.ShortArea) ⊎ (refusal ≡ Refusal.File) ⊎ (refusal ≡ Refusal.FileTooLarge)
 
--- Reading refuses by 3, 5 and 6 of document 01's table only, and a refusal leaves both areas as they were. (`refused_reading`, `refused_reading_bits`)
+-- Reading refuses by 3, 5 and 6 of document 01's table only, and a refusal leaves both areas as they were.
+-- (`refused_reading`, `refused_reading_bits`)
 abbrev pub RefusedReading : Type 0
 RefusedReading = (bytes : List ℕ) (vs : List Float) (ids : List ℕ) (refusal : Refusal) (vs' : List Float) (ids' : List ℕ)
     → Reads bytes vs ids (Err refusal) vs' ids' → By356 refusal × (vs' ≡ vs) × (ids' ≡ ids)
@@ -98,7 +99,8 @@ ReadOne = (A R : Type 0) (taken : List ℕ → List A) (answer : Result (MeshFil
 
 -- Lent the floats of what `read_bits` is lent, `read` answers and leaves the floats of what `read_bits` does. (`read_as_floats`)
 abbrev pub ReadAsFloats : Type 0
-ReadAsFloats = (bytes ps ids : List ℕ) (b : Result (MeshFile ℕ) Refusal) (ps' ids₁ : List ℕ) (r : Result (MeshFile Float) Refusal) (vs' : List Float)
+ReadAsFloats = (bytes ps ids : List ℕ) (b : Result (MeshFile ℕ) Refusal) (ps' ids₁ : List ℕ) (r : Result (MeshFile Float) Refusal)
+    (vs' : List Float)
     (ids₂ : List ℕ)
     → ReadsBits bytes ps ids b ps' ids₁ → Reads bytes (floats_of ps) ids r vs' ids₂
     → (r ≡ as_floats b) × (vs' ≡ floats_of ps') × (ids₂ ≡ ids₁)

@@ -7,6 +7,7 @@ ghost use Rattle.spelling.specs.Text.{codes, glyph as glyph_of, bits, decimal_in
 ghost use Rattle.spelling.specs.inner.Steps.{PutsText, filled};
 
 // ---- text; all that put something answer the place behind it
+// Stays: a place in and one out, which `PutsText` ties to the bytes before and after: a struct over the lent text would name the same four.
 
 pub fn put(out: &mut [u8], at: usize, text: &[u8]) -> usize
     requires { at + length text.now ≤ length out.old }
@@ -58,6 +59,7 @@ pub fn fill(out: &mut [u8], at: usize, form: &[u8], numbers: &[f32]) -> usize
     ensures { PutsText at (filled form.now numbers.now) out.old result out.new }
 {
     let mut end = at;
+    // Stays: an index beside the bytes, since a form and its numbers advance apart.
     let mut used = 0;
     for (i, byte) in form.iter().enumerate() {
         if (*byte == b'#') & (used < numbers.len()) {

@@ -20,7 +20,8 @@ unfolding FewTriangles
 few_by true n h = tt
 few_by false n h = h
 
-few_in : (most : ℕ) (bytes : List ℕ) → most ≤ most_large → (r : Result ℕ Refusal) → stl_of most bytes ≡ r → (f i : ℕ) → FewTriangles (in_areas r f i)
+few_in : (most : ℕ) (bytes : List ℕ) → most ≤ most_large → (r : Result ℕ Refusal) → stl_of most bytes ≡ r → (f i : ℕ)
+    → FewTriangles (in_areas r f i)
 unfolding in_areas FewTriangles
 few_in most bytes h (Err n) e f i = tt
 few_in most bytes h (Ok n) e f i =

@@ -38,7 +38,8 @@ abbrev pub StlOne : Type 0
 StlOne = (most : ℕ) (bytes : List ℕ) (vs : List Float) (ids : List ℕ) (r r' : Result ℕ Refusal) (vs₁ vs₂ : List Float) (ids₁ ids₂ : List ℕ)
     → ReadsStl most bytes vs ids r vs₁ ids₁ → ReadsStl most bytes vs ids r' vs₂ ids₂ → (r ≡ r') × (vs₁ ≡ vs₂) × (ids₁ ≡ ids₂)
 
--- Reading refuses by 3, 5 and 6 of document 01's table only, and a refusal leaves both areas as they were. (`stl_refuses_by_356`, `stl_refusals_write_nothing`)
+-- Reading refuses by 3, 5 and 6 of document 01's table only, and a refusal leaves both areas as they were.
+-- (`stl_refuses_by_356`, `stl_refusals_write_nothing`)
 unfoldable pub StlRefuses : Result ℕ Refusal → Type 0
 StlRefuses (Ok n) = Unit {0}
 StlRefuses (Err refusal) = (refusal ≡ Refusal.ShortArea) ⊎ (refusal ≡ Refusal.File) ⊎ (refusal ≡ Refusal.FileTooLarge)
@@ -48,5 +49,6 @@ StlRefusesBy356 = (most : ℕ) (bytes : List ℕ) (vs : List Float) (ids : List 
     → ReadsStl most bytes vs ids r vs' ids' → StlRefuses r
 
 abbrev pub StlRefusalsWriteNothing : Type 0
-StlRefusalsWriteNothing = (most : ℕ) (bytes : List ℕ) (vs : List Float) (ids : List ℕ) (refusal : Refusal) (vs' : List Float) (ids' : List ℕ)
+StlRefusalsWriteNothing = (most : ℕ) (bytes : List ℕ) (vs : List Float) (ids : List ℕ) (refusal : Refusal)
+    (vs' : List Float) (ids' : List ℕ)
     → ReadsStl most bytes vs ids (Err refusal) vs' ids' → (vs' ≡ vs) × (ids' ≡ ids)

@@ -13,7 +13,10 @@ pub flags_in-requires : goal.flags_in-requires
 flags_in-requires c = flags_front _ _ (sym c.in_ok-n.ensures)
 
 pub returns-in_err-n : goal.returns-in_err-n
-returns-in_err-n c = rw (passed_on _ _ c.from_residual.ensures) (ending_refused _ _ (λ q. let e : c.is_empty.result ≡ true = rw q at c.is_empty.ensures in cc) c.in_err-n.ensures)
+returns-in_err-n c =
+    rw (passed_on _ _ c.from_residual.ensures)
+    (ending_refused _ _ (λ q. let e : c.is_empty.result ≡ true = rw q at c.is_empty.ensures in cc) c.in_err-n.ensures)
 
 pub returns : goal.returns
-returns c = c.flags_in.ensures ∙ ending_by _ _ _ (λ q. let e : c.is_empty.result ≡ true = rw q at c.is_empty.ensures in cc) c.in_ok-n.ensures refl
+returns c =
+    c.flags_in.ensures ∙ ending_by _ _ _ (λ q. let e : c.is_empty.result ≡ true = rw q at c.is_empty.ensures in cc) c.in_ok-n.ensures refl

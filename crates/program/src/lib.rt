@@ -2,8 +2,9 @@
 // listing or of `refused N` out.
 #![tactic(auto)]
 
-ghost use Rattle.std.specs.Prelude.{◌≡◌, ℕ, ◌+◌, ◌*◌, ◌/◌, ◌≤◌, length, take, IfOk};
+ghost use Rattle.std.specs.Prelude.{◌≡◌, ◌+◌, ◌*◌, ◌/◌, ◌≤◌, length, take, IfOk};
 ghost use Rattle.ids.specs.Pieces.{share_edge, pieces as pieces_in};
+ghost use Rattle.ids.specs.Refusal.{refusal_number};
 ghost use Rattle.rows.specs.Rows.{rows_of};
 ghost use Rattle.record.specs.Flags.{flagged};
 ghost use Rattle.listing.specs.Listing.{listing_of, refused_line};
@@ -38,9 +39,9 @@ fn pieces_of(ids: &[u32], work: &mut [u32]) -> u32
 }
 
 // `refused N`.
-fn print_refusal<N: Into<u32>>(refusal: N, text: &mut [u8]) -> usize
+fn print_refusal(refusal: Refusal, text: &mut [u8]) -> usize
     requires { head_bytes ≤ length text.old }
-    ensures { (n : ℕ) × N.converts refusal n × Prints (refused_line n) text.old result text.new }
+    ensures { Prints (refused_line (refusal_number refusal)) text.old result text.new }
 {
     listing::list_refusal(refusal, text).unwrap()
 }

@@ -22,6 +22,5 @@ returns-in-Ok c =
 pub returns-in-Err : goal.returns-in-Err
 returns-in-Err c =
     let m = c.args.m in
-    let said = c.print_refusal.ensures in
     rw (← refusal_text _ _ m.unit m.clip m.profile _ _ _ _ _ _ _ c.compute-answer.ensures (omega arith) (omega arith) (omega arith) _
-    c.in-Err.is) (rw said.1 at said.2)
+    c.in-Err.is) c.print_refusal.ensures

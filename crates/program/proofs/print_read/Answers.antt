@@ -8,6 +8,4 @@ returns-in-Ok c = rw c.in-Ok.is c.print_mesh.ensures
 
 pub returns-in-Err : goal.returns-in-Err
 unfolding read_text
-returns-in-Err c =
-    let said = c.print_refusal.ensures in
-    rw c.in-Err.is (rw said.1 at said.2)
+returns-in-Err c = rw c.in-Err.is c.print_refusal.ensures

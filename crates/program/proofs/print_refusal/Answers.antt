@@ -3,11 +3,11 @@ use Rattle.program.proofs.Given.{refusal_prints}
 use Rattle.program.proofs.print_refusal.Goals as goal
 
 pub unwrap-requires : goal.unwrap-requires
-unwrap-requires g c =
+unwrap-requires c =
     let said = c.list_refusal.ensures in
     (refusal_prints said.0 _ _ _ c.requires said.2).0
 
 pub returns : goal.returns
-returns g c =
+returns c =
     let said = c.list_refusal.ensures in
-    (said.0, said.1, (refusal_prints said.0 _ _ _ c.requires said.2).1 _ c.unwrap.ensures)
+    rw said.1 at ((refusal_prints said.0 _ _ _ c.requires said.2).1 _ c.unwrap.ensures)

@@ -1,4 +1,6 @@
 // Files under the names of the C interface: each is the routine of its crate, and its answer as a number.
+// Stays here: slices and numbers, since that is the C interface; what makes numbers of answers is a function, since neither Result nor
+// Option nor u32 is a type of this crate.
 ghost use Rattle.std.specs.Prelude.{◌≡◌, ℕ, ◌+◌};
 ghost use Rattle.ids.specs.Refusal.{refusal_number};
 ghost use Rattle.meshfile.specs.Numbers.{WritesNumbered, ReadsNumbered};

@@ -1,4 +1,5 @@
 // The float helpers on bit patterns, under the names of the C interface. Each is the pattern form of `floats`, with its contract.
+// Stays here: a function for each format, since these are the names and types of the C interface.
 ghost use Rattle.std.specs.Float.{binary32, binary64};
 ghost use Rattle.std.specs.Float.Ieee.{of_bits, to_bits, to_signed, to_unsigned};
 ghost use Rattle.std.specs.Prelude.{◌≡◌};

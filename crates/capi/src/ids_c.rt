@@ -1,4 +1,6 @@
 // The id routines under the names of the C interface: each is the routine of `chain` or `pieces`, and its answer as a number.
+// Stays here: slices and numbers, since that is the C interface; what makes numbers of answers is a function, since neither Result nor
+// Option nor u32 is a type of this crate.
 ghost use Rattle.std.specs.Prelude.{◌≡◌, ◌≤◌};
 ghost use Rattle.ids.specs.Uses.{bit};
 ghost use Rattle.ids.specs.Refusal.{answer_number};

@@ -1,4 +1,6 @@
 // The record under the name of the C interface: `compute` with its flags, and the answer as a number and 26 words.
+// Stays here: slices and numbers, since that is the C interface; what makes numbers of answers is a function, since neither Result nor
+// Option nor u32 is a type of this crate.
 ghost use Rattle.std.specs.Prelude.{◌≡◌};
 ghost use Rattle.record.specs.Numbers.{prism_number, prism_bits};
 ghost use Rattle.qto.specs.Numbers.{words_of, ComputesNumbered};

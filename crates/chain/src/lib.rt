@@ -1,5 +1,6 @@
 // `EdgeChain`, `FaceNet`, `is_closed_manifold` and `winding_coherent`: 000's routines on ids alone. Each takes ids and a lent area,
 // and either refuses, with nothing changed, or answers and leaves zero in the words that it needs.
+// Stays here: the words and their n rows apart, for the reason that `steps` has; and ids and work apart, since C lends both.
 #![tactic(auto)]
 
 ghost use Rattle.std.specs.Prelude.{◌≡◌, ◌&&◌, List, ℕ, Bool, ◌*◌, length};

@@ -1,4 +1,5 @@
 // The faces of the triangles of a list of ids, counted in a table in lent words. Internal: `chain` and `tally` ask it.
+// Stays here: the words and their n rows apart, for the reason that `steps` has.
 #![tactic(auto)]
 
 ghost use Rattle.std.specs.Prelude.{◌≡◌, ◌+◌, ◌*◌, ◌≤◌, ◌<◌, length};

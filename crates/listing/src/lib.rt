@@ -1,5 +1,6 @@
 // The listing of document 01, with 02's counts, as bytes in a lent area: `list` for a record with its rows and pieces, `list_refusal` for
 // a refusal.
+// Stays here: the text area and the place apart, as in `spelling`.
 #![tactic(auto)]
 
 ghost use Rattle.std.specs.Prelude.{◌≡◌, ℕ, ◌+◌, ◌*◌, ◌≤◌, ◌<◌, length};

@@ -1,4 +1,5 @@
 // The program's input, a mesh file: its bytes read into lent vertices and ids, and written. The format is document 01's.
+// Stays here: a place and a number beside the bytes: both come from the file's records, and `contents_at` speaks of the whole file.
 #![tactic(auto)]
 
 mod kind; // the records' kinds
@@ -67,6 +68,7 @@ fn front_of(bytes: &[u8], kind: Kind) -> Result<usize, Refusal>
 // ---- the records in their order
 
 // The values of the flags, as kind 4 has them.
+// Stays: numbers, since they are the two bytes of kind 4, which `contents_at` has, and C's.
 #[derive(Clone, Copy)]
 pub struct FlagValues {
     pub clip: u32,
@@ -197,6 +199,7 @@ fn read_as<U: FromWord>(
 
 // The file that the bytes hold: the patterns of its floats, and its ids, go to the front of the two areas. A refusal writes nothing: of the
 // file for the fault that is met first, and then of an area that is too short.
+// Stays: two names over `read_as`, here and below, since README and the C interface's documents name both.
 pub fn read_bits(
     bytes: &[u8],
     vertices: &mut [u32],

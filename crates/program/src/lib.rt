@@ -1,5 +1,6 @@
 // What the programs `takeoff` and `takeoff_stl` do between reading and writing: the bytes of a mesh file or of an STL in, the bytes of its
 // listing or of `refused N` out.
+// Stays here: bytes and how many were kept apart: `PrintsFront`, which README and docs cite, speaks of both.
 #![tactic(auto)]
 
 ghost use Rattle.std.specs.Prelude.{◌≡◌, ◌+◌, ◌*◌, ◌/◌, ◌≤◌, length, take, IfOk};
@@ -114,6 +115,7 @@ fn kept(bytes: &[u8], n: usize) -> &[u8]
 }
 
 // What the program prints for the bytes that it has read: the text stands first in the area, and its length comes back.
+// Stays: a function for each format, here and below, over `print_read` and `kept`: each is a public name with a text of its own.
 pub fn run(bytes: &[u8], text: &mut [u8; TEXT]) -> usize
     ensures { Prints (text_of bytes.now) text.old result text.new }
 {

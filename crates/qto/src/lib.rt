@@ -1,5 +1,7 @@
 // `compute`: the takeoff of one mesh under an edition of the slope rule. It answers or refuses by the documents' table. The record comes by
 // value, and beside it the pairs of its footprints; the surface rows stand in the lent surface area.
+// Stays here: an edition by its number, since C passes any and an unknown one is refused with 7 (`check_of`), and `thresholds_of` is of
+// every number; and the three lent areas apart, since C lends them so.
 #![tactic(auto)]
 
 ghost use Rattle.std.specs.Prelude.{◌≡◌, length};

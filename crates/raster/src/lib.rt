@@ -1,5 +1,6 @@
 // `footprint_raw`: how much ground a mesh covers, counted in cells of a lent raster, and how many of these are on the rim. Internal:
 // `volume` asks it for an open shell, and has the raster cleared for any other.
+// Stays here: an area and how many of its bytes are meant, since what is left of a lent raster is said of the whole (`cleared`).
 #![tactic(auto)]
 
 ghost use Rattle.std.specs.Prelude.{◌≡◌, ◌≤◌, length};

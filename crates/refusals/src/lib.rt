@@ -1,4 +1,5 @@
 // The table of refusals: document 01, 'Order of checks and what comes back', with 02's row. Internal: `qto` asks it.
+// Stays here: an edition by its number, since any may be passed, and `check_of` refuses the unknown ones.
 #![tactic(auto)]
 
 ghost use Rattle.std.specs.Prelude.{◌≡◌, ◌≤◌};

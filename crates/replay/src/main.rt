@@ -4,6 +4,7 @@
 // line with what `write` makes of what was read. Then what `write` says to too much, and the files of data/mounts, in the same
 // framing, each a binary STL: what `takeoff_stl` prints. The gate holds this to `stdout`: the unchanged Rust's answers, and a plain
 // reference's where the Rust has none (docs/DIFFERENCES.md says how).
+// Stays here: an edition by its number, since an unknown one is asked too; and vertices, ids and unit apart, as `compute` takes them.
 #![tactic(auto)]
 
 ghost use Rattle.std.specs.Prelude.{◌≤◌, length};
@@ -294,6 +295,7 @@ fn read_full(file: &mut impl Read, area: &mut [u8]) -> usize
     ensures { result ≤ length area.new }
 {
     let mut done = 0;
+    // Stays: a `while`, since a turn goes as far as its read.
     while done < area.len() {
         let came = read_some(file, &mut area[done..]);
         if came == 0 {

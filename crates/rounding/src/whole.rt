@@ -30,6 +30,7 @@ fn shifted(d: u64, j: u64, way: Way) -> u64
 }
 
 // The way of the float with the pattern b: one from zero up, another below.
+// Stays: two ways apart, here and below, since the definition `integral` takes two.
 fn way_at<F: Binary>(b: u64, above: Way, below: Way) -> Way
     ensures { way_of result ≡ (if nat_le (top F.format) b then way_of below else way_of above) }
 {

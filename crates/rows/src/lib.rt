@@ -1,5 +1,6 @@
 // The rows of planar surfaces in a lent area: scaled, put in order in place, and asked for the largest and the smallest. Internal: `qto`
 // asks it.
+// Stays here: the bound of an index (`Inside`) in each contract: two indices into one area are bounded at a time.
 #![tactic(auto)]
 
 ghost use Rattle.std.specs.Prelude.{◌≡◌, ◌+◌, ◌<◌, T, length, set, fold};

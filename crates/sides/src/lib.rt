@@ -6,6 +6,7 @@
 // take turns: of a closed surface, with one edge and a half a triangle, a class fills half the slots. A pass enters the sides of a class
 // from some triangle on until the slots are full enough, then only looks the triangles behind up, and the next pass starts where this
 // one stopped entering. Each pass has another hash, and looks at no more than `limit` rows for a side.
+// Stays here: a slot's number beside the words, as in `forest`, whose words these are.
 #![tactic(auto)]
 
 ghost use Rattle.std.specs.Prelude.{◌≡◌, ◌+◌, ◌*◌, ◌/◌, ◌≤◌, ◌<◌, min, length};
@@ -186,9 +187,30 @@ fn enter(ids: &[u32], work: &mut [u32], plan: Plan, spare: &mut usize, t: usize)
     if !corners.distinct() {
         return true;
     }
-    let ab = enter_side(ids, work, plan, spare, at, Edge::between(corners.a, corners.b));
-    let bc = enter_side(ids, work, plan, spare, at + 1, Edge::between(corners.b, corners.c));
-    let ca = enter_side(ids, work, plan, spare, at + 2, Edge::between(corners.c, corners.a));
+    let ab = enter_side(
+        ids,
+        work,
+        plan,
+        spare,
+        at,
+        Edge::between(corners.a, corners.b),
+    );
+    let bc = enter_side(
+        ids,
+        work,
+        plan,
+        spare,
+        at + 1,
+        Edge::between(corners.b, corners.c),
+    );
+    let ca = enter_side(
+        ids,
+        work,
+        plan,
+        spare,
+        at + 2,
+        Edge::between(corners.c, corners.a),
+    );
     (ab & bc) & ca
 }
 

@@ -1,5 +1,6 @@
 // A table of entries by their keys, in lent words: where a key's entry is, and an entry more. Internal: `cells` and `surfaces` have
 // one each.
+// Stays here: the words and a place apart, since a layout reads and writes keys within the words of a table that goes on.
 #![tactic(auto)]
 
 ghost use Rattle.std.specs.Prelude.{◌≡◌, ℕ, ◌+◌, ◌*◌, ◌/◌, ◌%◌, ◌<◌, ◌≤◌, length, get_or, set, refl};

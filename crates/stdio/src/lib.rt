@@ -1,4 +1,5 @@
 // What the programs that read one file and print one text share: reading standard input to its end, and writing standard output.
+// Stays here: an area and how many bytes it has apart: it is filled read by read.
 #![tactic(auto)]
 
 ghost use Rattle.std.specs.Prelude.{◌+◌, ◌≤◌, ◌≡◌, IfOk, MatchResult, length, take};

@@ -1,4 +1,5 @@
 // The surface rows while they are summed: the key of a normal, and its row, found by an index in lent words. Internal: `walk` asks it.
+// Stays here: the areas and how many rows are in them apart: rows are added to an area that C lends whole.
 #![tactic(auto)]
 
 ghost use Rattle.std.specs.Prelude.{◌≡◌, ◌+◌, ◌*◌, ◌/◌, ◌%◌, ◌^◌, ◌<◌, length, ℤ, from_bits, Bool, IsTrue, ltb, Float};

@@ -1,4 +1,5 @@
 // Triangles, lent areas and tables in them: what the routines on ids, the weld's cells and the surface rows share. Internal.
+// Stays here: an area and how many of its words are meant, since what is left of a lent area is said of the whole (`cleared`).
 #![tactic(auto)]
 
 ghost use Rattle.std.specs.Prelude.{◌≡◌, ◌≤◌, ◌<◌, length, OnOk};

@@ -1,5 +1,6 @@
 // What a table of edges or of faces says of a list of ids, and the edge chain and face net of ids, counted in a lent part. Internal:
 // `chain` and `verdict` ask it. Nothing is refused here, and what was counted is left in the part.
+// Stays here: the words and their n rows apart, for the reason that `steps` has.
 #![tactic(auto)]
 
 ghost use Rattle.std.specs.Prelude.{◌≡◌, List, ℕ, ◌*◌, ◌≤◌, length};

@@ -1,5 +1,6 @@
 // The best volume of a mesh, by its quality: the mesh's own where that is to be trusted, else the prism; and the cells of the prism's
 // footprints. Internal: `qto` asks it; the record has its enums.
+// Stays here: vertices and ids apart, for the reason that `verdict` has.
 #![tactic(auto)]
 
 mod number; // the number of a method

@@ -1,5 +1,6 @@
 // `welded_indices`: vertices in one cell become the first of them. Internal: `verdict` asks it where the given ids are not boundary-free,
 // and has given ids laid into its area by `lay`; `qto` asks for ε.
+// Stays here: an area and how many words stand in front apart: the table's words come first and go, the ids behind them stay.
 #![tactic(auto)]
 
 ghost use Rattle.std.specs.Prelude.{◌≡◌, ◌+◌, ◌*◌, ◌≤◌, ◌++◌, length, take, map, replicate};

@@ -1,4 +1,5 @@
 // Numbers from bytes and bytes from numbers, little-endian, for those who read and write files.
+// Stays here: bytes and a place apart: a number is read and written within a file that goes on.
 #![tactic(auto)]
 
 ghost use Rattle.std.specs.Prelude.{◌≡◌, ℕ, ◌+◌, ◌*◌, ◌≤◌, ◌<◌, ◌++◌, map, length, take, drop};
@@ -17,6 +18,7 @@ pub fn byte(bytes: &[u8], at: usize) -> u32
 }
 
 // The u16 at a place.
+// Stays: a function for each width, here and below: a trait over `from_le_bytes` would be longer than the two.
 pub fn u16_at(bytes: &[u8], at: usize) -> u32
     requires { at + 2 ≤ length bytes.now }
     ensures { result ≡ u16_at bytes.now at }

@@ -1,7 +1,8 @@
 #!/usr/bin/env python3
 """Counts, in crates/*/src, the places that docs/DESIGN-PASS.md speaks of: a row for each of its points 1 to 8, and with --list every place.
 
-It goes by text alone. A place whose comment begins with 'Stays:', on the line or in the comment above it, counts as kept.
+It goes by text alone. A place counts as kept where a comment says 'Stays:' on its line, right above it or above the function or type that it
+stands in, or 'Stays here:' at the head of its file.
 
     tools/design_count.py [--list] [FOLDER]
 """
@@ -20,10 +21,10 @@ STRUCT = re.compile(rf"^(?:pub )?struct ({NAME})[^{{;\n]* \{{\n(.*?)^\}}", re.M 
 LOOP = re.compile(r"^ *(?:while|loop)\b", re.M)
 FIELDS = re.compile(r"(?:^ *(\w+): \w+(?:\.\w+)*\.\1,\n){3,}", re.M)
 CLAUSE = re.compile(r"^ *(?:requires|ensures)(?: \w+)? \{(.*?)\}(?=\n *(?:requires|ensures|\{)|\n)", re.M | re.S)
-KINDS = re.compile(r"\b(?:kind|test|class|edition|defect|refusal|clip): u(?:8|32|64)\b|-> u8\b|\bn: u8\b|\(u8\)")
+KINDS = re.compile(r"\b(?:kind|test|edition|defect|refusal|clip): u(?:8|32|64)\b|fn (?!from|glyph)\w+\([^)]*\) -> u8\b|\bn: u8\b|\(u8\)")
 BY_HAND = re.compile(
-    rf"^ *(?:pub )?fn (lesser|greater|lower|higher|less|before|same\w*|is_edge|\w+_number|profile_of|flags_fit|with_float|offset|id_by"
-    rf"|\w*words|edge_if|relabelled|marked|no_\w+|nothing|none|zero_\w+|then_by|precedes)(?:<[^>]*>)?\(", re.M)
+    r"^ *(?:pub )?fn (lesser|greater|lower|higher|less|before|same\w*|is_edge|\w+_number|profile_of|flags_fit|with_float|offset|record_words"
+    r"|edge_if|marked|then_by|precedes)(?:<[^>]*>)?\(", re.M)
 
 
 class Text:
@@ -37,12 +38,24 @@ class Text:
     def at(self, position: int) -> int:
         return self.text.count("\n", 0, position) + 1
 
-    def kept(self, line: int) -> bool:
-        """Is the line, or the comment right above it, marked as staying?"""
+    def said(self, line: int) -> str:
+        """The line with the comments and attributes right above it."""
         above = line - 1
-        while above > 0 and self.lines[above - 1].lstrip().startswith(("//", "#[", "#![")):
+        while above > 0 and self.lines[above - 1].lstrip().startswith(("//", "#[")):
             above -= 1
-        return any("Stays:" in one for one in self.lines[max(above - 1, 0):line])
+        return "\n".join(self.lines[above:line])
+
+    def head(self) -> str:
+        """The comment that the file begins with."""
+        return "\n".join(self.lines[:next((i for i, one in enumerate(self.lines) if not one.startswith("//")), 0)])
+
+    def kept(self, line: int) -> bool:
+        """Is the place marked as staying?"""
+        whole = line
+        while whole > 1 and not re.match(r" *(?:pub )?(?:extern \"C\" )?(?:fn|struct|enum|impl|trait)\b", self.lines[whole - 1]):
+            whole -= 1
+        section = re.search(r"^// Stays:.*(?:\n//.*)*\n\n", self.text, re.M)
+        return "Stays:" in self.said(line) or "Stays:" in self.said(whole) or "Stays here:" in self.head() or section is not None
 
 
 def signature(text: Text) -> list[tuple[str, int, list[tuple[str, str]], str]]:
@@ -74,7 +87,7 @@ def shaped(text: Text):
         yield text.at(match.start()), match[0].strip()
 
 
-TWINS = re.compile(r"64|32|16|_behind|_wide|_narrow|_bits|Bits|_stl|_large|Wide|Narrow|_words|_floats|_present|_unbalanced|_crowded|_unpaired|_incoherent")
+TWINS = re.compile(r"64|32|16|_behind|_wide|_narrow|Bits|_stl|_large|_words|_floats|_present|_unbalanced|_crowded|_unpaired|_incoherent")
 
 
 def twins(texts: list[Text]):
@@ -83,7 +96,7 @@ def twins(texts: list[Text]):
     for text in texts:
         crate = text.name.split("/")[0]
         for match in re.finditer(rf"^ *(?:pub )?(?:fn|struct|enum) ({NAME})", text.text, re.M):
-            groups[crate, TWINS.sub("", match[1])].append((text, text.at(match.start()), match[1]))
+            groups[crate, TWINS.sub("", match[1].replace("read_bits", "read"))].append((text, text.at(match.start()), match[1]))
     for (_, _), places in sorted(groups.items(), key=lambda group: group[0]):
         if len({name for _, _, name in places}) > 1:
             for text, line, name in places:
@@ -107,6 +120,7 @@ def by_hand(text: Text):
 def together(texts: list[Text]):
     """5: facts and groups of parameters that stand in three functions of a crate or more."""
     facts, groups = defaultdict(set), defaultdict(set)
+    said = {text.name.split("/")[0] for text in texts if "Stays:" in text.text or "Stays here:" in text.text}
     for text in texts:
         crate = text.name.split("/")[0]
         for match in re.finditer(r"^ *requires(?: \w+)? \{(.*?)\}$", text.text, re.M | re.S):
@@ -121,10 +135,10 @@ def together(texts: list[Text]):
                     groups[crate, ", ".join(names[i:i + size])].add((text.name, line))
     for (crate, word), places in sorted(facts.items()):
         if len(places) >= 3:
-            yield crate, f"fact {word}", len(places)
+            yield crate, f"fact {word}", len(places), crate in said
     for (crate, group), places in sorted(groups.items()):
         if len(places) >= 3:
-            yield crate, f"parameters {group}", len(places)
+            yield crate, f"parameters {group}", len(places), crate in said
 
 
 def lengths(text: Text):
@@ -153,8 +167,8 @@ def places(top: Path) -> dict[int, list[tuple[str, int, str, bool]]]:
                 found[point].append((text.name, line, what, text.kept(line)))
     for text, line, name in twins(texts):
         found[2].append((text.name, line, name, text.kept(line)))
-    for crate, what, many in together(texts):
-        found[5].append((crate, many, what, False))
+    for crate, what, many, stays in together(texts):
+        found[5].append((crate, many, what, stays))
     for path in sorted(top.glob("*/proofs/**/Answers.antt")):
         answers = len(re.findall(r"^pub [\w'-]+ : goal\.", path.read_text(), re.M))
         found[8].append((str(path.relative_to(top)), answers, "answers", False))

@@ -21,7 +21,8 @@ FLOATS = re.compile(r"(\w+): &mut \[(?:f(?:32|64)|U\b)")
 # Functions that store into floats that they are lent, and how many statements do. All of them store into a row that is there
 # or begins, but the last: `put_words` is lent just as many floats as a mesh file, or a triangle of an STL, has.
 STORES = {
-    ("rows", "put"): 4,
+    ("rows", "put"): 1,
+    ("rows", "scale"): 1,
     ("surfaces", "new_row"): 1,
     ("surfaces", "put_normal"): 1,
     ("words", "put_words"): 1,
@@ -94,7 +95,7 @@ class Stores(unittest.TestCase):
 
     def test_the_rows_alone_are_put_in_order(self) -> None:
         _, body = functions()["qto", "measure"]
-        self.assertIn("arrange(&mut surfaces[0..4 * n], n, square)", body)
+        self.assertIn("arrange(&mut surfaces[0..4 * n], square)", body)
 
 
 if __name__ == "__main__":

@@ -1,22 +1,14 @@
 // Files under the names of the C interface: each is the routine of its crate, and its answer as a number.
 // Stays here: slices and numbers, since that is the C interface; what makes numbers of answers is a function, since neither Result nor
 // Option nor u32 is a type of this crate.
-ghost use Rattle.std.specs.Prelude.{◌≡◌, ℕ, ◌+◌};
-ghost use Rattle.ids.specs.Refusal.{refusal_number};
+ghost use Rattle.std.specs.Prelude.{◌≡◌};
 ghost use Rattle.meshfile.specs.Numbers.{WritesNumbered, ReadsNumbered};
 ghost use Rattle.stl.specs.Reading.{most_triangles, most_large};
 ghost use Rattle.stl.specs.Numbers.{stl_number, ReadsStlNumbered};
 ghost use Rattle.stl.specs.inner.FewTriangles.{FewTriangles};
 
-use crate::ids_c::REFUSED;
+use crate::ids_c::refused;
 use ids::Refusal;
-
-// A refusal as a number.
-fn refused(refusal: Refusal) -> u32
-    ensures { result ≡ 2147483648 + refusal_number refusal }
-{
-    REFUSED + u32::from(refusal)
-}
 
 // ---- STL
 

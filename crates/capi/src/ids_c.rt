@@ -3,7 +3,7 @@
 // Option nor u32 is a type of this crate.
 ghost use Rattle.std.specs.Prelude.{◌≡◌, ◌≤◌};
 ghost use Rattle.ids.specs.Uses.{bit};
-ghost use Rattle.ids.specs.Refusal.{answer_number};
+ghost use Rattle.ids.specs.Refusal.{answer_number, refused_number};
 ghost use Rattle.ids.specs.Lent.{most_entries};
 ghost use Rattle.chain.specs.Numbers.{incidence_number, net_number};
 ghost use Rattle.chain.specs.Numbers.{EdgeChainNumbered, FaceNetNumbered, ClosedManifoldNumbered, WindingCoherentNumbered};
@@ -12,10 +12,14 @@ ghost use Rattle.pieces.specs.Numbers.{PiecesNumbered};
 use chain::{Incidence, Net};
 use ids::Refusal;
 
-// What a refusal is counted from.
-pub const REFUSED: u32 = 0x8000_0000;
-
 // ---- answers as numbers
+
+// A refusal: 2^31, and its number in the documents.
+pub fn refused(why: Refusal) -> u32
+    ensures { result ≡ refused_number why }
+{
+    0x8000_0000 + u32::from(why)
+}
 
 // An answer that is a number, or the refusal's.
 #[tactic(auto, unfolding(ids::specs::Refusal::answer_number))]
@@ -24,7 +28,7 @@ fn answer_number(answer: Result<u32, Refusal>) -> u32
 {
     match answer {
         Ok(n) => n,
-        Err(why) => REFUSED + u32::from(why),
+        Err(why) => refused(why),
     }
 }
 

@@ -5,7 +5,7 @@ ghost use Rattle.std.specs.Prelude.{◌≡◌};
 ghost use Rattle.record.specs.Numbers.{prism_number, prism_bits};
 ghost use Rattle.qto.specs.Numbers.{words_of, ComputesNumbered};
 
-use crate::ids_c::REFUSED;
+use crate::ids_c::refused;
 use ids::Refusal;
 use qto::Takeoff;
 
@@ -89,7 +89,7 @@ pub extern "C" fn mf_compute(
         result work.new raster.new surfaces.new «record».new }
 {
     if !record::flags_fit(clip, defect) {
-        return REFUSED + u32::from(Refusal::File);
+        return refused(Refusal::File);
     }
     let answer = qto::compute(vertices, ids, unit, edition, work, raster, surfaces);
     match answer {
@@ -100,6 +100,6 @@ pub extern "C" fn mf_compute(
             *record = record_words(Takeoff { qto, ..t });
             0
         }
-        Err(refusal) => REFUSED + u32::from(refusal),
+        Err(refusal) => refused(refusal),
     }
 }

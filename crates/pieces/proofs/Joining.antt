@@ -14,7 +14,7 @@ use Rattle.sides.specs.inner.Sides.{side_edge, edge_class, taken}
 use Rattle.sides.specs.inner.Passes.{Settled, Settles}
 use Rattle.sides.proofs.Sides.{share_sides, sides_share, class_below, taken_solid, taken_here}
 use Rattle.sides.proofs.Joins.{more_none, more_then}
-use Rattle.pieces.specs.inner.Joined.{Tied, Whole}
+use Rattle.pieces.specs.inner.Joined.{Tied, AllJoined}
 
 -- one triangle by itself
 pub settled_one : {ids : List ℕ} {n : ℕ} (q : ℕ) {t : ℕ} {f : ℕ → ℕ} → t < n → Tied ids n t (t + 1) n f
@@ -79,7 +79,7 @@ joining_next {ids} {t} {u} {n} {q} z w = record { label = new.label; good = new.
         ]
 
 -- linked triangles have sides with one edge, and its class is one of the three
-pub joined_all : {ids t : List ℕ} {n q : ℕ} → length t ≡ n → Joining ids t n q → 3 ≤ q → Whole ids t
+pub joined_all : {ids t : List ℕ} {n q : ℕ} → length t ≡ n → Joining ids t n q → 3 ≤ q → AllJoined ids t
 joined_all {ids} {t} {n} {q} long z three = record { label = z.label; good = z.good; follows = follows }
   where
     follows : (x y : ℕ) → Linked ids (length t) x y → z.label x ≡ z.label y

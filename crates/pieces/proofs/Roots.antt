@@ -22,7 +22,7 @@ use Rattle.sides.specs.inner.Joins.{joins, Linked}
 use Rattle.ids.proofs.Groups.{counted}
 use Rattle.ids.proofs.Shared.{share_both}
 use Rattle.ids.proofs.Solids.{those_mem, mem_those, those_once}
-use Rattle.pieces.specs.inner.Joined.{Whole, is_root}
+use Rattle.pieces.specs.inner.Joined.{AllJoined, is_root}
 
 -- ---- the numbers below n that pass
 
@@ -61,7 +61,7 @@ module _ (p : ℕ → Bool) where
 
 -- ---- all of them
 
-pub answers : (ids t : List ℕ) → length t ≡ length ids / 3 → Whole ids t
+pub answers : (ids t : List ℕ) → length t ≡ length ids / 3 → AllJoined ids t
     → count_by (is_root ids t) (range_with_len 0 (length t)) ≡ pieces joins ids
 unfolding pieces solids is_root
 answers ids t e z =

@@ -14,7 +14,7 @@ ghost use Rattle.table.specs.inner.Words.{Leaves};
 ghost use Rattle.sides.specs.inner.Joins.{OneWordEach, Joinable, Grows};
 ghost use Rattle.sides.specs.inner.Sides.{taken};
 ghost use Rattle.sides.specs.inner.Passes.{Settles};
-ghost use Rattle.pieces.specs.inner.Joined.{Tied, Whole, is_root};
+ghost use Rattle.pieces.specs.inner.Joined.{Tied, AllJoined, is_root};
 ghost use Rattle.pieces.specs.Answer.{PiecesGiven};
 
 use ids::Refusal;
@@ -77,7 +77,7 @@ fn join_class(ids: &[u32], work: &mut [u32], class: u64)
 // Joins all triangles that share an edge, class after class.
 fn join_all(ids: &[u32], work: &mut [u32])
     requires { OneWordEach ids.now work.old }
-    ensures { Whole ids.now work.new }
+    ensures { AllJoined ids.now work.new }
 {
     forest::plant(work);
     for class in 0..3 {

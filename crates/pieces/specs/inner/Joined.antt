@@ -9,7 +9,7 @@ abbrev pub Tied : List ℕ → ℕ → ℕ → ℕ → ℕ → (ℕ → ℕ) →
 Tied ids n t a b f = (j : ℕ) → a ≤ j → j < b → Linked ids n t j → f t ≡ f j
 
 -- when all is joined: labels that are as coarse as the joins ask, and no coarser
-pub record Whole (ids t : List ℕ) : Type 0 where
+pub record AllJoined (ids t : List ℕ) : Type 0 where
   pub label : ℕ → ℕ
   pub good : Good ids t label
   pub follows : (x y : ℕ) → Linked ids (length t) x y → label x ≡ label y

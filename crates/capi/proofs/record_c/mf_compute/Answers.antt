@@ -3,7 +3,7 @@ use Rattle.capi.proofs.Numbered.{flags_refused, filled, refused}
 use Rattle.capi.proofs.record_c.mf_compute.Goals as goal
 
 pub returns-then-not-flags_fit : goal.returns-then-not-flags_fit
-returns-then-not-flags_fit c = rw c.from.ensures (search flags_refused)
+returns-then-not-flags_fit c = rw c.refused.ensures (search flags_refused)
 
 pub returns-in-Ok : goal.returns-in-Ok
 returns-in-Ok c =
@@ -11,4 +11,4 @@ returns-in-Ok c =
     c.in-Ok.is c.profile_of.ensures c.apply_product_flags-qto.ensures c.record_words.ensures
 
 pub returns-in-Err : goal.returns-in-Err
-returns-in-Err c = rw c.from-in-Err.ensures (search refused)
+returns-in-Err c = rw c.refused-in-Err.ensures (search refused)

@@ -15,7 +15,7 @@ use ids::Refusal;
 // ---- answers as numbers
 
 // A refusal: 2^31, and its number in the documents.
-pub fn refused(why: Refusal) -> u32
+pub(crate) fn refused(why: Refusal) -> u32
     ensures { result ≡ refused_number why }
 {
     0x8000_0000 + u32::from(why)

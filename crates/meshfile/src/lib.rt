@@ -199,7 +199,7 @@ fn read_as<U: FromWord>(
 
 // The file that the bytes hold: the patterns of its floats, and its ids, go to the front of the two areas. A refusal writes nothing: of the
 // file for the fault that is met first, and then of an area that is too short.
-// Stays: two names over `read_as`, here and below, since README and the C interface's documents name both.
+// Stays: two names over `read_as`, here and below, since ARCHITECTURE and CLAIMS name both.
 pub fn read_bits(
     bytes: &[u8],
     vertices: &mut [u32],

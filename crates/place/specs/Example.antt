@@ -17,13 +17,13 @@ pub record Point : Type 0 where
   pub y : ℤ
   pub z : ℤ
 
-abbrev pub point_at : ℤ → ℤ → ℤ → Point
-point_at x y z = record { x = x; y = y; z = z }
+abbrev pub whole_point : ℤ → ℤ → ℤ → Point
+whole_point x y z = record { x = x; y = y; z = z }
 
 -- each moved
 unfoldable pub shift : ℤ → ℤ → ℤ → List Point → List Point
 shift dx dy dz [] = []
-shift dx dy dz (p ∷ ps) = point_at (p.x +ℤ dx) (p.y +ℤ dy) (p.z +ℤ dz) ∷ shift dx dy dz ps
+shift dx dy dz (p ∷ ps) = whole_point (p.x +ℤ dx) (p.y +ℤ dy) (p.z +ℤ dz) ∷ shift dx dy dz ps
 
 -- the coordinates one after the other, and some integers left over
 unfoldable pub integers : List Point → List ℤ → List ℤ
@@ -48,7 +48,8 @@ IntegersMeet =
 
 abbrev pub corner_points : List Point
 corner_points =
-    point_at (pos 0) (pos 0) (pos 0) ∷ point_at (pos 2) (pos 0) (pos 0) ∷ point_at (pos 0) (pos 2) (pos 0) ∷ point_at (pos 0) (pos 0) (pos 2) ∷ []
+    whole_point (pos 0) (pos 0) (pos 0) ∷ whole_point (pos 2) (pos 0) (pos 0) ∷ whole_point (pos 0) (pos 2) (pos 0)
+    ∷ whole_point (pos 0) (pos 0) (pos 2) ∷ []
 
 -- with a 1 left over
 abbrev pub here : List ℤ

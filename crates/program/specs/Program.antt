@@ -5,7 +5,6 @@ use Rattle.std.specs.Float.Ieee.{of_bits}
 use Rattle.ids.specs.declared.refusal.Refusal.{Refusal}
 use Rattle.ids.specs.Refusal.{refusal_number}
 use Rattle.ids.specs.Pieces.{share_edge, pieces}
-use Rattle.ids.specs.Refusal.{refusal_number}
 use Rattle.sums.specs.Editions.{thresholds_of}
 use Rattle.rows.specs.declared.PlanarSurface.{PlanarSurface}
 use Rattle.record.specs.declared.ProfileDefect.{ProfileDefect}

@@ -1,6 +1,6 @@
 // What the programs `takeoff` and `takeoff_stl` do between reading and writing: the bytes of a mesh file or of an STL in, the bytes of its
 // listing or of `refused N` out.
-// Stays here: bytes and how many were kept apart: `PrintsFront`, which README and docs cite, speaks of both.
+// Stays here: bytes and how many were kept apart: `PrintsFront`, which CLAIMS cites, speaks of both.
 #![tactic(auto)]
 
 ghost use Rattle.std.specs.Prelude.{◌≡◌, ◌+◌, ◌*◌, ◌/◌, ◌≤◌, length, take, IfOk};

@@ -95,7 +95,7 @@ fn read_most(
 
 // The mesh of a binary STL of up to 170 triangles, and how many: its corners and ids go to the front of the two areas. A refusal writes
 // nothing: of the file for the fault that is met first, and then of an area that is too short.
-// Stays: two names over `read_most`, here and below, since README and CLAIMS name both.
+// Stays: two names over `read_most`, here and below, since ARCHITECTURE and CLAIMS name both.
 pub fn read(bytes: &[u8], vertices: &mut [f32], ids: &mut [u32]) -> Result<usize, Refusal>
     ensures { ReadsStl most_triangles bytes.now vertices.old ids.old result
         vertices.new ids.new }

@@ -18,7 +18,7 @@ NAME = r"[A-Za-z_]\w*"
 FUNCTION = re.compile(rf"^( *)(?:pub )?(?:extern \"C\" )?fn ({NAME})(?:<[^>]*>)?\(((?:[^()]|\([^()]*\))*)\)([^{{]*?)(?=\n *(?:requires|ensures)|\s*\{{)", re.M)
 ENUM = re.compile(rf"^(?:pub )?enum ({NAME}) \{{\n(.*?)^\}}", re.M | re.S)
 STRUCT = re.compile(rf"^(?:pub )?struct ({NAME})[^{{;\n]* \{{\n(.*?)^\}}", re.M | re.S)
-LOOP = re.compile(r"^ *(?:while|loop)\b", re.M)
+LOOP = re.compile(r"^ *(?:'\w+: )?(?:while|loop)\b", re.M)
 FIELDS = re.compile(r"(?:^ *(\w+): \w+(?:\.\w+)*\.\1,\n){3,}", re.M)
 CLAUSE = re.compile(r"^ *(?:requires|ensures)(?: \w+)? \{(.*?)\}(?=\n *(?:requires|ensures|\{)|\n)", re.M | re.S)
 KINDS = re.compile(r"\b(?:kind|test|edition|defect|refusal|clip): u(?:8|32|64)\b|fn (?!from|glyph)\w+\([^)]*\) -> u8\b|\bn: u8\b|\(u8\)")

@@ -137,12 +137,16 @@ none_or_proper P t none all =
 
 -- ---- one triangle, either way of dropping
 
+-- each edge is used at most once in each direction
+pub triangle_within : (t : Triangle) → UsesWithin 1 (around t) × UsesWithin 1 (around_proper t)
+triangle_within t = (none_or_proper (UsesWithin 1) t (within_length 1 [] (omega arith)) (proper_within t), proper_within t)
+
 pub proper_added : {n : ℕ} {t u : List ℕ} (r : Triangle) → EdgesAdded n t u (around_proper r) → TriangleAdded n t u (around_proper r)
-proper_added r a = record { added = a; few = proper_length r; within = proper_within r }
+proper_added r a = record { added = a; few = proper_length r; within = (triangle_within r).1 }
 
 pub whole_added : {n : ℕ} {t u : List ℕ} (r : Triangle) → EdgesAdded n t u (around r) → TriangleAdded n t u (around r)
 whole_added r a = record {
   added = a;
   few = none_or_proper (λ es. length es ≤ 3) r (omega arith) (proper_length r);
-  within = none_or_proper (UsesWithin 1) r (within_length 1 [] (omega arith)) (proper_within r);
+  within = (triangle_within r).0;
 }

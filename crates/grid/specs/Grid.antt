@@ -1,7 +1,5 @@
 -- A grid of cells over a box, and the cells of a triangle's own box (01, Raster; 000, `footprint_raw`). f32, each step rounded once.
-use Rattle.std.specs.Prelude.{ℕ, ◌-◌, ◌*◌, ◌/◌, ◌%◌, ◌≤◌, ◌<◌, min, max, ℤ, pos, negsuc, Float}
-use Rattle.std.proofs.Common.{lit≤}
-use Rattle.std.proofs.Math.Nat.{le-max_left, max-le, min-le_right}
+use Rattle.std.specs.Prelude.{ℕ, ◌-◌, ◌*◌, ◌/◌, ◌%◌, min, max, ℤ, pos, negsuc, Float}
 use Rattle.std.specs.Float.{binary32}
 use Rattle.std.specs.Float.Ieee.{of_bits, to_signed, to_unsigned}
 use Rattle.ieee.specs.Order.{least, greatest}
@@ -20,24 +18,9 @@ half = of_bits binary32 0x3f00_0000
 unfoldable pub cells_in : Float → Float → ℕ
 cells_in length size = max 1 (min (to_unsigned 64 (ceiling binary32 (length ⊘ size))) 256)
 
-pub cells_some : (length size : Float) → 0 < cells_in length size
-unfolding cells_in
-cells_some length size = le-max_left 1 _
-
-pub cells_few : (length size : Float) → cells_in length size ≤ 256
-unfolding cells_in
-cells_few length size = max-le (lit≤ tt) (min-le_right _ 256)
-
 -- the row from x on over a length, its cells near the size that is asked for
 unfoldable pub along_of : Float → Float → Float → Along
-along_of x length size =
-    record {
-      x = x;
-      w = length ⊘ number (cells_in length size);
-      n = cells_in length size;
-      some = cells_some length size;
-      few = cells_few length size;
-    }
+along_of x length size = record { x = x; w = length ⊘ number (cells_in length size); n = cells_in length size }
 
 -- a whole number brought into 0 .. m
 unfoldable pub clamped : ℕ → ℤ → ℕ

@@ -1,14 +1,10 @@
 // A row of cells along one axis. Both axes of a grid are such rows.
-ghost use Rattle.std.specs.Prelude.{◌≡◌, ◌≤◌, ◌<◌};
-
-// n cells of width w from x on. No loop over them passes 256.
+// n cells of width w from x on.
 #[derive(Clone, Copy)]
 pub struct Along {
     pub x: f32,
     pub w: f32,
     pub n: usize,
-    pub ghost some: { 0 < n },
-    pub ghost few: { n ≤ 256 },
 }
 
 // The cells from the first to the last.
@@ -22,11 +18,12 @@ impl Along {
     ghost use Rattle.std.specs.Prelude.{◌≡◌, ◌≤◌, ◌<◌};
     ghost use Rattle.grid.specs.Grid.{cells_in, along_of, cell_along, first_cell, last_cell, centre_of};
     ghost use Rattle.grid.specs.inner.Centred.{Centred};
+    ghost use Rattle.grid.specs.inner.Sized.{RowSized};
 
     // The row from x on over a length, its cells near the size that is asked for.
     #[tactic(auto, unfolding(crate::specs::Grid::along_of))]
     pub fn over(x: f32, length: f32, size: f32) -> Along
-        ensures { result ≡ along_of x length size }
+        ensures { (result ≡ along_of x length size) × RowSized result }
     {
         let n = Along::cells(length, size);
         Along {
@@ -53,6 +50,7 @@ impl Along {
 
     // Which cell p is in. Between the first and the last the fraction is dropped, which is the floor.
     fn cell(self, p: f32) -> usize
+        requires { RowSized self }
         ensures { (result ≡ cell_along self p) × (result < self.n) }
     {
         let q = (p - self.x) / self.w;
@@ -72,6 +70,7 @@ impl Along {
     // Those of the box of three points.
     #[tactic(auto, unfolding(crate::specs::Grid::first_cell, crate::specs::Grid::last_cell))]
     pub fn span(self, a: f32, b: f32, c: f32) -> Span
+        requires { RowSized self }
         ensures { (result.first ≡ first_cell self a b c) × (result.last ≡ last_cell self a b c) × (result.last < self.n) }
     {
         Span {

@@ -5,6 +5,7 @@ ghost use Rattle.std.specs.Prelude.{◌≡◌};
 ghost use Rattle.grid.specs.Point.{place, place_number, counts as is_counted};
 ghost use Rattle.grid.specs.Grid.{grid_of};
 ghost use Rattle.grid.specs.inner.Edges.{edge_if};
+ghost use Rattle.grid.specs.inner.Sized.{GridSized};
 
 mod along; // the cells along one axis
 
@@ -106,7 +107,7 @@ pub fn counts(t: Flat) -> bool
 // The grid from (x, y) on over the lengths w and h.
 #[tactic(auto, unfolding(crate::specs::Grid::grid_of))]
 pub fn grid_over(x: f32, y: f32, w: f32, h: f32, size: f32) -> Grid
-    ensures { result ≡ grid_of x y w h size }
+    ensures { (result ≡ grid_of x y w h size) × GridSized result }
 {
     Grid {
         columns: Along::over(x, w, size),

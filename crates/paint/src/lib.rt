@@ -7,6 +7,7 @@ ghost use Rattle.vertices.specs.Vertices.{axis_number, corners_in_range, coordin
 ghost use Rattle.grid.specs.Point.{place, place_number};
 ghost use Rattle.grid.specs.Grid.{cells, by_cell};
 ghost use Rattle.grid.specs.inner.Centred.{Centred};
+ghost use Rattle.grid.specs.inner.Sized.{GridSized};
 ghost use Rattle.paint.specs.Covered.{point as point_of, flat as flat_of, between, cell_lies, lies};
 ghost use Rattle.paint.specs.inner.Painted.{only_if, centre_number, cell_number, Adds};
 
@@ -29,6 +30,7 @@ struct Sheet {
     grid: Grid,
     centres: [f32; 256],
     ghost centred: { Centred grid.columns centres },
+    ghost sized: { GridSized grid },
 }
 
 // ---- one triangle in the plane
@@ -51,6 +53,7 @@ fn mark(cell: &mut u8, p: Point, t: Flat)
 // sheet is only read: in one struct, each clause would name a field behind two references, and the sheet would be lent as `&mut`.
 impl Sheet {
     fn on(grid: Grid) -> Sheet
+        requires { GridSized grid }
         ensures { result.grid ≡ grid }
     {
         Sheet {
@@ -163,7 +166,7 @@ impl View<'_> {
 
 // Each byte becomes the greatest number of its cell by any triangle, or stays what it was where that is greater.
 pub fn paint_all(mesh: &View, g: Grid, part: &mut [u8])
-    requires { length part.old ≡ cells g }
+    requires { GridSized g × (length part.old ≡ cells g) }
     ensures { Adds part.old part.new
         (by_cell g (cell_number mesh.now.vertices.now (axis_number mesh.now.u) (axis_number mesh.now.v) g mesh.now.ids.now)) }
 {

@@ -11,7 +11,8 @@ use Rattle.ieee.specs.Single.{◌⊗◌, ◌⊘◌, nought, number, extent}
 use Rattle.ieee.proofs.Numbers.Basic.{size_gt}
 use Rattle.ieee.proofs.Order.Extremes.{least_from}
 use Rattle.vertices.specs.Vertices.{axis_number}
-use Rattle.grid.specs.Grid.{cells_in, cells_some, cells_few, along_of, grid_of}
+use Rattle.grid.specs.Grid.{cells_in, along_of, grid_of}
+use Rattle.grid.proofs.Sizes.{cells_some, cells_few}
 use Rattle.paint.specs.Covered.{covered}
 use Rattle.raster.specs.declared.Window.{Window}
 use Rattle.raster.specs.Footprint.{covered_cells, area_on, footprint_on, no_footprint, footprint_over, cell_size, footprint}

@@ -7,6 +7,7 @@ use Rattle.ieee.specs.Order.{greatest}
 use Rattle.ieee.specs.Single.{◌⊖◌, ◌⊗◌, ◌⊘◌, nought, number, extent}
 use Rattle.ids.proofs.Bits.{byte_bit, bit_most, bit_and}
 use Rattle.vertices.specs.Vertices.{axis_number}
+use Rattle.grid.specs.inner.Sized.{GridSized}
 use Rattle.grid.specs.declared.Grid.{Grid}
 use Rattle.grid.specs.Grid.{grid_of, cells}
 use Rattle.paint.specs.inner.Painted.{cell_number, Adds}
@@ -42,8 +43,8 @@ count_and f h zero = omega arith
 count_and f h (suc n) = omega (arith, count_and f h n, bit_and (f n) (h n))
 
 -- a grid has 65,536 cells at most
-pub few_cells : (g : Grid) → cells g ≤ 65536
-few_cells g = le_trans (mul-le-mul g.columns.few g.rows.few) (lit≤ tt)
+pub few_cells : (g : Grid) → GridSized g → cells g ≤ 65536
+few_cells g sized = le_trans (mul-le-mul sized.columns.few sized.rows.few) (lit≤ tt)
 
 -- ---- on a grid
 

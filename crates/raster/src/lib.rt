@@ -6,6 +6,7 @@
 ghost use Rattle.std.specs.Prelude.{◌≡◌, ◌≤◌, length};
 ghost use Rattle.ids.specs.Lent.{cleared};
 ghost use Rattle.grid.specs.Grid.{cells};
+ghost use Rattle.grid.specs.inner.Sized.{GridSized};
 ghost use Rattle.vertices.specs.Areas.{raster_bytes};
 ghost use Rattle.vertices.specs.Vertices.{axis_number};
 ghost use Rattle.raster.specs.Footprint.{window_of, no_cells, no_footprint, footprint_on, footprint};
@@ -93,7 +94,7 @@ fn no_footprint() -> Footprint
 
 // The footprint on a grid, over a part of one byte a cell.
 fn footprint_on(mesh: &View, g: Grid, part: &mut [u8]) -> Footprint
-    requires { length part.old ≡ cells g }
+    requires { GridSized g × (length part.old ≡ cells g) }
     ensures { result ≡ footprint_on mesh.now.vertices.now (axis_number mesh.now.u) (axis_number mesh.now.v) mesh.now.ids.now g }
 {
     part.fill(0);

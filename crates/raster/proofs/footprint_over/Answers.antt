@@ -29,10 +29,10 @@ returns c =
     let h = c.greatest-h in
     let m = c.greatest-size in
     let g = c.grid_over-g in
-    let few = few_cells g.result in
+    let few = few_cells g.result g.ensures.1 in
     let front = length-take-le (cells g.result) a.raster.now (omega (arith, few, c.requires)) in
     let long : length found.new.part ≡ cells g.result = found.auto.part ∙ front in (
       foot_some a.vertices.now a.ids.now a.s w.result h.result m.result w.ensures h.ensures m.ensures
-          g.result found.result c.if-w-h.false g.ensures found.ensures,
+          g.result found.result c.if-w-h.false g.ensures.0 found.ensures,
       rw (drop-append-drop (cells g.result) a.raster.now found.new.part raster_bytes few long),
     )

@@ -21,30 +21,30 @@ pub whole_part32-requires : goal.whole_part32-requires
 unfolding of_bits
 whole_part32-requires c =
     let row = c.args.self in
-    let both = in_range (row.n - 1) (q row c.args.p) (omega (arith, row.few)) c.if-q.true c.if-q-self.true in
+    let both = in_range (row.n - 1) (q row c.args.p) (omega (arith, c.requires.few)) c.if-q.true c.if-q-self.true in
     record { low = both.0; high = both.1 }
 
 pub returns-then-q : goal.returns-then-q
 unfolding cell_along
 returns-then-q c =
     let row = c.args.self in
-    let k = between (row.n - 1) (q row c.args.p) (omega (arith, row.few)) (q_fits row c.args.p) c.if-q-self.true in
-    (c.whole_part32.ensures ∙ k.0, omega (arith, k.1, row.some))
+    let k = between (row.n - 1) (q row c.args.p) (omega (arith, c.requires.few)) (q_fits row c.args.p) c.if-q-self.true in
+    (c.whole_part32.ensures ∙ k.0, omega (arith, k.1, c.requires.some))
 
 pub returns-else-q : goal.returns-else-q
 unfolding cell_along of_bits
 returns-else-q c =
     let row = c.args.self in
-    (before_second (row.n - 1) (q row c.args.p) (omega (arith, row.few)) (q_fits row c.args.p) c.if-q-self.true c.if-q.false, row.some)
+    (before_second (row.n - 1) (q row c.args.p) (omega (arith, c.requires.few)) (q_fits row c.args.p) c.if-q-self.true c.if-q.false, c.requires.some)
 
 pub returns-then-q-2 : goal.returns-then-q-2
 unfolding cell_along
 returns-then-q-2 c =
     let row = c.args.self in
-    (of_nan (row.n - 1) (q row c.args.p) (omega (arith, row.few)) (q_fits row c.args.p) c.if-q-2.true, row.some)
+    (of_nan (row.n - 1) (q row c.args.p) (omega (arith, c.requires.few)) (q_fits row c.args.p) c.if-q-2.true, c.requires.some)
 
 pub returns-else-q-2 : goal.returns-else-q-2
 unfolding cell_along
 returns-else-q-2 c =
     let row = c.args.self in
-    (from_last (row.n - 1) (q row c.args.p) (omega (arith, row.few)) (q_fits row c.args.p) c.if-q-self.false c.if-q-2.false, omega (arith, row.some))
+    (from_last (row.n - 1) (q row c.args.p) (omega (arith, c.requires.few)) (q_fits row c.args.p) c.if-q-self.false c.if-q-2.false, omega (arith, c.requires.some))

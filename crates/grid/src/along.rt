@@ -89,13 +89,11 @@ impl Along {
     }
 
     // The centres of all, and of cells behind them.
-    pub fn centres(self) -> [f32; 256]
-        ensures { Centred self result }
+    pub fn centres(self, list: &mut [f32; 256])
+        ensures { Centred self list.new }
     {
-        let mut list = [0f32; 256];
         for (i, here) in list.iter_mut().enumerate() {
             *here = self.centre(i);
         }
-        list
     }
 }

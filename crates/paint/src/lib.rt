@@ -25,11 +25,11 @@ pub struct View<'a> {
 }
 
 // A grid, and the centres of its columns. Every row asks for them, so they are worked out once.
-#[derive(Drop)]
-struct Sheet {
+#[derive(Clone, Copy)]
+struct Sheet<'a> {
     grid: Grid,
-    centres: [f32; 256],
-    ghost centred: { Centred grid.columns centres },
+    centres: &'a [f32; 256],
+    ghost centred: { Centred grid.columns centres.now },
     ghost sized: { GridSized grid },
 }
 
@@ -51,17 +51,7 @@ fn mark(cell: &mut u8, p: Point, t: Flat)
 
 // Stays: the bytes beside the sheet, though they are always as many as its grid has cells, since they are lent to be written while the
 // sheet is only read: in one struct, each clause would name a field behind two references, and the sheet would be lent as `&mut`.
-impl Sheet {
-    fn on(grid: Grid) -> Sheet
-        requires { GridSized grid }
-        ensures { result.grid ≡ grid }
-    {
-        Sheet {
-            grid,
-            centres: grid.columns.centres(),
-        }
-    }
-
+impl Sheet<'_> {
     // The cells of row j in some columns.
     fn paint_row(&self, part: &mut [u8], t: Flat, columns: Span, j: usize)
         requires { (columns.last < self.now.grid.columns.n) × (j < self.now.grid.rows.n) × (length part.old ≡ cells self.now.grid) }
@@ -170,6 +160,11 @@ pub fn paint_all(mesh: &View, g: Grid, part: &mut [u8])
     ensures { Adds part.old part.new
         (by_cell g (cell_number mesh.now.vertices.now (axis_number mesh.now.u) (axis_number mesh.now.v) g mesh.now.ids.now)) }
 {
-    let sheet = Sheet::on(g);
+    let mut centres = [0f32; 256];
+    g.columns.centres(&mut centres);
+    let sheet = Sheet {
+        grid: g,
+        centres: &centres,
+    };
     sheet.paint_triangles(part, mesh);
 }

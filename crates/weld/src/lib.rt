@@ -53,12 +53,23 @@ fn weld(vertices: &[f32], ids: &[u32], inv: f64, part: &mut [u32])
     front.fill(0);
 }
 
+// The ids as they are.
+// Stays: word by word, since `copy_from_slice` asks for memmove, and the header says that the library needs memset alone.
+fn copy_ids(ids: &[u32], to: &mut [u32])
+    requires { length to.old ≡ length ids.now }
+    ensures { to.new ≡ ids.now }
+{
+    for (i, id) in ids.iter().enumerate() {
+        to[i] = *id;
+    }
+}
+
 // The ids as they are, behind m words that stay.
 pub fn lay(ids: &[u32], part: &mut [u32], m: usize)
     requires { length part.old ≡ m + length ids.now }
     ensures { part.new ≡ take m part.old ++ ids.now }
 {
-    part[m..].copy_from_slice(ids);
+    copy_ids(ids, &mut part[m..]);
 }
 
 // The same, behind m words that are then zero.

@@ -22,4 +22,4 @@ one_more row list i c l e before k m =
 pub loop-i-preserved : goal.loop-i-preserved
 loop-i-preserved c =
     let l = c.loop-i in
-    (simp length-set l.invariant.0, one_more c.args.self l.here-items l.i _ (omega (arith, l.invariant.0, c.loop-i-test.true)) c.centre.ensures l.invariant.1)
+    (simp length-set l.invariant.0, one_more c.args.self l.list l.i _ (omega (arith, l.invariant.0, c.loop-i-test.true)) c.centre.ensures l.invariant.1)

@@ -5,4 +5,4 @@ use Rattle.grid.specs.Grid.{centre_of}
 use Rattle.grid.proofs.along.Along.centres.Given as goal
 
 abbrev pub invariant-loop-i : goal.invariant-loop-i
-invariant-loop-i l = (length l.here-items ≡ 256) × ((k : ℕ) → k < l.i → slice_index_or l.here-items k nan ≡ centre_of l.self k)
+invariant-loop-i l = (length l.list ≡ 256) × ((k : ℕ) → k < l.i → slice_index_or l.list k nan ≡ centre_of l.self k)

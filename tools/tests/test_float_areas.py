@@ -89,9 +89,14 @@ class Stores(unittest.TestCase):
         self.assertIn(arm, re.sub(r"\s", "", body))
 
     def test_the_centres_are_no_callers(self) -> None:
-        self.assertNotIn("grid", {crate for crate, _ in functions()})
-        _, body = without_comments(ROOT / "crates/grid/src/along.rt").split("pub fn centres(self) -> [f32; 256]\n")
-        self.assertIn("        let mut list = [0f32; 256];\n        for (i, here) in list.iter_mut().enumerate() {\n", body)
+        calls = [
+            line.strip()
+            for path in (ROOT / "crates").glob("*/src/**/*.rt")
+            for line in without_comments(path).splitlines()
+            if "centres(" in line and not line.strip().startswith("pub fn")
+        ]
+        self.assertEqual(calls, ["g.columns.centres(&mut centres);"])
+        self.assertIn("    let mut centres = [0f32; 256];\n", without_comments(ROOT / "crates/paint/src/lib.rt"))
 
     def test_the_rows_alone_are_put_in_order(self) -> None:
         _, body = functions()["qto", "measure"]

@@ -12,6 +12,7 @@ use ids::Refusal;
 
 // ---- STL
 
+#[tactic(auto, unfolding(stl::specs::Numbers::stl_number))]
 fn stl_number(answer: Result<usize, Refusal>) -> u32
     requires { FewTriangles answer }
     ensures { result ≡ stl_number answer }

@@ -140,7 +140,6 @@ pub struct Unpaired;
 impl EdgeTest for Unpaired {
     ghost holds = { unpaired };
 
-    #[tactic(auto, using(crate::proofs::Tested::unpaired_bit))]
     fn passes(uses: Uses) -> bool {
         let all = uses.all();
         let paired = (all == 2) & (uses.ups == 1);

@@ -15,7 +15,7 @@ pub struct Span {
 }
 
 impl Along {
-    ghost use Rattle.std.specs.Prelude.{◌≡◌, ◌≤◌, ◌<◌};
+    ghost use Rattle.std.specs.Prelude.{◌≡◌, ◌≤◌, ◌<◌, length};
     ghost use Rattle.grid.specs.Grid.{cells_in, along_of, cell_along, first_cell, last_cell, centre_of};
     ghost use Rattle.grid.specs.inner.Centred.{Centred};
     ghost use Rattle.grid.specs.inner.Sized.{RowSized};
@@ -71,7 +71,8 @@ impl Along {
     #[tactic(auto, unfolding(crate::specs::Grid::first_cell, crate::specs::Grid::last_cell))]
     pub fn span(self, a: f32, b: f32, c: f32) -> Span
         requires { RowSized self }
-        ensures { (result.first ≡ first_cell self a b c) × (result.last ≡ last_cell self a b c) × (result.last < self.n) }
+        ensures { (result.first ≡ first_cell self a b c) × (result.last ≡ last_cell self a b c)
+            × (result.first < self.n) × (result.last < self.n) }
     {
         Span {
             first: self.cell(floats::least(floats::least(a, b), c)),
@@ -88,8 +89,9 @@ impl Along {
         self.x + (i as u16 as f32 + 0.5) * self.w
     }
 
-    // The centres of all, and of cells behind them.
-    pub fn centres(self, list: &mut [f32; 256])
+    // The centres of the first cells, and of cells behind them, as many as the list takes.
+    pub fn centres(self, list: &mut [f32])
+        requires { length list.old ≤ 256 }
         ensures { Centred self list.new }
     {
         for (i, here) in list.iter_mut().enumerate() {

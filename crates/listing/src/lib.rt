@@ -6,6 +6,7 @@
 ghost use Rattle.std.specs.Prelude.{◌≡◌, ℕ, ◌+◌, ◌*◌, ◌≤◌, ◌<◌, length};
 ghost use Rattle.rows.specs.Rows.{rows_of};
 ghost use Rattle.ids.specs.Uses.{bit};
+ghost use Rattle.ids.specs.Refusal.{refusal_number};
 ghost use Rattle.record.specs.Names.{quality_name, method_name, defect_name, profile_name};
 ghost use Rattle.spelling.specs.Text.{codes, decimal, line};
 ghost use Rattle.spelling.specs.inner.Steps.{PutsText};
@@ -186,11 +187,51 @@ pub fn list(q: MeshQto, surfaces: &[f32], pieces: u32, text: &mut [u8]) -> Resul
     Ok(end)
 }
 
-// `refused N`, of a refusal or of any other number.
-pub fn list_refusal<N: Into<u32>>(refusal: N, text: &mut [u8]) -> Result<usize, Refusal>
-    ensures { (n : ℕ) × N.converts refusal n × ListsRefusal n text.old result text.new }
+// What `refused N` is printed of: a refusal, or any other number. Its type says which number that is, so that the text is one and no other.
+pub trait Numbered: Copy {
+    ghost number_of: { Self → ℕ };
+
+    fn number(self) -> u32
+        ensures { result ≡ number_of self };
+}
+
+impl Numbered for Refusal {
+    ghost number_of = { refusal_number };
+
+    fn number(self) -> u32 {
+        u32::from(self)
+    }
+}
+
+impl Numbered for u8 {
+    ghost number_of = { λ n. n };
+
+    fn number(self) -> u32 {
+        u32::from(self)
+    }
+}
+
+impl Numbered for u16 {
+    ghost number_of = { λ n. n };
+
+    fn number(self) -> u32 {
+        u32::from(self)
+    }
+}
+
+impl Numbered for u32 {
+    ghost number_of = { λ n. n };
+
+    fn number(self) -> u32 {
+        self
+    }
+}
+
+// `refused N`.
+pub fn list_refusal<N: Numbered>(refusal: N, text: &mut [u8]) -> Result<usize, Refusal>
+    ensures { ListsRefusal (N.number_of refusal) text.old result text.new }
 {
-    let n = refusal.into();
+    let n = refusal.number();
     if text.len() < HEAD {
         return Err(Refusal::ShortArea);
     }

@@ -29,6 +29,7 @@ pub struct View<'a> {
 struct Sheet<'a> {
     grid: Grid,
     centres: &'a [f32; 256],
+    ghost whole: { length centres.now ≡ 256 },
     ghost centred: { Centred grid.columns centres.now },
     ghost sized: { GridSized grid },
 }

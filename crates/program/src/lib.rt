@@ -86,7 +86,7 @@ fn print_mesh(m: MeshFile<f32>, vertices: &[f32], ids: &[u32], text: &mut [u8]) 
     );
     match answer {
         Ok(t) => print_record(t.qto, m, count, &surfaces, text),
-        Err(refusal) => print_refusal(refusal, text),
+        Err(why) => print_refusal(why, text),
     }
 }
 

@@ -1,6 +1,6 @@
 -- The floats in fours: arrays of four are the rows, and a part of the floats that begins and ends between rows may change by itself.
 -- Assumes nothing.
-use Rattle.std.proofs.Common.{◌≡◌, refl, sym, ap, subst, ◌∙◌, List, [], ◌∷◌, ◌++◌, ℕ, zero, suc, ◌+◌, ◌-◌, ◌*◌, ◌/◌, ◌≤◌, ◌<◌, length, set, take, drop, get_or, slice_get, Float, arith, take-append-drop, length-append, length-drop, length-take-le, take_all, drop_of_length-le, append-nil, Bool}
+use Rattle.std.proofs.Common.{◌≡◌, refl, ap, subst, ◌∙◌, List, [], ◌∷◌, ◌++◌, ℕ, zero, suc, ◌+◌, ◌-◌, ◌*◌, ◌/◌, ◌≤◌, ◌<◌, length, set, take, drop, get_or, slice_get, Float, arith, take-append-drop, length-append, length-drop, length-take-le, take_all, drop_of_length-le, append-nil, Bool}
 use Rattle.std.specs.Option.{unwrap_or}
 use Rattle.std.specs.List.{fold}
 use Rattle.std.specs.Simd.{first_chunks}
@@ -12,7 +12,7 @@ use Rattle.rows.specs.Rows.{rows_of, Whole, scaled_row, largest, less_above, lea
 use Rattle.rows.specs.Sorting.{row_at, passing, SameRows}
 use Rattle.rows.specs.inner.Passes.{Keeps, least_four}
 use Rattle.rows.proofs.Flat.{length_rows}
-use Rattle.rows.proofs.Counts.{same_rows, same_then}
+use Rattle.rows.proofs.Counts.{same_rows}
 
 -- as many rows as there are whole fours
 pub rows_quarter : (t : List Float) → length t / 4 ≡ length (rows_of t)
@@ -57,24 +57,6 @@ least_fours m (a ∷ x ∷ y ∷ z ∷ t) (suc k) h = least_fours (less_above m 
 
 next_0 : (j : ℕ) → 4 * suc j ≡ suc (suc (suc (suc (4 * j))))
 next_0 j = omega arith
-
-next_4 : (j : ℕ) → 4 * suc j + 4 ≡ suc (suc (suc (suc (4 * j + 4))))
-next_4 j = omega arith
-
-four : (r : PlanarSurface) → List Float
-four r = r.area ∷ r.nx ∷ r.ny ∷ r.nz ∷ []
-
-pub row_between : (t : List Float) (j : ℕ) (r : PlanarSurface) → 4 * j + 4 ≤ length t
-    → rows_of (take (4 * j) t ++ (r.area ∷ r.nx ∷ r.ny ∷ r.nz ∷ drop (4 * j + 4) t)) ≡ set (rows_of t) j r
-unfolding rows_of
-row_between [] j r h = absurd (omega arith)
-row_between (a ∷ []) j r h = absurd (omega arith)
-row_between (a ∷ x ∷ []) j r h = absurd (omega arith)
-row_between (a ∷ x ∷ y ∷ []) j r h = absurd (omega arith)
-row_between (a ∷ x ∷ y ∷ z ∷ t) zero r h = refl
-row_between (a ∷ x ∷ y ∷ z ∷ t) (suc j) r h =
-    rw (next_4 j, next_0 j)
-    (ap (λ (l : List PlanarSurface). record { area = a; nx = x; ny = y; nz = z } ∷ l) (row_between t j r (omega arith)))
 
 pub scaled_at : (by : Float) (t : List Float) (j : ℕ) → 4 * j + 4 ≤ length t
     → rows_of (set t (4 * j) (get_or t (4 * j) nan ⊗ by)) ≡ set (rows_of t) j (scaled_row by (row_at (rows_of t) j))

@@ -50,11 +50,16 @@ fn get(rows: &[f32], j: usize) -> PlanarSurface
     PlanarSurface { area, nx, ny, nz }
 }
 
+// Stays: by index, since `copy_from_slice` of an array made the whole of `compute` a tenth slower where there are many rows.
 fn put(rows: &mut [f32], j: usize, r: PlanarSurface)
     requires { Inside j rows.old }
     ensures { rows_of rows.new ≡ set (rows_of rows.old) j r }
 {
-    rows[4 * j..4 * j + 4].copy_from_slice(&[r.area, r.nx, r.ny, r.nz]);
+    let at = 4 * j;
+    rows[at] = r.area;
+    rows[at + 1] = r.nx;
+    rows[at + 2] = r.ny;
+    rows[at + 3] = r.nz;
 }
 
 // Rows i and j change places.

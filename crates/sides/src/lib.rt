@@ -41,6 +41,7 @@ fn edge_of(ids: &[u32], c: usize) -> Edge
 }
 
 // Is this edge that of side c?
+#[tactic(auto, unfolding(ids::specs::EdgeChain::same_edge))]
 fn is_edge(ids: &[u32], c: usize, edge: Edge) -> bool
     requires { TriangleOf ids.now (c / 3) }
     ensures { result ≡ same_edge edge (side_edge ids.now c) }

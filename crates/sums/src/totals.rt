@@ -66,27 +66,16 @@ pub struct Areas {
 
 impl Areas {
     // An area more on a slope.
-    pub fn on_slope(self, to: Slope, area: f32) -> Areas
+    pub fn on_slope(mut self, to: Slope, area: f32) -> Areas
         ensures { result ≡ on_slope to area self }
     {
         match to {
-            Slope::Top => Areas {
-                top: self.top + area,
-                ..self
-            },
-            Slope::Bottom => Areas {
-                bottom: self.bottom + area,
-                ..self
-            },
-            Slope::Side => Areas {
-                side: self.side + area,
-                ..self
-            },
-            Slope::Inclined => Areas {
-                inclined: self.inclined + area,
-                ..self
-            },
+            Slope::Top => self.top += area,
+            Slope::Bottom => self.bottom += area,
+            Slope::Side => self.side += area,
+            Slope::Inclined => self.inclined += area,
         }
+        self
     }
 
     // Each times a number.
@@ -127,14 +116,13 @@ impl Totals {
         }
     }
 
-    // With one triangle's area, volume term and slope.
-    pub fn add(self, pair: Thresholds, f: Facet) -> Totals
+    // Takes one triangle's area, volume term and slope, and hands itself back.
+    pub fn add(mut self, pair: Thresholds, f: Facet) -> Totals
         ensures { result ≡ with_facet pair self f }
     {
-        Totals {
-            surface: self.surface + f.area,
-            volume6: self.volume6 + f.volume,
-            areas: self.areas.on_slope(slope_of(pair, f.nz), f.area32),
-        }
+        self.surface += f.area;
+        self.volume6 += f.volume;
+        self.areas = self.areas.on_slope(slope_of(pair, f.nz), f.area32);
+        self
     }
 }

@@ -65,17 +65,26 @@ fn by_welded(vertices: &[f32], indices: &[u32], eps: f32, near: bool, work: &mut
     by_ids(ids, parts, near).unwrap_or(Quality::OpenShell)
 }
 
-// What the given ids say, or if they are not boundary-free the welded ones.
-fn by_chain(vertices: &[f32], indices: &[u32], eps: f32, near: bool, work: &mut [u32]) -> Quality
+// What the given ids say: none where they are not boundary-free.
+fn by_given(vertices: &[f32], indices: &[u32], near: bool, work: &mut [u32]) -> Option<Quality>
     requires { PartsFit vertices.now indices.now work.old }
-    ensures { result ≡ by_chain vertices.now indices.now eps near }
+    ensures { result ≡ chained indices.now near }
 {
     let i = indices.len();
     let front = 4 * i + 4 * (i / 3);
     let m = 8 * (vertices.len() / 3);
     weld::lay(indices, &mut work[front..], m);
     let (parts, ids) = work.split_at_mut(front + m);
-    match by_ids(ids, parts, near) {
+    by_ids(ids, parts, near)
+}
+
+// What the given ids say, or if they are not boundary-free the welded ones.
+#[tactic(auto, using(crate::proofs::Meaning::given_some, crate::proofs::Meaning::given_none))]
+fn by_chain(vertices: &[f32], indices: &[u32], eps: f32, near: bool, work: &mut [u32]) -> Quality
+    requires { PartsFit vertices.now indices.now work.old }
+    ensures { result ≡ by_chain vertices.now indices.now eps near }
+{
+    match by_given(vertices, indices, near, work) {
         Some(quality) => quality,
         None => by_welded(vertices, indices, eps, near, work),
     }

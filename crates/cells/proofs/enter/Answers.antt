@@ -13,7 +13,7 @@ returns-in-Ok c =
     let a = c.args in
     let found = rw c.cell_at-k.ensures at c.in-Ok.ensures in
     rw c.note.ensures (
-    welds_known (vertex_count a.vertices.now) a.vertices.now a.inv a.part.now a.v found.0 c.requires.1 c.requires.0.welds found.1 c.in-Ok.first found.2
+    welds_known (vertex_count a.vertices.now) a.vertices.now a.inv a.part.now a.v found.0 c.requires.1 c.requires.0.welds found.1 _ (omega (arith, found.2))
     (omega (arith, c.requires.0.words, c.requires.1)))
 
 pub returns-in-Err : goal.returns-in-Err

@@ -6,9 +6,8 @@ use borrow.Author.Rules.{rules}
 use Rattle.listing.proofs.list_refusal.Goals as goal
 
 pub returns-then-text-lt-HEAD : goal.returns-then-text-lt-HEAD
-returns-then-text-lt-HEAD g c = (c.into-n.result, c.into-n.ensures, refusal_short _ _ (search rules))
+returns-then-text-lt-HEAD g c = refusal_short _ _ (search rules)
 
 pub returns : goal.returns
 unfolding refused_line line
-returns g c =
-    (c.into-n.result, c.into-n.ensures, refusal_put c.into-n.result c.args.text.now (search rules) _ _ c.count_line.ensures.0)
+returns g c = rw (← c.number-n.ensures) (refusal_put c.number-n.result c.args.text.now (search rules) _ _ c.count_line.ensures.0)

@@ -1,5 +1,5 @@
 -- `rows::get` meets its contract: the array of four is row j. Assumes nothing.
-use Rattle.std.proofs.Common.{length, ◌/◌, ◌≡◌, arith, subst, List, Float}
+use Rattle.std.proofs.Common.{length, ◌/◌, arith}
 use Rattle.rows.proofs.Fours.{row_of_four}
 use Rattle.rows.proofs.get.Goals as goal
 

@@ -1,5 +1,4 @@
 -- What the loop keeps: the same rows.
-use Rattle.std.proofs.Common.{◌≡◌, length}
 use Rattle.rows.specs.inner.Passes.{Keeps}
 use Rattle.rows.proofs.presort.Given as goal
 

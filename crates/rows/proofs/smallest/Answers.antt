@@ -1,5 +1,5 @@
 -- `rows::smallest` meets its contract: the arrays of four are the rows. Assumes nothing.
-use Rattle.std.proofs.Common.{rules, ◌≡◌, ◌∙◌, ◌/◌, length, sym}
+use Rattle.std.proofs.Common.{rules, ◌∙◌, ◌/◌, length, sym}
 use lib.Ieee.{of_bits, nan_bits}
 use Rattle.rows.specs.Rows.{rows_of}
 use Rattle.rows.proofs.Areas.{smallest_least, smallest_none}

@@ -1,5 +1,9 @@
 -- `steps::walk` meets its contract: the row that the search found counts one use more, and its word has room for it. Assumes nothing.
 use mathlib.Core.Path.{ap}
+use Prim.Native.Nat.{◌≤◌}
+use native.Mathlib.Decide.{dec_lt}
+use native.Mathlib.Omega.{arith}
+use borrow.Author.Tests.{lt-ltb, le-ltb, le-leb, lt-leb}
 use Rattle.ids.specs.EdgeChain.{Edge}
 use Rattle.steps.proofs.Added.{Reached, bump_fits, walked}
 use Rattle.steps.proofs.Within.{room_free}
@@ -14,6 +18,9 @@ find-r-requires c =
       free = room_free c.args.n c.args.work.now c.requires.room;
     }
 
+-- which way the step goes, whatever words ask for it
+ruleset tests = (lt-ltb, le-ltb, le-leb, lt-leb)
+
 module _ (c : After-weight) where
   reached : Reached c.args.n c.args.work.now c.args.u c.args.v c.between-edge.result.low c.between-edge.result.high
       c.hash.result c.home-start.result c.find-r.result c.weight.result
@@ -23,7 +30,10 @@ module _ (c : After-weight) where
     hashed = c.hash.ensures;
     homed = c.home-start.ensures.0;
     found = c.find-r.ensures;
-    weighed = c.weight.ensures;
+    weighed = elim (dec_lt c.args.u c.args.v) [
+      | yes up ↦ simp (c.weight.ensures, tests)
+      | no down ↦ let level : c.args.v ≤ c.args.u = omega (arith, down) in simp (c.weight.ensures, tests)
+    ];
   }
 
 pub bump-requires : goal.bump-requires

@@ -12,7 +12,7 @@ loop-i-preserved c =
     let l = c.loop-i in
     let g = c.args.self.now.grid in
     let column : l.i < g.columns.n = omega (arith, c.loop-i-test.true, c.requires.0) in
-    let centre = c.args.self.now.centred l.i (omega (arith, column, c.args.self.now.sized.columns.few)) in
+    let centre = c.args.self.now.centred l.i (omega (arith, column, c.args.self.now.whole, c.args.self.now.sized.columns.few)) in
     let more = row_next _ _ _ _ l.i _ _ _ column c.requires.1 c.requires.2 l.invariant.0 centre c.centre-y.ensures c.mark.ensures l.invariant.2 in
     (omega (arith, l.invariant.0), omega (arith, c.loop-i-test.true), more)
 

@@ -4,4 +4,4 @@ use Rattle.sums.proofs.totals.Totals.add.Goals as goal
 
 pub returns : goal.returns
 unfolding with_facet
-returns c = rw (c.on_slope.ensures, c.slope_of.ensures)
+returns c = rw (c.on_slope-self.ensures, c.slope_of.ensures)

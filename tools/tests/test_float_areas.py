@@ -10,22 +10,25 @@ from pathlib import Path
 
 from tests.common import ROOT
 
-# A function's name, its parameters, and its body behind the contract.
+# A function's or a method's indentation, its name, its parameters, and its body behind the contract.
 FUNCTION = re.compile(
-    r"^(?:pub )?(?:extern \"C\" )?fn (\w+)(?:<[^(]*>)?\((.*?)\)(?: -> [^{]*?)?\n?(?:    (?:requires|ensures|decreases).*?\n)*\{\n(.*?)^\}",
+    r"^( *)(?:pub )?(?:extern \"C\" )?fn (\w+)(?:<[^(]*>)?\((.*?)\)(?: -> [^{]*?)?\n?"
+    r"(?:\1    [^\n]*\n)*(?:\1)?\{\n(.*?)^\1\}",
     re.M | re.S,
 )
 # A `U` is what words of a file stand for: a number, or a float.
 FLOATS = re.compile(r"(\w+): &mut \[(?:f(?:32|64)|U\b)")
 
 # Functions that store into floats that they are lent, and how many statements do. All of them store into a row that is there
-# or begins, but the last: `put_words` is lent just as many floats as a mesh file, or a triangle of an STL, has.
+# or begins, but the last two: `put_words` is lent just as many floats as a mesh file, or a triangle of an STL, has, and
+# `centres` a list of the code's own.
 STORES = {
-    ("rows", "put"): 1,
+    ("rows", "put"): 4,
     ("rows", "scale"): 1,
     ("surfaces", "new_row"): 1,
     ("surfaces", "put_normal"): 1,
     ("words", "put_words"): 1,
+    ("grid", "centres"): 1,
 }
 
 # The three routines that are lent floats from outside, and every line in which they name them: the length is asked for, and
@@ -55,7 +58,7 @@ def functions() -> dict[tuple[str, str], tuple[list[str], str]]:
     """Every function that is lent floats to write: the names of these parameters, and its body."""
     found = {}
     for path in sorted((ROOT / "crates").glob("*/src/**/*.rt")):
-        for name, parameters, body in FUNCTION.findall(without_comments(path)):
+        for _, name, parameters, body in FUNCTION.findall(without_comments(path)):
             lent = FLOATS.findall(parameters)
             if lent:
                 found[path.relative_to(ROOT / "crates").parts[0], name] = lent, body

@@ -1,6 +1,8 @@
 -- `surfaces::put_normal` meets its contract: from what the search found and what was written, by the laws `adds_new` and `adds_known`.
 -- Assumes nothing.
-use Rattle.std.proofs.Common.{sym, refl, ap, ◌∙◌, subst, arith}
+use Rattle.std.proofs.Common.{sym, ap, ◌∙◌, subst, arith}
+use borrow.Author.Rules.{rules}
+use Rattle.ieee.proofs.Values.Commutes.{add_commutes}
 use Rattle.slots.specs.inner.Forms.{narrow}
 use Rattle.surfaces.specs.declared.Key.{Key}
 use Rattle.surfaces.specs.Surfaces.{normal_key}
@@ -32,7 +34,7 @@ pub returns-in-Ok : goal.returns-in-Ok
 returns-in-Ok c =
     let a = c.args in
     let found = rw c.code_of_normal-l.ensures at c.in-Ok.ensures in
-    adds_known a.m a.n (normal_key a.normal.x a.normal.y a.normal.z) a.area a.index.now a.rows.now _ found.0 c.requires found.1 c.in-Ok.row found.2 refl
+    adds_known a.m a.n (normal_key a.normal.x a.normal.y a.normal.z) a.area a.index.now a.rows.now _ found.0 c.requires found.1 c.in-Ok.row found.2 (search (rules, add_commutes))
 
 pub returns-in-Err : goal.returns-in-Err
 returns-in-Err c =

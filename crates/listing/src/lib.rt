@@ -188,7 +188,7 @@ pub fn list(q: MeshQto, surfaces: &[f32], pieces: u32, text: &mut [u8]) -> Resul
 }
 
 // What `refused N` is printed of: a refusal, or any other number. Its type says which number that is, so that the text is one and no other.
-pub trait Numbered: Copy {
+pub trait Numbered {
     ghost number_of: { Self → ℕ };
 
     fn number(self) -> u32
